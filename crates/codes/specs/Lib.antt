@@ -1,0 +1,5 @@
+pub mod Lists
+pub mod Member
+pub mod Order
+pub mod Report
+pub mod Session

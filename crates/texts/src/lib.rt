@@ -1,0 +1,5 @@
+// Texts of the protocol's fields, borrowed and kept, and identifiers.
+pub mod fixed;
+pub mod identifiers;
+pub mod texts;
+pub mod values;

@@ -1,0 +1,5 @@
+mod Options
+mod Overs
+mod Parts
+mod Tables
+mod Turns
