@@ -1,5 +1,9 @@
 mod Options
 mod Overs
+mod Pair
 mod Parts
+mod Relevant
+mod Scopes
 mod Tables
+mod Totals
 mod Turns

@@ -4,6 +4,7 @@ use mathlib.Core.List.{List, [], _∷_}
 use Prim.Native.Nat.{ℕ, suc, _+_, _-_, _*_, _≤_, _<_}
 use Rattle.std.specs.shelf.Lists.{leading}
 use Rattle.std.proofs.shelf.Parts.{between-to-end}
+use Rattle.std.proofs.shelf.Lists.{take-take, drop-take, drop-drop}
 use native.Mathlib.Nat.{add-assoc}
 use native.Mathlib.Numerals.{add-one}
 use native.Mathlib.Omega.{arith}
@@ -60,3 +61,10 @@ cut at w bs = let e : at + w - at ≡ w = omega arith in rw e
 pub isText-is : (f : List ℕ) (n : ℕ) → n ≡ leading printable f → allNull (take (length f - n) (drop n f)) ≡ isText f
 unfolding isText
 isText-is f n e = let le : length f ≤ length f = omega arith in rw (between-to-end f n (length f) le, e)
+
+-- a field of eight bytes as two of four
+pub first-half : (at : ℕ) (bs : List ℕ) → take 4 (part at 8 bs) ≡ part at 4 bs
+first-half at bs = take-take 4 8 (drop at bs) (omega arith)
+
+pub second-half : (at : ℕ) (bs : List ℕ) → take 4 (drop 4 (part at 8 bs)) ≡ part (at + 4) 4 bs
+second-half at bs = ap (take 4) (drop-take 4 4 (drop at bs)) ∙ take-take 4 4 (drop 4 (drop at bs)) (omega arith) ∙ ap (take 4) (drop-drop 4 at bs)

@@ -13,7 +13,11 @@ use Rattle.std.specs.declared.option.Option.{Option}
 use Rattle.std.specs.declared.option.Option.the-variants.{Some, None}
 use Rattle.wire.specs.declared.field.Field.{Field}
 use Rattle.texts.specs.Bytes.{both}
-use Rattle.wire.specs.Layout.{firstBad, within, ok, place, span, AllOk}
+use Rattle.std.specs.declared.result.Result.{Result}
+use Rattle.std.specs.declared.result.Result.the-variants.{Ok, Err}
+use Rattle.std.specs.Results.{ErrBy}
+use Rattle.wire.specs.declared.field.Fault.{Fault}
+use Rattle.wire.specs.Layout.{Content, Body, firstBad, within, ok, place, span, AllOk}
 
 pub firstBad-drop : (fs : List Field) (bs : List ℕ) (i : ℕ) (d : Field) → i < length fs → firstBad (drop i fs) bs ≡ cond (ok bs (getD fs i d)) (firstBad (drop (i + 1) fs) bs) (Some (place (getD fs i d)))
 unfolding firstBad
@@ -34,3 +38,8 @@ pub allOk : (fs : List Field) (bs : List ℕ) → firstBad fs bs ≡ None → Al
 unfolding firstBad
 allOk [] bs e = tt
 allOk (f ∷ fs) bs e = let p = allOk-more (ok bs f) (firstBad fs bs) (place f) e in (p .0, allOk fs bs (p .1))
+
+-- a refusal of the table is handed on
+pub broken : {M : Type 0} (fs : List Field) (contents : M → List Content) (places : M → List ℕ) (bs : List ℕ) (r : Result M Fault) (e : Fault) → ErrBy r (λ y. y ≡ e) → (firstBad fs bs ≡ Some (e .offset)) × (e .rule ≡ 5) → Body fs contents places bs r
+broken fs v p bs (Ok m) e h k = absurd h
+broken fs v p bs (Err y) e h k = rw h k

@@ -2,7 +2,7 @@
 ghost use mathlib.Core.Path.{_≡_};
 ghost use mathlib.Core.Bool.{true};
 ghost use Prim.Native.Nat.{ℕ, _+_, _≤_};
-ghost use lib.ListN.{length};
+ghost use lib.ListN.{length, take, drop};
 ghost use mir.Val.{toZ, ofZ};
 ghost use mir.Syntax.{w8, w32, w64};
 ghost use Rattle.std.specs.Options.{mapped};
@@ -90,8 +90,8 @@ impl<'a> Reader<'a> {
 
     pub(crate) fn time(&self, at: usize) -> Time
         requires { ⌜ at + 8 ≤ length (now (now self .src)) ⌝ }
-        ensures seconds { λ r. ⌜ r .seconds ≡ le (part at 4 (now (now (self .entry) .src))) ⌝ }
-        ensures micros { λ r. ⌜ r .microseconds ≡ le (part (at + 4) 4 (now (now (self .entry) .src))) ⌝ }
+        ensures seconds { λ r. ⌜ r .seconds ≡ le (take 4 (part at 8 (now (now (self .entry) .src)))) ⌝ }
+        ensures micros { λ r. ⌜ r .microseconds ≡ le (take 4 (drop 4 (part at 8 (now (now (self .entry) .src))))) ⌝ }
     {
         Time { seconds: self.u32(at), microseconds: self.u32(at + 4) }
     }
