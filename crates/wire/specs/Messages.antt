@@ -11,8 +11,8 @@ use Rattle.std.specs.declared.result.Result.{Result}
 use Rattle.std.specs.declared.result.Result.the-variants.{Ok, Err}
 use Rattle.std.specs.Results.{Cases}
 use Rattle.texts.specs.Bytes.{le}
-use Rattle.wire.specs.declared.field.Fault.{Fault}
-use Rattle.wire.specs.declared.field.Field.{Field}
+use Rattle.layout.specs.declared.field.Fault.{Fault}
+use Rattle.layout.specs.declared.field.Field.{Field}
 use Rattle.wire.specs.declared.kinds.Channel.{Channel}
 use Rattle.wire.specs.declared.kinds.Kind.{Kind}
 use Rattle.wire.specs.declared.kinds.Kind.the-variants as kind
@@ -20,26 +20,27 @@ use Rattle.wire.specs.declared.message.Message.{Message}
 use Rattle.wire.specs.declared.message.Message.the-variants as message
 use Rattle.wire.specs.declared.message.OwnedMessage.{OwnedMessage}
 use Rattle.wire.specs.declared.message.OwnedMessage.the-variants as owned
-use Rattle.wire.specs.declared.session.Logon.{Logon}
-use Rattle.wire.specs.declared.session.LogonReply.{LogonReply}
-use Rattle.wire.specs.declared.session.Logout.{Logout}
-use Rattle.wire.specs.declared.session.MissedMessageRequest.{MissedMessageRequest}
-use Rattle.wire.specs.declared.session.MissedMessageRequestAck.{MissedMessageRequestAck}
-use Rattle.wire.specs.declared.session.MissedMessageReport.{MissedMessageReport}
-use Rattle.wire.specs.declared.session.Reject.{Reject}
-use Rattle.wire.specs.declared.requests.NewOrder.{NewOrder}
-use Rattle.wire.specs.declared.requests.OrderCancelRequest.{OrderCancelRequest}
-use Rattle.wire.specs.declared.requests.OrderCancelReplaceRequest.{OrderCancelReplaceRequest}
-use Rattle.wire.specs.declared.requests.OrderMassCancelRequest.{OrderMassCancelRequest}
-use Rattle.wire.specs.declared.reports.ExecutionReport.{ExecutionReport}
-use Rattle.wire.specs.declared.reports.OrderCancelReject.{OrderCancelReject}
-use Rattle.wire.specs.declared.reports.OrderMassCancelReport.{OrderMassCancelReport}
+use Rattle.messages.specs.declared.session.Logon.{Logon}
+use Rattle.messages.specs.declared.session.LogonReply.{LogonReply}
+use Rattle.messages.specs.declared.session.Logout.{Logout}
+use Rattle.messages.specs.declared.session.MissedMessageRequest.{MissedMessageRequest}
+use Rattle.messages.specs.declared.session.MissedMessageRequestAck.{MissedMessageRequestAck}
+use Rattle.messages.specs.declared.session.MissedMessageReport.{MissedMessageReport}
+use Rattle.messages.specs.declared.session.Reject.{Reject}
+use Rattle.messages.specs.declared.requests.NewOrder.{NewOrder}
+use Rattle.messages.specs.declared.requests.OrderCancelRequest.{OrderCancelRequest}
+use Rattle.messages.specs.declared.requests.OrderCancelReplaceRequest.{OrderCancelReplaceRequest}
+use Rattle.messages.specs.declared.requests.OrderMassCancelRequest.{OrderMassCancelRequest}
+use Rattle.messages.specs.declared.reports.ExecutionReport.{ExecutionReport}
+use Rattle.messages.specs.declared.reports.OrderCancelReject.{OrderCancelReject}
+use Rattle.messages.specs.declared.reports.OrderMassCancelReport.{OrderMassCancelReport}
 use Rattle.wire.specs.Kinds.{letterOf, totalOf, takes}
-use Rattle.wire.specs.Layout.{Content, part, firstBad, Says, textPlaces}
-use Rattle.wire.specs.Writing.{header, encode}
-use Rattle.wire.specs.Session.{logon, logonContents, logonHeard, logonKept, logonPlaces, logonReply, logonReplyContents, logonReplyHeard, logonReplyKept, logonReplyPlaces, logout, logoutContents, logoutHeard, logoutKept, logoutPlaces, missedMessageRequest, missedMessageRequestContents, missedMessageRequestHeard, missedMessageRequestKept, missedMessageRequestPlaces, missedMessageRequestAck, missedMessageRequestAckContents, missedMessageRequestAckHeard, missedMessageRequestAckKept, missedMessageRequestAckPlaces, missedMessageReport, missedMessageReportContents, missedMessageReportHeard, missedMessageReportKept, missedMessageReportPlaces, reject, rejectContents, rejectHeard, rejectKept, rejectPlaces}
-use Rattle.wire.specs.Requests.{newOrder, newOrderContents, newOrderHeard, newOrderKept, newOrderPlaces, orderCancelRequest, orderCancelRequestContents, orderCancelRequestHeard, orderCancelRequestKept, orderCancelRequestPlaces, orderCancelReplaceRequest, orderCancelReplaceRequestContents, orderCancelReplaceRequestHeard, orderCancelReplaceRequestKept, orderCancelReplaceRequestPlaces, orderMassCancelRequest, orderMassCancelRequestContents, orderMassCancelRequestHeard, orderMassCancelRequestKept, orderMassCancelRequestPlaces, MassCancelSaid}
-use Rattle.wire.specs.Reports.{executionReport, executionReportContents, executionReportHeard, executionReportKept, executionReportPlaces, orderCancelReject, orderCancelRejectContents, orderCancelRejectHeard, orderCancelRejectKept, orderCancelRejectPlaces, orderMassCancelReport, orderMassCancelReportContents, orderMassCancelReportHeard, orderMassCancelReportKept, orderMassCancelReportPlaces}
+use Rattle.layout.specs.Layout.{Content, part, firstBad, Says, textPlaces}
+use Rattle.layout.specs.Writing.{header, encode}
+use Rattle.layout.specs.Holding.{HoldsIn}
+use Rattle.messages.specs.Session.{logon, logonContents, logonHeard, logonKept, logonPlaces, logonReply, logonReplyContents, logonReplyHeard, logonReplyKept, logonReplyPlaces, logout, logoutContents, logoutHeard, logoutKept, logoutPlaces, missedMessageRequest, missedMessageRequestContents, missedMessageRequestHeard, missedMessageRequestKept, missedMessageRequestPlaces, missedMessageRequestAck, missedMessageRequestAckContents, missedMessageRequestAckHeard, missedMessageRequestAckKept, missedMessageRequestAckPlaces, missedMessageReport, missedMessageReportContents, missedMessageReportHeard, missedMessageReportKept, missedMessageReportPlaces, reject, rejectContents, rejectHeard, rejectKept, rejectPlaces}
+use Rattle.messages.specs.Requests.{newOrder, newOrderContents, newOrderHeard, newOrderKept, newOrderPlaces, orderCancelRequest, orderCancelRequestContents, orderCancelRequestHeard, orderCancelRequestKept, orderCancelRequestPlaces, orderCancelReplaceRequest, orderCancelReplaceRequestContents, orderCancelReplaceRequestHeard, orderCancelReplaceRequestKept, orderCancelReplaceRequestPlaces, orderMassCancelRequest, orderMassCancelRequestContents, orderMassCancelRequestHeard, orderMassCancelRequestKept, orderMassCancelRequestPlaces, MassCancelSaid}
+use Rattle.messages.specs.Reports.{executionReport, executionReportContents, executionReportHeard, executionReportKept, executionReportPlaces, orderCancelReject, orderCancelRejectContents, orderCancelRejectHeard, orderCancelRejectKept, orderCancelRejectPlaces, orderMassCancelReport, orderMassCancelReportContents, orderMassCancelReportHeard, orderMassCancelReportKept, orderMassCancelReportPlaces}
 
 -- what a message says, whether it is borrowed or owned
 pub data Said : Type 0 where
@@ -198,3 +199,7 @@ WasRead ch bs r = Cases r (λ m. Reads ch bs m) (λ e. verdict ch bs ≡ Some (e
 -- the one written form of what a message says
 abbrev pub written : Said → List ℕ
 written m = header (letterOf (kindOf m)) (totalOf (kindOf m)) ++ encode (tableOf (kindOf m)) (contentsOf m)
+
+-- what a message may say
+abbrev pub Holdable : Said → Type 0
+Holdable m = HoldsIn (tableOf (kindOf m)) (contentsOf m)

@@ -6,16 +6,16 @@ ghost use lib.ListN.{length, drop};
 ghost use Rattle.std.specs.declared.result.Result.the-variants.{Ok, Err};
 ghost use Rattle.std.specs.Results.{Cases};
 ghost use Rattle.wire.specs.Kinds.{totals, totalOf};
-ghost use Rattle.wire.specs.Messages.{opening, keptOf, kindOf, written, WasRead};
-use crate::field::Fault;
+ghost use Rattle.wire.specs.Messages.{opening, keptOf, kindOf, written, Holdable, WasRead};
+use layout::field::Fault;
 use crate::kinds::Channel;
 use crate::kinds::Kind;
-use crate::reader::Reader;
-use crate::session::*;
-use crate::requests::*;
-use crate::reports::*;
-use crate::sequence::LastSequence;
-use crate::writer::write_fields;
+use layout::reader::Reader;
+use messages::session::*;
+use messages::requests::*;
+use messages::reports::*;
+use layout::sequence::LastSequence;
+use layout::writer::put_header;
 use texts::fixed::RequestId;
 use texts::names::*;
 use texts::values::Text;
@@ -106,4 +106,52 @@ fn read_kind<'a>(channel: Channel, bytes: &'a [u8]) -> Result<Message<'a>, Fault
         Kind::OrderCancelReject => Ok(Message::OrderCancelReject(ReadOrderCancelReject { fields: read_order_cancel_reject(&r)? })),
         Kind::OrderMassCancelReport => Ok(Message::OrderMassCancelReport(read_order_mass_cancel_report(&r)?)),
     }
+}
+
+// A buffer that is too short for a message, which needs this many bytes.
+#[derive(Clone, Copy, Debug, PartialEq)]
+pub struct TooShort {
+    pub needed: usize,
+}
+
+fn write_kind(message: &OwnedMessage, out: &mut [u8])
+    requires { ⌜ totalOf (kindOf (keptOf (now message))) ≤ length (now out) ⌝ }
+    ensures wrote { λ _. ⌜ now (out .exit) ≡ written (keptOf (now (message .entry))) ++ drop (totalOf (kindOf (keptOf (now (message .entry))))) (now (out .entry)) ⌝ }
+    ensures holds { λ _. ⌜ Holdable (keptOf (now (message .entry))) ⌝ }
+{
+    match message {
+        OwnedMessage::Logon(m) => write_logon(m, out),
+        OwnedMessage::LogonReply(m) => write_logon_reply(m, out),
+        OwnedMessage::Logout(m) => write_logout(m, out),
+        OwnedMessage::Heartbeat => put_header(out, b'0', 4),
+        OwnedMessage::MissedMessageRequest(m) => write_missed_message_request(m, out),
+        OwnedMessage::MissedMessageRequestAck(m) => write_missed_message_request_ack(m, out),
+        OwnedMessage::MissedMessageReport(m) => write_missed_message_report(m, out),
+        OwnedMessage::Reject(m) => write_reject(m, out),
+        OwnedMessage::NewOrder(m) => write_new_order(m, out),
+        OwnedMessage::OrderCancelRequest(m) => write_order_cancel_request(m, out),
+        OwnedMessage::OrderCancelReplaceRequest(m) => write_order_cancel_replace_request(m, out),
+        OwnedMessage::OrderMassCancelRequest(m) => write_order_mass_cancel_request(m, out),
+        OwnedMessage::ExecutionReport(m) => write_execution_report(m, out),
+        OwnedMessage::OrderCancelReject(m) => write_order_cancel_reject(m, out),
+        OwnedMessage::OrderMassCancelReport(m) => write_order_mass_cancel_report(m, out),
+    }
+}
+
+// Reads one message, or says which check is the first to fail, and where.
+pub fn read<'a>(channel: Channel, bytes: &'a [u8]) -> Result<Message<'a>, Fault>
+    ensures { λ m. ⌜ WasRead channel (now (bytes .entry)) m ⌝ }
+{
+    read_kind(channel, bytes)
+}
+
+// Writes a message in its one form to the front of a buffer; the bytes past it stay.
+pub fn write(message: &OwnedMessage, out: &mut [u8]) -> Result<usize, TooShort>
+{
+    let total = message.kind().total();
+    if out.len() < total {
+        return Err(TooShort { needed: total });
+    }
+    write_kind(message, out);
+    Ok(total)
 }
