@@ -2,7 +2,7 @@
 use mathlib.Core.Path.{_≡_}
 use mathlib.Core.Bool.{cond}
 use mathlib.Core.List.{List, [], _∷_, _++_}
-use Prim.Native.Nat.{ℕ, _+_, _<_}
+use Prim.Native.Nat.{ℕ, _+_, _≤_, _<_}
 use lib.Dec.{ltb, eqb}
 use lib.ListN.{length, drop}
 use Rattle.std.specs.declared.option.Option.{Option}
@@ -20,6 +20,7 @@ use Rattle.wire.specs.declared.message.Message.{Message}
 use Rattle.wire.specs.declared.message.Message.the-variants as message
 use Rattle.wire.specs.declared.message.OwnedMessage.{OwnedMessage}
 use Rattle.wire.specs.declared.message.OwnedMessage.the-variants as owned
+use Rattle.wire.specs.declared.message.TooShort.{TooShort}
 use Rattle.messages.specs.declared.session.Logon.{Logon}
 use Rattle.messages.specs.declared.session.LogonReply.{LogonReply}
 use Rattle.messages.specs.declared.session.Logout.{Logout}
@@ -203,3 +204,19 @@ written m = header (letterOf (kindOf m)) (totalOf (kindOf m)) ++ encode (tableOf
 -- what a message may say
 abbrev pub Holdable : Said → Type 0
 Holdable m = HoldsIn (tableOf (kindOf m)) (contentsOf m)
+
+-- reading undoes writing: each reader that takes such messages reads this very one, and no other, from its bytes
+abbrev pub GivenBack : Said → Type 0
+GivenBack m =
+    (ch : Channel) → takes ch (letterOf (kindOf m)) ≡ Some (kindOf m)
+    → (verdict ch (written m) ≡ None) × ((b : Message) → Reads ch (written m) b → heardOf b ≡ m)
+
+-- a message was written to the front of a buffer, or the buffer is too short and stands as it was
+abbrev pub Wrote : Said → List ℕ → List ℕ → Result ℕ TooShort → Type 0
+Wrote m before after r =
+    Cases r (λ n. (n ≡ totalOf (kindOf m)) × (n ≤ length before) × (after ≡ written m ++ drop n before))
+    (λ e. (e .needed ≡ totalOf (kindOf m)) × (length before < e .needed) × (after ≡ before))
+
+-- no other message is written in the same form
+abbrev pub Apart : Said → Type 0
+Apart m = (n : Said) → Holdable n → written n ≡ written m → n ≡ m

@@ -6,7 +6,7 @@ ghost use lib.ListN.{length, drop};
 ghost use Rattle.std.specs.declared.result.Result.the-variants.{Ok, Err};
 ghost use Rattle.std.specs.Results.{Cases};
 ghost use Rattle.wire.specs.Kinds.{totals, totalOf};
-ghost use Rattle.wire.specs.Messages.{opening, keptOf, kindOf, written, Holdable, WasRead};
+ghost use Rattle.wire.specs.Messages.{opening, keptOf, kindOf, written, Holdable, GivenBack, Apart, WasRead, Wrote};
 use layout::field::Fault;
 use crate::kinds::Channel;
 use crate::kinds::Kind;
@@ -118,6 +118,8 @@ fn write_kind(message: &OwnedMessage, out: &mut [u8])
     requires { ⌜ totalOf (kindOf (keptOf (now message))) ≤ length (now out) ⌝ }
     ensures wrote { λ _. ⌜ now (out .exit) ≡ written (keptOf (now (message .entry))) ++ drop (totalOf (kindOf (keptOf (now (message .entry))))) (now (out .entry)) ⌝ }
     ensures holds { λ _. ⌜ Holdable (keptOf (now (message .entry))) ⌝ }
+    ensures back { λ _. ⌜ GivenBack (keptOf (now (message .entry))) ⌝ }
+    ensures apart { λ _. ⌜ Apart (keptOf (now (message .entry))) ⌝ }
 {
     match message {
         OwnedMessage::Logon(m) => write_logon(m, out),
@@ -147,6 +149,9 @@ pub fn read<'a>(channel: Channel, bytes: &'a [u8]) -> Result<Message<'a>, Fault>
 
 // Writes a message in its one form to the front of a buffer; the bytes past it stay.
 pub fn write(message: &OwnedMessage, out: &mut [u8]) -> Result<usize, TooShort>
+    ensures bytes { λ r. ⌜ Wrote (keptOf (now (message .entry))) (now (out .entry)) (now (out .exit)) r ⌝ }
+    ensures back { λ r. ⌜ Cases r (λ _. GivenBack (keptOf (now (message .entry)))) (λ _. Unit {0}) ⌝ }
+    ensures apart { λ r. ⌜ Cases r (λ _. Apart (keptOf (now (message .entry)))) (λ _. Unit {0}) ⌝ }
 {
     let total = message.kind().total();
     if out.len() < total {
