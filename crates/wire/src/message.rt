@@ -6,7 +6,7 @@ ghost use lib.ListN.{length, drop};
 ghost use Rattle.std.specs.declared.result.Result.the-variants.{Ok, Err};
 ghost use Rattle.std.specs.Results.{Cases};
 ghost use Rattle.wire.specs.Kinds.{totals, totalOf};
-ghost use Rattle.wire.specs.Messages.{opening, keptOf, kindOf, written, Holdable, GivenBack, Apart, WasRead, Wrote};
+ghost use Rattle.wire.specs.Messages.{opening, keptOf, kindOf, written, Holdable, GivenBack, Apart, Again, WasRead, Wrote};
 use layout::field::Fault;
 use crate::kinds::Channel;
 use crate::kinds::Kind;
@@ -140,11 +140,23 @@ fn write_kind(message: &OwnedMessage, out: &mut [u8])
     }
 }
 
+// The same, with what writing makes of it again.
+fn read_again<'a>(channel: Channel, bytes: &'a [u8]) -> Result<Message<'a>, Fault>
+    ensures checks { λ r. ⌜ WasRead channel (now (bytes .entry)) r ⌝ }
+    ensures again { λ r. ⌜ Cases r (λ m. Again (now (bytes .entry)) m) (λ _. Unit {0}) ⌝ }
+{
+    match read_kind(channel, bytes) {
+        Ok(message) => Ok(message),
+        Err(fault) => Err(fault),
+    }
+}
+
 // Reads one message, or says which check is the first to fail, and where.
 pub fn read<'a>(channel: Channel, bytes: &'a [u8]) -> Result<Message<'a>, Fault>
-    ensures { λ m. ⌜ WasRead channel (now (bytes .entry)) m ⌝ }
+    ensures checks { λ r. ⌜ WasRead channel (now (bytes .entry)) r ⌝ }
+    ensures again { λ r. ⌜ Cases r (λ m. Again (now (bytes .entry)) m) (λ _. Unit {0}) ⌝ }
 {
-    read_kind(channel, bytes)
+    read_again(channel, bytes)
 }
 
 // Writes a message in its one form to the front of a buffer; the bytes past it stay.
