@@ -14,7 +14,8 @@ impl Form {
         ensures { λ r. ⌜ r ≡ wide self ⌝ }
     {
         match self {
-            Form::Text(width) | Form::Name(width) | Form::Number(width) | Form::Reserved(width) => width,
+            Form::Text(width) | Form::Name(width) | Form::Number(width) | Form::Reserved(width) =>
+                width,
             Form::Order => 12,
             Form::Sequence | Form::Int32 => 4,
             Form::Int8 | Form::Code(_) => 1,
@@ -75,7 +76,10 @@ pub fn check(fields: &[Field], total: usize, r: &Reader<'_>) -> Result<(), Fault
 {
     for field in fields {
         if !field.good(r) {
-            return Err(Fault { rule: 5, offset: field.at() });
+            return Err(Fault {
+                rule: 5,
+                offset: field.at(),
+            });
         }
     }
     Ok(())

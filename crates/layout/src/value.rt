@@ -50,7 +50,10 @@ impl<'a> Value<'a> {
         ensures value { λ r. ⌜ meant r ≡ clock (t .seconds) (t .microseconds) ⌝ }
         ensures typed { λ _. ⌜ (t .seconds < 4294967296) × (t .microseconds < 4294967296) ⌝ }
     {
-        Value::Time(Time { seconds: t.seconds, microseconds: t.microseconds })
+        Value::Time(Time {
+            seconds: t.seconds,
+            microseconds: t.microseconds,
+        })
     }
 
     pub fn of_order(o: Option<OrderId>) -> Value<'a>
@@ -124,7 +127,10 @@ impl<'a> Value<'a> {
     {
         match *self {
             Value::Time(time) => time,
-            _ => Time { seconds: 0, microseconds: 0 },
+            _ => Time {
+                seconds: 0,
+                microseconds: 0,
+            },
         }
     }
 

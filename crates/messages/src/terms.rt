@@ -12,12 +12,12 @@ ghost use Rattle.layout.specs.Layout.{ok, got};
 ghost use Rattle.layout.specs.Layout.Content.{figure};
 ghost use Rattle.layout.specs.Values.{meant};
 ghost use Rattle.messages.specs.Terms.{pricingCode, pricingPrice, pricingTyped, targetCode, targetInstruction, scopeHeard, scopeKept, scopeCode, scopeSymbol, scopeSegment, scopeBook, scopePlaces, scopeTexts, executionCode, executionReject, executionLiquidity, executionTrade, executionTyped};
-use layout::reader::Reader;
-use layout::value::Value;
 use codes::order::Book;
 use codes::order::BookCode;
 use codes::order::ExecInstruction;
 use codes::order::ExecInstructionCode;
+use codes::order::ExecInstructionDebug;
+use codes::order::ExecInstructionPartialEq;
 use codes::order::MassCancelType;
 use codes::order::MassCancelTypeCode;
 use codes::order::OrderType;
@@ -26,20 +26,20 @@ use codes::report::ExecType;
 use codes::report::ExecTypeCode;
 use codes::report::Liquidity;
 use codes::report::LiquidityCode;
+use codes::report::LiquidityDebug;
+use codes::report::LiquidityPartialEq;
 use codes::report::TradeType;
 use codes::report::TradeTypeCode;
+use codes::report::TradeTypeDebug;
+use codes::report::TradeTypePartialEq;
+use layout::reader::Reader;
+use layout::value::Value;
 use texts::names::Segment;
 use texts::names::Symbol;
 use texts::values::Price;
-use texts::values::Text;
-use codes::order::ExecInstructionDebug;
-use codes::order::ExecInstructionPartialEq;
-use codes::report::LiquidityDebug;
-use codes::report::LiquidityPartialEq;
-use codes::report::TradeTypeDebug;
-use codes::report::TradeTypePartialEq;
 use texts::values::PriceDebug;
 use texts::values::PricePartialEq;
+use texts::values::Text;
 
 // Only a limit order has a limit.
 #[derive(Clone, Copy, Debug, PartialEq)]
@@ -169,7 +169,8 @@ impl Scope<Symbol, Segment> {
         ensures { λ r. ⌜ meant r ≡ scopeSymbol (scopeKept (now (self .entry))) ⌝ }
     {
         match self {
-            Scope::FirmInstrument(symbol, _) | Scope::CompIdInstrument(symbol, _) => Value::Text(symbol.as_bytes()),
+            Scope::FirmInstrument(symbol, _) | Scope::CompIdInstrument(symbol, _) =>
+                Value::Text(symbol.as_bytes()),
             _ => Value::Ignored,
         }
     }
@@ -178,7 +179,8 @@ impl Scope<Symbol, Segment> {
         ensures { λ r. ⌜ meant r ≡ scopeSegment (scopeKept (now (self .entry))) ⌝ }
     {
         match self {
-            Scope::FirmSegment(segment) | Scope::CompIdSegment(segment) => Value::Text(segment.as_bytes()),
+            Scope::FirmSegment(segment) | Scope::CompIdSegment(segment) =>
+                Value::Text(segment.as_bytes()),
             _ => Value::Ignored,
         }
     }
@@ -187,7 +189,9 @@ impl Scope<Symbol, Segment> {
         ensures { λ r. ⌜ meant r ≡ scopeBook (scopeKept (now (self .entry))) ⌝ }
     {
         match self {
-            Scope::FirmInstrument(_, book) | Scope::CompIdInstrument(_, book) => Value::Code(*book as u8),
+            Scope::FirmInstrument(_, book) | Scope::CompIdInstrument(_, book) => Value::Code(
+                *book as u8,
+            ),
             _ => Value::Ignored,
         }
     }
@@ -245,7 +249,9 @@ impl Execution {
         ensures { λ r. ⌜ meant r ≡ executionLiquidity (now (self .entry)) ⌝ }
     {
         match self {
-            Execution::Trade(liquidity, _) | Execution::TradeCancel(liquidity) => Value::Alpha(*liquidity as u8),
+            Execution::Trade(liquidity, _) | Execution::TradeCancel(liquidity) => Value::Alpha(
+                *liquidity as u8,
+            ),
             _ => Value::Ignored,
         }
     }
