@@ -1,7 +1,7 @@
 use mathlib.Core.Path.{ap}
 use Rattle.wire.specs.Messages.{keptOf}
 use Rattle.wire.proofs.Picks.{picked}
-use Rattle.wire.proofs.message.OwnedMessage.value.Needs as need
+use Rattle.wire.proofs.message.OwnedMessage.pick.Needs as need
 
 pub returns-in-Logon : need.returns-in-Logon
 returns-in-Logon c = picked (keptOf (c .args .self .now)) _ (c .logon-values .result) (c .args .field) (c .nth .result) (ap keptOf (c .in-Logon .is)) (c .logon-values .ensures) (c .nth .ensures)

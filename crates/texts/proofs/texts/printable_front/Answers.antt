@@ -1,7 +1,7 @@
 use borrow.Author.Needs.{needs}
 use native.Mathlib.Omega.{arith}
 use Rattle.std.proofs.shelf.Sums.{leading-drop-yes, leading-drop-no, leading-drop-all}
-use Rattle.texts.proofs.texts.text_end.Needs as need
+use Rattle.texts.proofs.texts.printable_front.Needs as need
 
 pub loop-n-again : need.loop-n-again
 loop-n-again c = search (needs, leading-drop-yes)
