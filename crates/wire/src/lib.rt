@@ -1,5 +1,6 @@
 // The protocol's messages: read from bytes and written to them.
 pub mod field;
+pub mod kept;
 pub mod kinds;
 pub mod message;
 mod layout;

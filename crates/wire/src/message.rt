@@ -107,3 +107,10 @@ fn read_kind<'a>(channel: Channel, bytes: &'a [u8]) -> Result<Message<'a>, Fault
         Kind::OrderMassCancelReport => Ok(Message::OrderMassCancelReport(read_order_mass_cancel_report(&r)?)),
     }
 }
+
+// Reads one message, or says which check is the first to fail, and where.
+pub fn read<'a>(channel: Channel, bytes: &'a [u8]) -> Result<Message<'a>, Fault>
+    ensures { λ m. ⌜ WasRead channel (now (bytes .entry)) m ⌝ }
+{
+    read_kind(channel, bytes)
+}
