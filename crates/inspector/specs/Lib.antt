@@ -1,0 +1,5 @@
+pub mod Classes
+pub mod Hex
+pub mod Lines
+pub mod Shown
+pub mod Labels

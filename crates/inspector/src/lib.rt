@@ -1,0 +1,6 @@
+// Reads lines that hold captured messages, shows each message as text, and keeps the account.
+pub mod line;
+mod classes;
+mod hex;
+mod labels;
+mod values;
