@@ -1,15 +1,17 @@
 // What a field holds, as text.
 ghost use mathlib.Core.Path.{_≡_};
 ghost use mathlib.Core.List.{_++_};
-ghost use Prim.Native.Nat.{_<_};
+ghost use Prim.Native.Nat.{_+_, _*_, _<_};
 ghost use lib.Utf8.{encodes};
 ghost use Rattle.std.specs.Of.String.{string-bytes};
 ghost use Rattle.std.specs.Vec.{made};
 ghost use Rattle.std.specs.Options.{mapped};
-ghost use Rattle.inspector.specs.Shown.{hexGlyph, quoted, four, amount, priceText, alphaText, orderText, valueText, fieldText};
+ghost use Rattle.std.specs.Written.{decimal};
+ghost use Rattle.inspector.specs.Shown.{hexGlyph, quoted, four, amount, priceText, alphaText, orderText, valueText, isReserved, fieldText};
 use std::fmt;
 use texts::identifiers::OrderId;
 use texts::values::Price;
+use texts::values::Time;
 use wire::value::Value;
 
 // Each byte as the character of its number.
@@ -104,6 +106,20 @@ fn show_alpha(out: &mut String, byte: u8) -> fmt::Result
     }
 }
 
+// A time as the one number that its eight bytes write.
+fn show_time(out: &mut String, time: Time) -> fmt::Result
+    ensures { λ r. ⌜ made r (λ _. string-bytes (now (out .exit)) ≡ string-bytes (now (out .entry)) ++ decimal (time .seconds + 4294967296 * time .microseconds)) ⌝ }
+{
+    let n = u64::from(time.seconds) + 4294967296 * u64::from(time.microseconds);
+    write!(out, "{n}")
+}
+
+fn show_word(out: &mut String, word: &str) -> fmt::Result
+    ensures { λ r. ⌜ made r (λ _. string-bytes (now (out .exit)) ≡ string-bytes (now (out .entry)) ++ now (word .entry)) ⌝ }
+{
+    write!(out, "{word}")
+}
+
 fn show_value(out: &mut String, value: &Value<'_>) -> fmt::Result
     ensures { λ r. ⌜ made r (λ _. string-bytes (now (out .exit)) ≡ string-bytes (now (out .entry)) ++ valueText (now (value .entry))) ⌝ }
 {
@@ -114,14 +130,20 @@ fn show_value(out: &mut String, value: &Value<'_>) -> fmt::Result
         Value::Int8(n) => write!(out, "{n}"),
         Value::Int32(n) => write!(out, "{n}"),
         Value::Price(price) => show_price(out, price),
-        Value::Time(time) => {
-            let n = u64::from(time.seconds) + 4294967296 * u64::from(time.microseconds);
-            write!(out, "{n}")
-        }
+        Value::Time(time) => show_time(out, time),
         Value::Code(b) => write!(out, "{b}"),
         Value::Alpha(b) => show_alpha(out, b),
-        Value::Ignored => write!(out, "ignored"),
+        Value::Ignored => show_word(out, "ignored"),
         Value::Reserved => Ok(()),
+    }
+}
+
+fn is_reserved(value: &Value<'_>) -> bool
+    ensures { λ r. ⌜ r ≡ isReserved (now (value .entry)) ⌝ }
+{
+    match *value {
+        Value::Reserved => true,
+        _ => false,
     }
 }
 
@@ -129,7 +151,7 @@ fn show_value(out: &mut String, value: &Value<'_>) -> fmt::Result
 pub(crate) fn show_field(out: &mut String, name: &str, value: &Value<'_>) -> fmt::Result
     ensures { λ r. ⌜ made r (λ _. string-bytes (now (out .exit)) ≡ string-bytes (now (out .entry)) ++ fieldText (now (name .entry)) (now (value .entry))) ⌝ }
 {
-    if let Value::Reserved = *value {
+    if is_reserved(value) {
         return Ok(());
     }
     write!(out, " {name}=")?;
