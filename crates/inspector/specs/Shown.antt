@@ -6,15 +6,16 @@ use lib.Chars.{codes}
 use lib.Dec.{leb, ltb, eqb}
 use lib.IntN.{ℤ, pos, negsuc}
 use lib.Utf8.{encodes}
-use denote.Ref.{RefT}
 use Rattle.std.specs.declared.option.Option.{Option}
 use Rattle.std.specs.declared.option.Option.the-variants.{Some, None}
 use Rattle.std.specs.Options.{mapped}
 use Rattle.std.specs.Written.{decimal, signed}
 use Rattle.texts.specs.Bytes.{both}
 use Rattle.texts.specs.Identifiers.{orderId}
+use Rattle.wire.specs.declared.kinds.Kind.{Kind}
 use Rattle.wire.specs.declared.value.Value.{Value}
 use Rattle.wire.specs.declared.value.Value.the-variants as value
+use Rattle.inspector.specs.Labels.{titleOf, namesOf}
 
 -- in double quotes, each byte as the character of its number
 abbrev pub quoted : List ℕ → List ℕ
@@ -77,7 +78,12 @@ isReserved value.Reserved = true
 abbrev pub fieldText : List ℕ → Value → List ℕ
 fieldText name v = cond (isReserved v) [] (32 ∷ (name ++ (61 ∷ valueText v)))
 
-abbrev pub fieldsText : List (RefT (List ℕ)) → List Value → List ℕ
+-- one field after the other
+abbrev pub fieldsText : List (List ℕ) → List Value → List ℕ
 fieldsText [] vs = []
 fieldsText (n ∷ ns) [] = []
-fieldsText (n ∷ ns) (v ∷ vs) = fieldText (n .now) v ++ fieldsText ns vs
+fieldsText (n ∷ ns) (v ∷ vs) = fieldText n v ++ fieldsText ns vs
+
+-- a message of a kind, with what its fields hold
+abbrev pub lineText : Kind → List Value → List ℕ
+lineText k vs = titleOf k ++ fieldsText (namesOf k) vs

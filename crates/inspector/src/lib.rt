@@ -3,4 +3,5 @@ pub mod line;
 mod classes;
 mod hex;
 mod labels;
+mod shown;
 mod values;
