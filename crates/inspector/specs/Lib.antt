@@ -3,3 +3,5 @@ pub mod Hex
 pub mod Lines
 pub mod Shown
 pub mod Labels
+pub mod Account
+pub mod Answers

@@ -11,7 +11,7 @@ use std::alloc::Global;
 use wire::kinds::Channel;
 
 // Why a line is not understood.
-#[derive(Clone, Copy, Debug, PartialEq)]
+#[derive(Clone, Copy)]
 pub enum Unclear {
     UnknownReader,
     NoBytes,

@@ -24,7 +24,7 @@ fn show_fields(out: &mut String, names: &[&str], values: &[Value<'_>]) -> fmt::R
     Ok(())
 }
 
-fn show_line(out: &mut String, kind: Kind, values: &[Value<'_>]) -> fmt::Result
+pub(crate) fn show_line(out: &mut String, kind: Kind, values: &[Value<'_>]) -> fmt::Result
     ensures { λ r. ⌜ made r (λ _. string-bytes (now (out .exit)) ≡ string-bytes (now (out .entry)) ++ lineText kind (now (values .entry))) ⌝ }
 {
     let title = title(kind);

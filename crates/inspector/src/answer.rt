@@ -1,0 +1,97 @@
+// What a line of input is answered.
+ghost use mathlib.Core.Path.{_≡_};
+ghost use mathlib.Core.List.{_++_};
+ghost use Rattle.std.specs.Of.String.{string-bytes};
+ghost use Rattle.std.specs.Vec.{made};
+ghost use Rattle.inspector.specs.Answers.{sentenceOf, refusedText, Rendered, AnswersRead, Answers, Answered};
+use crate::account::Outcome;
+use crate::failure::Failure;
+use crate::failure::FailureFromAlloc;
+use crate::failure::FailureFromFmt;
+use crate::line::Line;
+use crate::line::Unclear;
+use crate::line::parse;
+use crate::shown::show_line;
+use std::alloc::AllocError;
+use std::alloc::Global;
+use wire::field::Fault;
+use wire::kinds::Channel;
+use wire::message::OwnedMessage;
+use wire::message::read;
+use wire::value::Value;
+
+// The text to print for a line, and how the line counts.
+#[derive(Drop)]
+pub struct Answer {
+    pub text: String,
+    pub outcome: Outcome,
+}
+
+fn sentence(why: Unclear) -> &'static str
+    ensures { λ r. ⌜ now r ≡ sentenceOf why ⌝ }
+{
+    match why {
+        Unclear::UnknownReader => "not understood: the reader is none of real-time, recovery and follower",
+        Unclear::NoBytes => "not understood: no bytes are given; a message of none is written -",
+        Unclear::MoreWords => "not understood: there are more words than a reader and its bytes",
+        Unclear::NotHex => "not understood: one of the characters is no hex digit",
+        Unclear::OddDigits => "not understood: the number of hex digits is odd",
+        Unclear::TooLong => "not understood: there are more than 512 bytes",
+    }
+}
+
+fn refusal(heap: Global, fault: Fault) -> Result<String, AllocError>
+    ensures { λ r. ⌜ made r (λ s. string-bytes s ≡ refusedText (fault .rule) (fault .offset)) ⌝ }
+{
+    let rule = fault.rule;
+    let offset = fault.offset;
+    format!(heap, "refused {rule} at {offset}")
+}
+
+// What the fields of a message hold, in the order of its layout. No message has more than 26.
+fn values<'a>(heap: Global, message: &'a OwnedMessage) -> Result<Vec<Value<'a>>, AllocError> {
+    let mut all = Vec::new(heap);
+    for i in 0..26 {
+        if let Some(value) = message.value(i) {
+            all.push(value)?;
+        }
+    }
+    Ok(all)
+}
+
+fn render(heap: Global, message: &OwnedMessage) -> Result<String, Failure>
+    ensures { λ r. ⌜ made r (λ s. Rendered (string-bytes s)) ⌝ }
+{
+    let all = values(heap, message)?;
+    let mut out = String::new(heap);
+    show_line(&mut out, message.kind(), all.as_slice())?;
+    Ok(out)
+}
+
+fn answer_message(heap: Global, channel: Channel, bytes: &[u8]) -> Result<Answer, Failure>
+    ensures { λ r. ⌜ made r (λ a. AnswersRead channel (now (bytes .entry)) a) ⌝ }
+{
+    match read(channel, bytes) {
+        Err(fault) => Ok(Answer { text: refusal(heap, fault)?, outcome: Outcome::Refused(fault.rule) }),
+        Ok(message) => {
+            let Some(kept) = message.keep() else {
+                return Err(Failure::NotKept);
+            };
+            Ok(Answer { text: render(heap, &kept)?, outcome: Outcome::Read(true) })
+        }
+    }
+}
+
+// The answer to a line, or none where it is skipped.
+pub fn answer_to(heap: Global, line: &[u8]) -> Result<Option<Answer>, Failure>
+    ensures { λ r. ⌜ made r (λ a. Answered (now (line .entry)) a) ⌝ }
+{
+    match parse(heap, line)? {
+        Line::Skipped => Ok(None),
+        Line::Unclear(why) => {
+            let text = String::from_str(heap, sentence(why))?;
+            Ok(Some(Answer { text, outcome: Outcome::NotUnderstood }))
+        }
+        Line::Message(channel, bytes) => Ok(Some(answer_message(heap, channel, bytes.as_slice())?)),
+    }
+}
