@@ -39,5 +39,5 @@ below-zero (negsuc n) h = refl
 pub named-field : (name : List ℕ) (v : Value) → isReserved v ≡ false → fieldText name v ≡ (32 ∷ (name ++ (61 ∷ []))) ++ valueText v
 named-field name v h = rw (h, append-assoc)
 
-pub four-parts : (s₀ s₁ s₂ s₃ s₄ a b c d : List ℕ) → s₀ ≡ [] → s₁ ≡ s₀ ++ a → s₂ ≡ s₁ ++ b → s₃ ≡ s₂ ++ c → s₄ ≡ s₃ ++ d → s₄ ≡ a ++ (b ++ (c ++ d))
-four-parts s₀ s₁ s₂ s₃ s₄ a b c d e₀ e₁ e₂ e₃ e₄ = e₄ ∙ rw (e₃, e₂, e₁, e₀) (simp append-assoc)
+pub four-parts : (s₀ s₁ s₂ s₃ s₄ a b c d : List ℕ) → s₁ ≡ s₀ ++ a → s₂ ≡ s₁ ++ b → s₃ ≡ s₂ ++ c → s₄ ≡ s₃ ++ d → s₄ ≡ s₀ ++ (a ++ (b ++ (c ++ d)))
+four-parts s₀ s₁ s₂ s₃ s₄ a b c d e₁ e₂ e₃ e₄ = e₄ ∙ rw (e₃, e₂, e₁) (simp append-assoc)

@@ -151,15 +151,23 @@ impl Account {
         write!(out, "rule 3: {third}, rule 4: {fourth}, rule 5: {fifth}), ")
     }
 
+    fn show_all(&self, out: &mut String) -> fmt::Result
+        ensures { λ r. ⌜ made r (λ _. string-bytes (now (out .exit)) ≡ string-bytes (now (out .entry)) ++ summaryText (now (self .entry))) ⌝ }
+    {
+        self.show_totals(out)?;
+        self.show_first_rules(out)?;
+        self.show_last_rules(out)?;
+        let unclear = self.not_understood;
+        write!(out, "{unclear} not understood")?;
+        Ok(())
+    }
+
+    // The account in one line.
     pub fn summary(&self, heap: Global) -> Result<String, Failure>
         ensures { λ r. ⌜ made r (λ s. string-bytes s ≡ summaryText (now (self .entry))) ⌝ }
     {
         let mut out = String::new(heap);
-        self.show_totals(&mut out)?;
-        self.show_first_rules(&mut out)?;
-        self.show_last_rules(&mut out)?;
-        let unclear = self.not_understood;
-        write!(&mut out, "{unclear} not understood")?;
+        self.show_all(&mut out)?;
         Ok(out)
     }
 }

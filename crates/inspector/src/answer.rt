@@ -59,7 +59,8 @@ fn values<'a>(heap: Global, message: &'a OwnedMessage) -> Result<Vec<Value<'a>>,
     Ok(all)
 }
 
-fn render(heap: Global, message: &OwnedMessage) -> Result<String, Failure>
+// A message as a line of text.
+pub fn render(heap: Global, message: &OwnedMessage) -> Result<String, Failure>
     ensures { λ r. ⌜ made r (λ s. Rendered (string-bytes s)) ⌝ }
 {
     let all = values(heap, message)?;
