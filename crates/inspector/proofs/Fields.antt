@@ -7,7 +7,7 @@ use denote.Ref.{RefT}
 use lib.ListN.{length, drop, getD}
 use lib.Seq.{drop-cons}
 use Rattle.std.proofs.shelf.Lists.{drop-all}
-use Rattle.wire.specs.declared.value.Value.{Value}
+use Rattle.layout.specs.declared.value.Value.{Value}
 use Rattle.inspector.specs.Labels.{spelt}
 use Rattle.inspector.specs.Shown.{fieldText, fieldsText}
 

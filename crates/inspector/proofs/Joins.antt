@@ -14,7 +14,7 @@ use Rattle.std.specs.Vec.{made}
 use mathlib.Core.Bool.{true, false}
 use Rattle.std.proofs.shelf.Lists.{take-more}
 use Rattle.std.proofs.shelf.Text.{encodes-append}
-use Rattle.wire.specs.declared.value.Value.{Value}
+use Rattle.layout.specs.declared.value.Value.{Value}
 use Rattle.inspector.specs.Shown.{amount, priceText, valueText, isReserved, fieldText}
 
 encodes-more : (bs : List ℕ) (i : ℕ) → i < length bs → encodes (take (i + 1) bs) ≡ encodes (take i bs) ++ encode (getD bs i 0)

@@ -10,7 +10,7 @@ use Rattle.std.specs.Of.String.{string-bytes}
 use Rattle.std.specs.Written.{decimal}
 use Rattle.wire.specs.declared.kinds.Channel.{Channel}
 use Rattle.wire.specs.declared.kinds.Kind.{Kind}
-use Rattle.wire.specs.declared.value.Value.{Value}
+use Rattle.layout.specs.declared.value.Value.{Value}
 use Rattle.wire.specs.Messages.{verdict}
 use Rattle.inspector.specs.declared.account.Outcome.the-variants as outcome
 use Rattle.inspector.specs.declared.answer.Answer.{Answer}

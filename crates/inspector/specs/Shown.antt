@@ -13,8 +13,8 @@ use Rattle.std.specs.Written.{decimal, signed}
 use Rattle.texts.specs.Bytes.{both}
 use Rattle.texts.specs.Identifiers.{orderId}
 use Rattle.wire.specs.declared.kinds.Kind.{Kind}
-use Rattle.wire.specs.declared.value.Value.{Value}
-use Rattle.wire.specs.declared.value.Value.the-variants as value
+use Rattle.layout.specs.declared.value.Value.{Value}
+use Rattle.layout.specs.declared.value.Value.the-variants as value
 use Rattle.inspector.specs.Labels.{titleOf, namesOf}
 
 -- in double quotes, each byte as the character of its number

@@ -14,11 +14,11 @@ use crate::line::parse;
 use crate::shown::show_line;
 use std::alloc::AllocError;
 use std::alloc::Global;
-use wire::field::Fault;
+use layout::field::Fault;
 use wire::kinds::Channel;
 use wire::message::OwnedMessage;
 use wire::message::read;
-use wire::value::Value;
+use layout::value::Value;
 
 // The text to print for a line, and how the line counts.
 #[derive(Drop)]

@@ -11,7 +11,7 @@ use crate::values::show_field;
 use std::alloc::Global;
 use std::fmt;
 use wire::kinds::Kind;
-use wire::value::Value;
+use layout::value::Value;
 
 fn show_fields(out: &mut String, names: &[&str], values: &[Value<'_>]) -> fmt::Result
     ensures { λ r. ⌜ made r (λ _. string-bytes (now (out .exit)) ≡ string-bytes (now (out .entry)) ++ fieldsText (spelt (now (names .entry))) (now (values .entry))) ⌝ }

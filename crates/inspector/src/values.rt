@@ -12,7 +12,7 @@ use std::fmt;
 use texts::identifiers::OrderId;
 use texts::values::Price;
 use texts::values::Time;
-use wire::value::Value;
+use layout::value::Value;
 
 // Each byte as the character of its number.
 fn show_bytes(out: &mut String, bytes: &[u8]) -> fmt::Result

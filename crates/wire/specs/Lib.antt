@@ -1,9 +1,3 @@
+pub mod Keeping
 pub mod Kinds
-pub mod Layout
 pub mod Messages
-pub mod Reports
-pub mod Requests
-pub mod Session
-pub mod Terms
-pub mod Values
-pub mod Writing

@@ -6,16 +6,16 @@ ghost use lib.ListN.{length, drop};
 ghost use Rattle.std.specs.declared.result.Result.the-variants.{Ok, Err};
 ghost use Rattle.std.specs.Results.{Cases};
 ghost use Rattle.wire.specs.Kinds.{totals, totalOf};
-ghost use Rattle.wire.specs.Messages.{opening, keptOf, kindOf, written, WasRead};
-use crate::field::Fault;
+ghost use Rattle.wire.specs.Messages.{opening, keptOf, kindOf, written, Holdable, GivenBack, Apart, Again, WasRead, Wrote};
 use crate::kinds::Channel;
 use crate::kinds::Kind;
-use crate::reader::Reader;
-use crate::session::*;
-use crate::requests::*;
-use crate::reports::*;
-use crate::sequence::LastSequence;
-use crate::writer::write_fields;
+use layout::field::Fault;
+use layout::reader::Reader;
+use layout::sequence::LastSequence;
+use layout::writer::put_header;
+use messages::reports::*;
+use messages::requests::*;
+use messages::session::*;
 use texts::fixed::RequestId;
 use texts::names::*;
 use texts::values::Text;
@@ -94,23 +94,104 @@ fn read_kind<'a>(channel: Channel, bytes: &'a [u8]) -> Result<Message<'a>, Fault
         Kind::LogonReply => Ok(Message::LogonReply(read_logon_reply(&r)?)),
         Kind::Logout => Ok(Message::Logout(read_logout(&r)?)),
         Kind::Heartbeat => Ok(Message::Heartbeat),
-        Kind::MissedMessageRequest => Ok(Message::MissedMessageRequest(read_missed_message_request(&r)?)),
-        Kind::MissedMessageRequestAck => Ok(Message::MissedMessageRequestAck(read_missed_message_request_ack(&r)?)),
-        Kind::MissedMessageReport => Ok(Message::MissedMessageReport(read_missed_message_report(&r)?)),
-        Kind::Reject => Ok(Message::Reject(ReadReject { fields: read_reject(&r)? })),
-        Kind::NewOrder => Ok(Message::NewOrder(ReadNewOrder { fields: read_new_order(&r)? })),
-        Kind::OrderCancelRequest => Ok(Message::OrderCancelRequest(ReadOrderCancelRequest { fields: read_order_cancel_request(&r)? })),
-        Kind::OrderCancelReplaceRequest => Ok(Message::OrderCancelReplaceRequest(ReadOrderCancelReplaceRequest { fields: read_order_cancel_replace_request(&r)? })),
-        Kind::OrderMassCancelRequest => Ok(Message::OrderMassCancelRequest(read_order_mass_cancel_request(&r)?)),
-        Kind::ExecutionReport => Ok(Message::ExecutionReport(ReadExecutionReport { fields: read_execution_report(&r)? })),
-        Kind::OrderCancelReject => Ok(Message::OrderCancelReject(ReadOrderCancelReject { fields: read_order_cancel_reject(&r)? })),
-        Kind::OrderMassCancelReport => Ok(Message::OrderMassCancelReport(read_order_mass_cancel_report(&r)?)),
+        Kind::MissedMessageRequest => Ok(Message::MissedMessageRequest(
+            read_missed_message_request(&r)?,
+        )),
+        Kind::MissedMessageRequestAck => Ok(Message::MissedMessageRequestAck(
+            read_missed_message_request_ack(&r)?,
+        )),
+        Kind::MissedMessageReport => Ok(Message::MissedMessageReport(
+            read_missed_message_report(&r)?,
+        )),
+        Kind::Reject => Ok(Message::Reject(ReadReject {
+            fields: read_reject(&r)?,
+        })),
+        Kind::NewOrder => Ok(Message::NewOrder(ReadNewOrder {
+            fields: read_new_order(&r)?,
+        })),
+        Kind::OrderCancelRequest => Ok(Message::OrderCancelRequest(ReadOrderCancelRequest {
+            fields: read_order_cancel_request(&r)?,
+        })),
+        Kind::OrderCancelReplaceRequest =>
+            Ok(Message::OrderCancelReplaceRequest(ReadOrderCancelReplaceRequest {
+                fields: read_order_cancel_replace_request(&r)?,
+            })),
+        Kind::OrderMassCancelRequest => Ok(Message::OrderMassCancelRequest(
+            read_order_mass_cancel_request(&r)?,
+        )),
+        Kind::ExecutionReport => Ok(Message::ExecutionReport(ReadExecutionReport {
+            fields: read_execution_report(&r)?,
+        })),
+        Kind::OrderCancelReject => Ok(Message::OrderCancelReject(ReadOrderCancelReject {
+            fields: read_order_cancel_reject(&r)?,
+        })),
+        Kind::OrderMassCancelReport => Ok(Message::OrderMassCancelReport(
+            read_order_mass_cancel_report(&r)?,
+        )),
+    }
+}
+
+// A buffer that is too short for a message, which needs this many bytes.
+#[derive(Clone, Copy, Debug, PartialEq)]
+pub struct TooShort {
+    pub needed: usize,
+}
+
+fn write_kind(message: &OwnedMessage, out: &mut [u8])
+    requires { ⌜ totalOf (kindOf (keptOf (now message))) ≤ length (now out) ⌝ }
+    ensures wrote { λ _. ⌜ now (out .exit) ≡ written (keptOf (now (message .entry))) ++ drop (totalOf (kindOf (keptOf (now (message .entry))))) (now (out .entry)) ⌝ }
+    ensures holds { λ _. ⌜ Holdable (keptOf (now (message .entry))) ⌝ }
+    ensures back { λ _. ⌜ GivenBack (keptOf (now (message .entry))) ⌝ }
+    ensures apart { λ _. ⌜ Apart (keptOf (now (message .entry))) ⌝ }
+{
+    match message {
+        OwnedMessage::Logon(m) => write_logon(m, out),
+        OwnedMessage::LogonReply(m) => write_logon_reply(m, out),
+        OwnedMessage::Logout(m) => write_logout(m, out),
+        OwnedMessage::Heartbeat => put_header(out, b'0', 4),
+        OwnedMessage::MissedMessageRequest(m) => write_missed_message_request(m, out),
+        OwnedMessage::MissedMessageRequestAck(m) => write_missed_message_request_ack(m, out),
+        OwnedMessage::MissedMessageReport(m) => write_missed_message_report(m, out),
+        OwnedMessage::Reject(m) => write_reject(m, out),
+        OwnedMessage::NewOrder(m) => write_new_order(m, out),
+        OwnedMessage::OrderCancelRequest(m) => write_order_cancel_request(m, out),
+        OwnedMessage::OrderCancelReplaceRequest(m) => write_order_cancel_replace_request(m, out),
+        OwnedMessage::OrderMassCancelRequest(m) => write_order_mass_cancel_request(m, out),
+        OwnedMessage::ExecutionReport(m) => write_execution_report(m, out),
+        OwnedMessage::OrderCancelReject(m) => write_order_cancel_reject(m, out),
+        OwnedMessage::OrderMassCancelReport(m) => write_order_mass_cancel_report(m, out),
+    }
+}
+
+// The same, with what writing makes of it again.
+fn read_again<'a>(channel: Channel, bytes: &'a [u8]) -> Result<Message<'a>, Fault>
+    ensures checks { λ r. ⌜ WasRead channel (now (bytes .entry)) r ⌝ }
+    ensures again { λ r. ⌜ Cases r (λ m. Again (now (bytes .entry)) m) (λ _. Unit {0}) ⌝ }
+{
+    match read_kind(channel, bytes) {
+        Ok(message) => Ok(message),
+        Err(fault) => Err(fault),
     }
 }
 
 // Reads one message, or says which check is the first to fail, and where.
 pub fn read<'a>(channel: Channel, bytes: &'a [u8]) -> Result<Message<'a>, Fault>
-    ensures { λ m. ⌜ WasRead channel (now (bytes .entry)) m ⌝ }
+    ensures checks { λ r. ⌜ WasRead channel (now (bytes .entry)) r ⌝ }
+    ensures again { λ r. ⌜ Cases r (λ m. Again (now (bytes .entry)) m) (λ _. Unit {0}) ⌝ }
 {
-    read_kind(channel, bytes)
+    read_again(channel, bytes)
+}
+
+// Writes a message in its one form to the front of a buffer; the bytes past it stay.
+pub fn write(message: &OwnedMessage, out: &mut [u8]) -> Result<usize, TooShort>
+    ensures bytes { λ r. ⌜ Wrote (keptOf (now (message .entry))) (now (out .entry)) (now (out .exit)) r ⌝ }
+    ensures back { λ r. ⌜ Cases r (λ _. GivenBack (keptOf (now (message .entry)))) (λ _. Unit {0}) ⌝ }
+    ensures apart { λ r. ⌜ Cases r (λ _. Apart (keptOf (now (message .entry)))) (λ _. Unit {0}) ⌝ }
+{
+    let total = message.kind().total();
+    if out.len() < total {
+        return Err(TooShort { needed: total });
+    }
+    write_kind(message, out);
+    Ok(total)
 }

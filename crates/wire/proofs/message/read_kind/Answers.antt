@@ -1,5 +1,5 @@
 use borrow.Author.Needs.{needs}
-use Rattle.wire.specs.Layout.{firstBad}
+use Rattle.layout.specs.Layout.{firstBad}
 use Rattle.wire.proofs.message.read_kind.Needs as need
 
 pub returns-in-Heartbeat : need.returns-in-Heartbeat
