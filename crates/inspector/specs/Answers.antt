@@ -1,17 +1,18 @@
 -- What a line of input is answered. Assumes nothing.
 use mathlib.Core.Path.{_≡_}
-use mathlib.Core.Bool.{Bool}
-use mathlib.Core.List.{List, _++_}
+use mathlib.Core.List.{List, _++_, map}
 use Prim.Native.Nat.{ℕ}
 use lib.Chars.{codes}
 use Rattle.std.specs.declared.option.Option.{Option}
 use Rattle.std.specs.declared.option.Option.the-variants.{Some, None}
 use Rattle.std.specs.Of.String.{string-bytes}
 use Rattle.std.specs.Written.{decimal}
+use Rattle.std.specs.shelf.Text.{sameBytes}
 use Rattle.wire.specs.declared.kinds.Channel.{Channel}
-use Rattle.wire.specs.declared.kinds.Kind.{Kind}
+use Rattle.wire.specs.declared.message.Message.{Message}
 use Rattle.layout.specs.declared.value.Value.{Value}
-use Rattle.wire.specs.Messages.{verdict}
+use Rattle.layout.specs.Values.{meant}
+use Rattle.wire.specs.Messages.{Said, Reads, heardOf, kindOf, contentsOf, written, verdict}
 use Rattle.inspector.specs.declared.account.Outcome.the-variants as outcome
 use Rattle.inspector.specs.declared.answer.Answer.{Answer}
 use Rattle.inspector.specs.declared.line.Unclear.{Unclear}
@@ -30,17 +31,24 @@ sentenceOf why.TooLong = codes "not understood: there are more than 512 bytes"
 abbrev pub refusedText : ℕ → ℕ → List ℕ
 refusedText rule offset = codes "refused " ++ (decimal rule ++ (codes " at " ++ decimal offset))
 
--- the line of some message
-abbrev pub Rendered : List ℕ → Type 0
-Rendered t = (k : Kind) × ((vs : List Value) × (t ≡ lineText k vs))
+-- the line of a message: its values mean what its fields hold
+abbrev pub Rendered : Said → List ℕ → Type 0
+Rendered m t = (vs : List Value) × ((map meant vs ≡ contentsOf m) × (t ≡ lineText (kindOf m) vs))
+
+-- the answer to a message that was read
+pub record ReadAs (ch : Channel) (bs : List ℕ) (a : Answer) : Type 0 where
+  pub read : Message
+  pub reads : Reads ch bs read
+  pub shows : Rendered (heardOf read) (string-bytes (a .text))
+  pub counts : a .outcome ≡ outcome.Read (sameBytes (written (heardOf read)) bs)
 
 -- the answer to a message, by the first check that fails
-abbrev pub ByVerdict : Option (ℕ × ℕ) → Answer → Type 0
-ByVerdict (Some fault) a = (string-bytes (a .text) ≡ refusedText (fault .0) (fault .1)) × (a .outcome ≡ outcome.Refused (fault .0))
-ByVerdict None a = Rendered (string-bytes (a .text)) × ((same : Bool) × (a .outcome ≡ outcome.Read same))
+abbrev pub ByVerdict : Option (ℕ × ℕ) → Channel → List ℕ → Answer → Type 0
+ByVerdict (Some fault) ch bs a = (string-bytes (a .text) ≡ refusedText (fault .0) (fault .1)) × (a .outcome ≡ outcome.Refused (fault .0))
+ByVerdict None ch bs a = ReadAs ch bs a
 
 abbrev pub AnswersRead : Channel → List ℕ → Answer → Type 0
-AnswersRead ch bs a = ByVerdict (verdict ch bs) a
+AnswersRead ch bs a = ByVerdict (verdict ch bs) ch bs a
 
 abbrev pub Answers : Given → Option Answer → Type 0
 Answers skipped None = Unit {0}

@@ -1,8 +1,12 @@
 // What a line of input is answered.
 ghost use mathlib.Core.Path.{_≡_};
-ghost use mathlib.Core.List.{_++_};
+ghost use mathlib.Core.List.{map};
 ghost use Rattle.std.specs.Of.String.{string-bytes};
+ghost use Rattle.std.specs.Of.Vec.{vec-items};
 ghost use Rattle.std.specs.Vec.{made};
+ghost use Rattle.std.specs.shelf.Text.{sameBytes};
+ghost use Rattle.layout.specs.Values.{meant};
+ghost use Rattle.wire.specs.Messages.{keptOf, contentsOf, written};
 ghost use Rattle.inspector.specs.Answers.{sentenceOf, refusedText, Rendered, AnswersRead, Answers, Answered};
 use crate::account::Outcome;
 use crate::failure::Failure;
@@ -10,6 +14,7 @@ use crate::failure::FailureFromAlloc;
 use crate::failure::FailureFromFmt;
 use crate::line::Line;
 use crate::line::Unclear;
+use crate::line::is_text;
 use crate::line::parse;
 use crate::shown::show_line;
 use std::alloc::AllocError;
@@ -18,6 +23,7 @@ use layout::field::Fault;
 use wire::kinds::Channel;
 use wire::message::OwnedMessage;
 use wire::message::read;
+use wire::message::write;
 use layout::value::Value;
 
 // The text to print for a line, and how the line counts.
@@ -49,24 +55,38 @@ fn refusal(heap: Global, fault: Fault) -> Result<String, AllocError>
 }
 
 // What the fields of a message hold, in the order of its layout. No message has more than 26.
-fn values<'a>(heap: Global, message: &'a OwnedMessage) -> Result<Vec<Value<'a>>, AllocError> {
+fn values<'a>(heap: Global, message: &'a OwnedMessage) -> Result<Vec<Value<'a>>, AllocError>
+    ensures { λ r. ⌜ made r (λ v. map meant (vec-items v) ≡ contentsOf (keptOf (now (message .entry)))) ⌝ }
+{
     let mut all = Vec::new(heap);
     for i in 0..26 {
-        if let Some(value) = message.value(i) {
-            all.push(value)?;
-        }
+        let Some(value) = message.value(i) else {
+            return Ok(all);
+        };
+        all.push(value)?;
     }
     Ok(all)
 }
 
 // A message as a line of text.
 pub fn render(heap: Global, message: &OwnedMessage) -> Result<String, Failure>
-    ensures { λ r. ⌜ made r (λ s. Rendered (string-bytes s)) ⌝ }
+    ensures { λ r. ⌜ made r (λ s. Rendered (keptOf (now (message .entry))) (string-bytes s)) ⌝ }
 {
     let all = values(heap, message)?;
     let mut out = String::new(heap);
     show_line(&mut out, message.kind(), all.as_slice())?;
     Ok(out)
+}
+
+// Whether a message that was read from these bytes is written to the very same.
+fn is_same_again(message: &OwnedMessage, bytes: &[u8]) -> bool
+    ensures { λ r. ⌜ r ≡ sameBytes (written (keptOf (now (message .entry)))) (now (bytes .entry)) ⌝ }
+{
+    let mut out = [0; 145];
+    match write(message, &mut out) {
+        Ok(n) => is_text(&out[0..n], bytes),
+        Err(_) => false,
+    }
 }
 
 fn answer_message(heap: Global, channel: Channel, bytes: &[u8]) -> Result<Answer, Failure>
@@ -78,7 +98,8 @@ fn answer_message(heap: Global, channel: Channel, bytes: &[u8]) -> Result<Answer
             let Some(kept) = message.keep() else {
                 return Err(Failure::NotKept);
             };
-            Ok(Answer { text: render(heap, &kept)?, outcome: Outcome::Read(true) })
+            let outcome = Outcome::Read(is_same_again(&kept, bytes));
+            Ok(Answer { text: render(heap, &kept)?, outcome })
         }
     }
 }

@@ -36,7 +36,7 @@ fn is_skipped(line: &[u8]) -> bool
     Class::Blank.front(line) == n || line[0] == b'#'
 }
 
-fn is_text(word: &[u8], text: &[u8]) -> bool
+pub(crate) fn is_text(word: &[u8], text: &[u8]) -> bool
     ensures { λ r. ⌜ r ≡ sameBytes (now (word .entry)) (now (text .entry)) ⌝ }
 {
     word == text
