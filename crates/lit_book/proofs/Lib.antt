@@ -1,0 +1,4 @@
+mod Changes
+mod Queues
+mod Settles
+mod Tables

@@ -1,0 +1,5 @@
+pub mod Orders
+pub mod Lists
+pub mod Rules
+pub mod Turns
+pub mod Books

@@ -1,0 +1,5 @@
+// A lit order book: orders match by price, and at one price by the time at which they came to rest.
+pub mod book;
+pub mod order;
+mod table;
+mod turns;
