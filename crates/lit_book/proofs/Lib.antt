@@ -1,4 +1,9 @@
+mod Amends
+mod Bests
 mod Changes
+mod Matches
+mod Nexts
 mod Queues
+mod Searches
 mod Settles
 mod Tables

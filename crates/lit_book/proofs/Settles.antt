@@ -33,7 +33,7 @@ settled-changed n w (x ∷ xs) h =
     go (eqb n (x .number)) w (p .0) (s .0) (s .1) (clear-changed x n w xs (s .0)) (settled-changed n w xs (s .1))
   where
     go : (b : Bool) (v : Option ℕ) → rests x ≡ true → clear-of x xs ≡ true → settled xs ≡ true → clear-of x (changed n w xs) ≡ true → settled (changed n w xs) ≡ true
-      → settled (cond b (remains x v ++ xs) (x ∷ changed n w xs)) ≡ true
+        → settled (cond b (remains x v ++ xs) (x ∷ changed n w xs)) ≡ true
     go true None r c s f ih = s
     go true (Some q) r c s f ih = and-from _ _ r (and-from _ _ c s)
     go false v r c s f ih = and-from _ _ r (and-from _ _ f ih)

@@ -3,12 +3,12 @@ use mathlib.Core.Path.{_≡_, refl, sym, ap, _∙_, subst}
 use mathlib.Core.Bool.{Bool, true, false, cond}
 use mathlib.Core.List.{List, [], _∷_, _++_, map}
 use mathlib.Core.Logic.{inl, inr, _⊎_}
-use Prim.Native.Nat.{ℕ, _+_, _-_, _≤_, _<_}
+use Prim.Native.Nat.{ℕ, zero, suc, _+_, _-_, _≤_, _<_}
 use native.Mathlib.Omega.{arith}
 use lib.Dec.{ltb}
 use lib.ListN.{length, getD, take, drop, set}
 use Rattle.std.proofs.shelf.Lists.{append-assoc, append-nil, drop-append-le, drop-at, drop-drop, drop-more, length-drop, length-map, length-take-le, map-push, drop-map, take-append-le, take-at, take-more}
-use Rattle.std.proofs.shelf.Tests.{cases-lt, cond-true, lt-ltb}
+use Rattle.std.proofs.shelf.Tests.{and-from, and-parts, cases-lt, cond-true, lt-ltb}
 use Rattle.std.proofs.shelf.Maps.{nth-getD, nth-past}
 use Rattle.std.specs.Finite.{nth}
 use Rattle.std.specs.Holes.{removed}
@@ -17,7 +17,7 @@ use Rattle.std.specs.declared.option.Option.the-variants.{Some, None}
 use Rattle.matching.proofs.Looks.{distinct-from}
 use Rattle.lit_book.specs.declared.order.Order.{Order}
 use Rattle.lit_book.specs.Orders.{rests, sized}
-use Rattle.lit_book.specs.Lists.{FoundOrder, all-apart, best, changed, in-turn, order-held, order-number, settled}
+use Rattle.lit_book.specs.Lists.{FoundOrder, all-apart, all-open, best, changed, in-turn, order-held, order-number, settled}
 use Rattle.lit_book.specs.Rules.{Lit}
 use Rattle.lit_book.proofs.Changes.{absent, as-long, behind, fewer-numbers, front-absent, in-front, removed-is, rest-absent, same-numbers, set-is, shorter}
 use Rattle.lit_book.proofs.Queues.{turn-from, turn-to}
@@ -36,12 +36,28 @@ joined ns n m os t le lt =
 pub add-turn : (xs : List Order) (k : ℕ) (ns : List ℕ) (o : Order) → k ≤ length xs → in-turn ns (drop k xs) ≡ true → in-turn (ns ++ o .number ∷ []) (drop k (xs ++ o ∷ [])) ≡ true
 add-turn xs k ns o le t =
     turn-to _ _
-      (ap (λ (l : List ℕ). l ++ o .number ∷ []) (turn-from ns (drop k xs) t)
-        ∙ sym (map-push order-number (drop k xs) o)
-        ∙ ap (map order-number) (sym (drop-append-le k xs (o ∷ []) le)))
+    (ap (λ (l : List ℕ). l ++ o .number ∷ []) (turn-from ns (drop k xs) t)
+    ∙ sym (map-push order-number (drop k xs) o)
+    ∙ ap (map order-number) (sym (drop-append-le k xs (o ∷ []) le)))
 
 pub add-settled : (xs : List Order) (k : ℕ) (o : Order) → k ≤ length xs → settled (take k xs) ≡ true → settled (take k (xs ++ o ∷ [])) ≡ true
 add-settled xs k o le s = ap settled (take-append-le k xs (o ∷ []) le) ∙ s
+
+-- every order has some quantity open
+pub add-open : (xs : List Order) (o : Order) → all-open xs ≡ true → 0 < o .quantity → all-open (xs ++ o ∷ []) ≡ true
+add-open [] o h lt = and-from _ _ (lt-ltb _ _ lt) refl
+add-open (x ∷ xs) o h lt = let p = and-parts (ltb 0 (x .quantity)) (all-open xs) h in and-from _ _ (p .0) (add-open xs o (p .1) lt)
+
+pub removed-open : (xs : List Order) (i : ℕ) → all-open xs ≡ true → all-open (removed xs i) ≡ true
+removed-open [] zero h = refl
+removed-open [] (suc i) h = refl
+removed-open (x ∷ xs) zero h = and-parts (ltb 0 (x .quantity)) (all-open xs) h .1
+removed-open (x ∷ xs) (suc i) h = let p = and-parts (ltb 0 (x .quantity)) (all-open xs) h in and-from _ _ (p .0) (removed-open xs i (p .1))
+
+pub set-open : (xs : List Order) (i : ℕ) (o : Order) → all-open xs ≡ true → 0 < o .quantity → all-open (set xs i o) ≡ true
+set-open [] i o h lt = refl
+set-open (x ∷ xs) zero o h lt = and-from _ _ (lt-ltb _ _ lt) (and-parts (ltb 0 (x .quantity)) (all-open xs) h .1)
+set-open (x ∷ xs) (suc i) o h lt = let p = and-parts (ltb 0 (x .quantity)) (all-open xs) h in and-from _ _ (p .0) (set-open xs i o (p .1) lt)
 
 -- ---- one order changed
 
@@ -52,35 +68,36 @@ pub record Parts (xs ys : List Order) (k k′ n : ℕ) (w : Option ℕ) : Type 0
 
 cut : (xs ys f g : List Order) (k k′ n : ℕ) (w : Option ℕ) → ys ≡ f ++ g → length f ≡ k′ → f ≡ changed n w (take k xs) → g ≡ changed n w (drop k xs) → Parts xs ys k k′ n w
 cut xs ys f g k k′ n w e long p q = record {
-    front = ap (take k′) e ∙ take-at f g k′ long ∙ p;
-    back = ap (drop k′) e ∙ drop-at f g k′ long ∙ q;
-  }
+  front = ap (take k′) e ∙ take-at f g k′ long ∙ p;
+  back = ap (drop k′) e ∙ drop-at f g k′ long ∙ q;
+}
 
 pub removed-front : (xs : List Order) (i k n : ℕ) → all-apart xs ≡ true → FoundOrder xs n (Some i) → i < k → k ≤ length xs → Parts xs (removed xs i) k (k - 1) n None
 removed-front xs i k n u f lt le =
     let e = shorter xs i k n f lt in
     let t = length-take-le k xs le in
     cut xs (removed xs i) (changed n None (take k xs)) (drop k xs) k (k - 1) n None
-      (removed-is xs i n f ∙ sym (in-front None xs i k n f lt)) (omega arith) refl
-      (sym (absent n None (drop k xs) (rest-absent xs i k n (distinct-from order-number order-held xs u) f lt)))
+    (removed-is xs i n f ∙ sym (in-front None xs i k n f lt)) (omega arith) refl
+    (sym (absent n None (drop k xs) (rest-absent xs i k n (distinct-from order-number order-held xs u) f lt)))
 
 pub removed-back : (xs : List Order) (i k n : ℕ) → FoundOrder xs n (Some i) → k ≤ i → k ≤ length xs → Parts xs (removed xs i) k k n None
 removed-back xs i k n f ge le =
     cut xs (removed xs i) (take k xs) (changed n None (drop k xs)) k k n None
-      (removed-is xs i n f ∙ sym (behind None xs i k n f ge)) (length-take-le k xs le)
-      (sym (absent n None (take k xs) (front-absent xs i k n f ge))) refl
+    (removed-is xs i n f ∙ sym (behind None xs i k n f ge)) (length-take-le k xs le)
+    (sym (absent n None (take k xs) (front-absent xs i k n f ge))) refl
 
 pub set-parts : (xs : List Order) (i k n q : ℕ) (x : Order) → all-apart xs ≡ true → FoundOrder xs n (Some i) → x ≡ getD xs i x → k ≤ length xs → Parts xs (set xs i (sized x q)) k k n (Some q)
 set-parts xs i k n q x u f read le =
     elim (cases-lt i k) [
-        inl lt ↦
+      | inl lt ↦
           cut xs (set xs i (sized x q)) (changed n (Some q) (take k xs)) (drop k xs) k k n (Some q)
-            (set-is xs i n q x f read ∙ sym (in-front (Some q) xs i k n f lt)) (as-long n q (take k xs) ∙ length-take-le k xs le) refl
-            (sym (absent n (Some q) (drop k xs) (rest-absent xs i k n (distinct-from order-number order-held xs u) f lt)))
+          (set-is xs i n q x f read ∙ sym (in-front (Some q) xs i k n f lt)) (as-long n q (take k xs) ∙ length-take-le k xs le) refl
+          (sym (absent n (Some q) (drop k xs) (rest-absent xs i k n (distinct-from order-number order-held xs u) f lt)))
       | inr ge ↦
           cut xs (set xs i (sized x q)) (take k xs) (changed n (Some q) (drop k xs)) k k n (Some q)
-            (set-is xs i n q x f read ∙ sym (behind (Some q) xs i k n f ge)) (length-take-le k xs le)
-            (sym (absent n (Some q) (take k xs) (front-absent xs i k n f ge))) refl ]
+          (set-is xs i n q x f read ∙ sym (behind (Some q) xs i k n f ge)) (length-take-le k xs le)
+          (sym (absent n (Some q) (take k xs) (front-absent xs i k n f ge))) refl
+    ]
 
 pub parts-settled : (xs ys : List Order) (k k′ n : ℕ) (w : Option ℕ) → Parts xs ys k k′ n w → settled (take k xs) ≡ true → settled (take k′ ys) ≡ true
 parts-settled xs ys k k′ n w p s = ap settled (p .front) ∙ settled-changed n w (take k xs) s

@@ -3,3 +3,4 @@ pub mod Lists
 pub mod Rules
 pub mod Turns
 pub mod Books
+pub mod Steps

@@ -3,7 +3,7 @@ use mathlib.Core.Path.{_≡_}
 use mathlib.Core.Bool.{Bool, true, false, cond, not, _&&_}
 use mathlib.Core.List.{List, [], _∷_, _++_}
 use Prim.Native.Nat.{ℕ}
-use lib.Dec.{eqb}
+use lib.Dec.{eqb, ltb}
 use Rattle.std.specs.declared.option.Option.{Option}
 use Rattle.std.specs.declared.option.Option.the-variants.{Some, None}
 use Rattle.matching.specs.Look.{look, distinct, Found}
@@ -59,6 +59,11 @@ changed n w [] = []
 changed n w (o ∷ os) = cond (eqb n (o .number)) (remains o w ++ os) (o ∷ changed n w os)
 
 -- ---- tests that hold of the book at all times
+
+-- every order has some quantity open
+abbrev pub all-open : List Order → Bool
+all-open [] = true
+all-open (o ∷ os) = ltb 0 (o .quantity) && all-open os
 
 -- no order of the list crosses o
 abbrev pub clear-of : Order → List Order → Bool

@@ -18,6 +18,10 @@ pub record Lit : Type 0 where
   pub resting : List Order
   pub waiting : List Order
 
+-- the open order of a number
+abbrev pub order-under : Lit → ℕ → Option Order
+order-under b n = order-in (b .resting ++ b .waiting) n
+
 -- an order of these terms under a number
 abbrev pub order-of : ℕ → Terms → Order
 order-of n t = record { number = n; instrument = t .instrument; side = t .side; «order_type» = t .«order_type»; «time_in_force» = t .«time_in_force»; quantity = t .quantity }

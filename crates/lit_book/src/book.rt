@@ -4,7 +4,7 @@ ghost use lib.ListN.{drop, take};
 ghost use mathlib.Core.Bool.{true};
 ghost use mathlib.Core.Path.{_≡_};
 ghost use Rattle.std.specs.Of.Vec.{vec-cap, vec-items, vec-len};
-ghost use Rattle.lit_book.specs.Lists.{all-apart, in-turn, settled};
+ghost use Rattle.lit_book.specs.Lists.{all-apart, all-open, in-turn, settled};
 ghost use Rattle.lit_book.specs.Turns.{queued};
 use crate::order::Order;
 use crate::turns::Turns;
@@ -22,6 +22,7 @@ pub struct LitBook {
     ghost limited: { vec-len orders ≤ 256 },
     ghost within: { resting ≤ vec-len orders },
     ghost apart: { all-apart (vec-items orders) ≡ true },
+    ghost nonzero: { all-open (vec-items orders) ≡ true },
     ghost kept_in_turn: { in-turn (queued turns) (drop resting (vec-items orders)) ≡ true },
     ghost uncrossed: { settled (take resting (vec-items orders)) ≡ true },
 }

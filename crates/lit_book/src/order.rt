@@ -1,5 +1,7 @@
 // An order of the book, and the questions that matching asks of it.
 ghost use mathlib.Core.Path.{_≡_};
+ghost use Rattle.lit_book.specs.Lists.{chosen};
+ghost use Rattle.lit_book.specs.Rules.{goes-back};
 ghost use Rattle.lit_book.specs.Orders.{accepts, better, crosses, opposes, price, repriced, reprices, rests, sized};
 use matching::terms::OrderType;
 use matching::terms::Side;
@@ -104,6 +106,13 @@ impl Order {
         }
     }
 
+    // Whether such a change sends the order to the back of the waiting.
+    pub(crate) fn goes_back(self, quantity: u32, at: i64) -> bool
+        ensures { λ r. ⌜ r ≡ goes-back self quantity at ⌝ }
+    {
+        self.quantity < quantity || self.reprices(at)
+    }
+
     // The order with another limit; a market order stays one.
     pub(crate) fn repriced(self, at: i64) -> Order
         ensures { λ r. ⌜ r ≡ repriced self at ⌝ }
@@ -118,6 +127,25 @@ impl Order {
                 time_in_force: self.time_in_force,
                 quantity: self.quantity,
             },
+        }
+    }
+
+    // The better of the best so far and the next order at rest; of equals the first stays.
+    pub(crate) fn chosen(self, other: Order, best: Option<Order>) -> Option<Order>
+        ensures { λ r. ⌜ r ≡ chosen self other best ⌝ }
+    {
+        if !self.crosses(other) {
+            return best;
+        }
+        match best {
+            Some(first) => {
+                if self.prefers(other.price(), first.price()) {
+                    Some(other)
+                } else {
+                    best
+                }
+            }
+            None => Some(other),
         }
     }
 }

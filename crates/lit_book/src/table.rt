@@ -16,6 +16,7 @@ ghost use Rattle.lit_book.specs.Orders.{rests};
 ghost use Rattle.lit_book.specs.Rules.{altered, entered};
 use crate::book::LitBook;
 use crate::order::Order;
+use matching::matcher::Held;
 
 impl LitBook {
     // The place of the order of a number.
@@ -31,10 +32,23 @@ impl LitBook {
         None
     }
 
+    // What is open under the number of the order at a place.
+    pub(crate) fn held_at(&self, i: usize, number: u64) -> Held
+        requires { ⌜ FoundOrder (table (now self)) number (Some i) ⌝ }
+        ensures { λ r. ⌜ lit-meaning (now (self .entry)) .orders number ≡ Some r ⌝ }
+    {
+        let order = self.orders[i];
+        Held {
+            instrument: order.instrument,
+            quantity: order.quantity,
+        }
+    }
+
     // One more order, which waits behind all others; its number has none open.
     pub(crate) fn add(&mut self, order: Order)
         requires new { ⌜ isSome (lit-meaning (now self) .orders (order .number)) ≡ false ⌝ }
         requires room { ⌜ vec-len (now self .orders) < 256 ⌝ }
+        requires some { ⌜ 0 < order .quantity ⌝ }
         ensures lists { λ _. ⌜ lit (now (self .exit)) ≡ entered (lit (now (self .entry))) order ⌝ }
         ensures after { λ _. ⌜ lit-meaning (now (self .exit)) ≡ opened (lit-meaning (now (self .entry))) (order .number) (order-held order) ⌝ }
     {
@@ -59,7 +73,8 @@ impl LitBook {
 
     // Sets the open quantity of the order at a place, which it keeps.
     pub(crate) fn resize(&mut self, i: usize, number: u64, quantity: u32)
-        requires { ⌜ FoundOrder (table (now self)) number (Some i) ⌝ }
+        requires found { ⌜ FoundOrder (table (now self)) number (Some i) ⌝ }
+        requires some { ⌜ 0 < quantity ⌝ }
         ensures lists { λ _. ⌜ lit (now (self .exit)) ≡ altered (lit (now (self .entry))) number (Some quantity) ⌝ }
         ensures after { λ _. ⌜ lit-meaning (now (self .exit)) ≡ resized (lit-meaning (now (self .entry))) number quantity ⌝ }
     {

@@ -9,9 +9,9 @@ use Rattle.std.proofs.shelf.Lists.{drop-append-le, length-drop, take-append-le}
 use Rattle.matching.proofs.Rows.{pushed-apart, pushed-means}
 use Rattle.lit_book.specs.declared.order.Order.{Order}
 use Rattle.lit_book.specs.Books.{lit-means, lit-serves}
-use Rattle.lit_book.specs.Lists.{all-apart, in-turn, order-held, order-number, settled}
+use Rattle.lit_book.specs.Lists.{all-apart, all-open, in-turn, order-held, order-number, settled}
 use Rattle.lit_book.specs.Turns.{queued}
-use Rattle.lit_book.proofs.Tables.{add-settled, add-turn, joined, same-lit}
+use Rattle.lit_book.proofs.Tables.{add-open, add-settled, add-turn, joined, same-lit}
 use Rattle.lit_book.proofs.book.LitBook.add.Needs as need
 
 pub ghost-self : need.ghost-self
@@ -24,11 +24,28 @@ ghost-self c =
     let le : k ≤ length xs = omega arith in
     let e = c .push-reserved .ensures .items in
     let d = length-drop k xs in
-    let q = c .join .ensures ∙ joined ns (o .number) (length xs) (drop k xs) (b .«kept_in_turn») (omega arith) (omega arith) in
-    (search needs, (search needs, (search needs, (
-      ap all-apart e ∙ pushed-apart order-number order-held 256 lit-serves xs o (b .apart) (c .pre .new), (
-      ap (λ (l : List ℕ). in-turn l (drop k (c .push-reserved .last .self .items))) q ∙ ap (λ (l : List Order). in-turn (ns ++ o .number ∷ []) (drop k l)) e ∙ add-turn xs k ns o le (b .«kept_in_turn»), (
-      ap (λ (l : List Order). settled (take k l)) e ∙ add-settled xs k o le (b .uncrossed), tt))))))
+    let q = c .join .ensures ∙ joined ns (o .number) (length xs) (drop k xs) (b .«kept_in_turn») (omega arith) (omega arith) in (
+      search needs,
+      (
+        search needs,
+        (
+          search needs,
+          (
+            ap all-apart e ∙ pushed-apart order-number order-held 256 lit-serves xs o (b .apart) (c .pre .new),
+            (
+              ap all-open e ∙ add-open xs o (b .nonzero) (c .pre .some),
+              (
+                ap (λ (l : List ℕ). in-turn l (drop k (c .push-reserved .last .self .items))) q ∙ ap (λ (l : List Order). in-turn (ns ++ o .number ∷ []) (drop k l)) e ∙ add-turn xs k ns o le (b .«kept_in_turn»),
+                (
+                  ap (λ (l : List Order). settled (take k l)) e ∙ add-settled xs k o le (b .uncrossed),
+                  tt,
+                ),
+              ),
+            ),
+          ),
+        ),
+      ),
+    )
 
 pub returns : need.returns
 returns c =

@@ -8,10 +8,10 @@ use Rattle.std.specs.Holes.{removed}
 use Rattle.matching.proofs.Rows.{removed-apart, removed-means}
 use Rattle.lit_book.specs.declared.order.Order.{Order}
 use Rattle.lit_book.specs.Books.{lit-means, lit-serves}
-use Rattle.lit_book.specs.Lists.{all-apart, in-turn, order-held, order-number, settled}
+use Rattle.lit_book.specs.Lists.{all-apart, all-open, in-turn, order-held, order-number, settled}
 use Rattle.lit_book.specs.Rules.{Lit}
 use Rattle.lit_book.specs.Turns.{queued}
-use Rattle.lit_book.proofs.Tables.{Parts, back-turn, front-turn, parts-lit, parts-settled, removed-back, removed-front}
+use Rattle.lit_book.proofs.Tables.{Parts, back-turn, front-turn, parts-lit, parts-settled, removed-back, removed-front, removed-open}
 use Rattle.lit_book.proofs.book.LitBook.remove.Needs as need
 
 pub ghost-self : need.ghost-self
@@ -23,11 +23,28 @@ ghost-self c =
     let n = c .args .number in
     let e = c .remove .ensures .items in
     let lt = c .if-i-resting .taken in
-    let p = removed-front xs i k n (b .apart) (c .pre) lt (omega arith) in
-    (search needs, (search needs, (search needs, (
-      ap all-apart e ∙ removed-apart order-number order-held 256 lit-serves xs i (b .apart), (
-      ap (λ (l : List Order). in-turn (queued (b .turns)) (drop (k - 1) l)) e ∙ front-turn xs (removed xs i) i k (k - 1) n (queued (b .turns)) (b .apart) (c .pre) lt p (b .«kept_in_turn»), (
-      ap (λ (l : List Order). settled (take (k - 1) l)) e ∙ parts-settled xs (removed xs i) k (k - 1) n _ p (b .uncrossed), tt))))))
+    let p = removed-front xs i k n (b .apart) (c .pre) lt (omega arith) in (
+      search needs,
+      (
+        search needs,
+        (
+          search needs,
+          (
+            ap all-apart e ∙ removed-apart order-number order-held 256 lit-serves xs i (b .apart),
+            (
+              ap all-open e ∙ removed-open xs i (b .nonzero),
+              (
+                ap (λ (l : List Order). in-turn (queued (b .turns)) (drop (k - 1) l)) e ∙ front-turn xs (removed xs i) i k (k - 1) n (queued (b .turns)) (b .apart) (c .pre) lt p (b .«kept_in_turn»),
+                (
+                  ap (λ (l : List Order). settled (take (k - 1) l)) e ∙ parts-settled xs (removed xs i) k (k - 1) n _ p (b .uncrossed),
+                  tt,
+                ),
+              ),
+            ),
+          ),
+        ),
+      ),
+    )
 
 pub ghost-self-else-i-resting : need.ghost-self-else-i-resting
 ghost-self-else-i-resting c =
@@ -38,13 +55,30 @@ ghost-self-else-i-resting c =
     let n = c .args .number in
     let e = c .remove .ensures .items in
     let ge = c .if-i-resting .left in
-    let p = removed-back xs i k n (c .pre) ge (omega arith) in
-    (search needs, (search needs, (search needs, (
-      ap all-apart e ∙ removed-apart order-number order-held 256 lit-serves xs i (b .apart), (
-      ap (λ (l : List ℕ). in-turn l (drop k (c .remove .last .self .items))) (c .leave .ensures)
-        ∙ ap (λ (l : List Order). in-turn (removed (queued (b .turns)) (i - k)) (drop k l)) e
-        ∙ back-turn xs (removed xs i) i k n (queued (b .turns)) (c .pre) ge p (b .«kept_in_turn»), (
-      ap (λ (l : List Order). settled (take k l)) e ∙ parts-settled xs (removed xs i) k k n _ p (b .uncrossed), tt))))))
+    let p = removed-back xs i k n (c .pre) ge (omega arith) in (
+      search needs,
+      (
+        search needs,
+        (
+          search needs,
+          (
+            ap all-apart e ∙ removed-apart order-number order-held 256 lit-serves xs i (b .apart),
+            (
+              ap all-open e ∙ removed-open xs i (b .nonzero),
+              (
+                ap (λ (l : List ℕ). in-turn l (drop k (c .remove .last .self .items))) (c .leave .ensures)
+                    ∙ ap (λ (l : List Order). in-turn (removed (queued (b .turns)) (i - k)) (drop k l)) e
+                    ∙ back-turn xs (removed xs i) i k n (queued (b .turns)) (c .pre) ge p (b .«kept_in_turn»),
+                (
+                  ap (λ (l : List Order). settled (take k l)) e ∙ parts-settled xs (removed xs i) k k n _ p (b .uncrossed),
+                  tt,
+                ),
+              ),
+            ),
+          ),
+        ),
+      ),
+    )
 
 pub returns-then-i-resting : need.returns-then-i-resting
 returns-then-i-resting c =

@@ -14,10 +14,28 @@ ghost-self c =
     let b = c .args .self .now in
     let xs = b .orders .items in
     let k = b .resting in
-    let lt = rest-less xs k (c .args .order) (c .pre .oldest) in
-    (b .reserved, (b .limited, (omega arith, (b .apart, (
-      ap (λ (l : List ℕ). in-turn l (drop (k + 1) xs)) (c .leave .ensures) ∙ rest-turn xs k (queued (b .turns)) (b .«kept_in_turn»), (
-      rest-settled xs k (c .args .order) (c .pre .oldest) (c .pre .lasting) (c .pre .clear) (b .uncrossed), tt))))))
+    let lt = rest-less xs k (c .args .order) (c .pre .oldest) in (
+      b .reserved,
+      (
+        b .limited,
+        (
+          omega arith,
+          (
+            b .apart,
+            (
+              b .nonzero,
+              (
+                ap (λ (l : List ℕ). in-turn l (drop (k + 1) xs)) (c .leave .ensures) ∙ rest-turn xs k (queued (b .turns)) (b .«kept_in_turn»),
+                (
+                  rest-settled xs k (c .args .order) (c .pre .oldest) (c .pre .lasting) (c .pre .clear) (b .uncrossed),
+                  tt,
+                ),
+              ),
+            ),
+          ),
+        ),
+      ),
+    )
 
 pub returns : need.returns
 returns c =
