@@ -23,7 +23,7 @@ use Rattle.lit_book.specs.Lists.{FoundOrder, order-held, order-in, order-numbe
 use Rattle.lit_book.specs.Rules.{Lit, altered, amended, entered, goes-back, order-under}
 
 -- the order that is found at a place, as a whole
-in-at : (xs : List Order) (i n : ℕ) (y : Order) → FoundOrder xs n (Some i) → y ≡ getD xs i y → order-in xs n ≡ Some y
+pub in-at : (xs : List Order) (i n : ℕ) (y : Order) → FoundOrder xs n (Some i) → y ≡ getD xs i y → order-in xs n ≡ Some y
 in-at [] i n y f read = absurd (let l = f .0 in let z : ⊥ = omega arith in z)
 in-at (x ∷ xs) zero n y f read = cond-true (eqb n (x .number)) _ _ (eq-eqb n (x .number) (sym (f .2 x))) ∙ ap Some (sym read)
 in-at (x ∷ xs) (suc i) n y f read =

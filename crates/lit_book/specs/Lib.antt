@@ -4,3 +4,4 @@ pub mod Rules
 pub mod Turns
 pub mod Books
 pub mod Steps
+pub mod Laws

@@ -9,6 +9,7 @@ ghost use Rattle.std.specs.Vec.{made};
 ghost use Rattle.std.specs.declared.option.Option.the-variants.{None};
 ghost use Rattle.matching.specs.Meaning.{Allowed, amend-refusal, cancel-refusal, closed, enter-refusal, happened, opened, resized};
 ghost use Rattle.lit_book.specs.Books.{lit, lit-meaning};
+ghost use Rattle.lit_book.specs.Laws.{Enough, Fair, Idle, Served, Uncrossed, Worked, open-orders};
 ghost use Rattle.lit_book.specs.Rules.{Lit, altered, amended, entered, next, order-of, order-under};
 use crate::book::LitBook;
 use crate::order::Order;
@@ -36,6 +37,14 @@ impl LitBook {
             resting: 0,
             turns: Turns::new(),
         })
+    }
+
+    // How many events come at most before there is none: each leaves fewer orders open.
+    pub fn most_events(&self) -> usize
+        ensures count { λ r. ⌜ r ≡ open-orders (lit (now (self .entry))) ⌝ }
+        ensures enough { λ r. ⌜ Enough r (lit (now (self .entry))) ⌝ }
+    {
+        self.orders.len()
     }
 
     // The orders at rest, the first to rest first.
@@ -119,6 +128,10 @@ pub impl Matcher for LitBook as LitBookMatcher {
         ensures after { λ r. ⌜ lit-meaning (now (self .exit)) ≡ happened (lit-meaning (now (self .entry))) r ⌝ }
         ensures event { λ r. ⌜ r ≡ next (lit (now (self .entry))) .0 ⌝ }
         ensures lists { λ _. ⌜ lit (now (self .exit)) ≡ next (lit (now (self .entry))) .1 ⌝ }
+        ensures fair { λ r. ⌜ Fair (lit (now (self .entry))) r ⌝ }
+        ensures served { λ r. ⌜ Served (lit (now (self .entry))) r (lit (now (self .exit))) ⌝ }
+        ensures uncrossed { λ _. ⌜ Uncrossed (lit (now (self .exit)) .resting) ⌝ }
+        ensures idle { λ r. ⌜ Idle r (lit (now (self .exit))) ⌝ }
     {
         self.step()
     }
@@ -144,4 +157,11 @@ pub impl Matcher for LitBook as LitBookMatcher {
             Book::Integrated => true,
         }
     }
+}
+
+// The worked example of the rules: sells of 50 at 101 and 50 at 100, then a buy of 80 at 101, trade 50 at 100 and 30 at 101.
+pub fn example_stands() -> bool
+    ensures { λ _. ⌜ Worked ⌝ }
+{
+    true
 }
