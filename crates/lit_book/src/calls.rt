@@ -27,9 +27,10 @@ use std::alloc::Global;
 const CAPACITY: usize = 256;
 
 impl LitBook {
-    // An empty book, with memory for all the orders that it can hold.
+    // An empty book, with memory for all the orders that it can hold. The rules that it follows give the worked example.
     pub fn new(heap: Global) -> Result<LitBook, AllocError>
-        ensures { λ r. ⌜ made r (λ b. lit b ≡ record { resting = []; waiting = [] }) ⌝ }
+        ensures empty { λ r. ⌜ made r (λ b. lit b ≡ record { resting = []; waiting = [] }) ⌝ }
+        ensures example { λ _. ⌜ Worked ⌝ }
     {
         let orders = Vec::with_capacity(heap, CAPACITY)?;
         Ok(LitBook {
@@ -44,7 +45,7 @@ impl LitBook {
         ensures count { λ r. ⌜ r ≡ open-orders (lit (now (self .entry))) ⌝ }
         ensures enough { λ r. ⌜ Enough r (lit (now (self .entry))) ⌝ }
     {
-        self.orders.len()
+        self.events_bound()
     }
 
     // The orders at rest, the first to rest first.
@@ -157,11 +158,4 @@ pub impl Matcher for LitBook as LitBookMatcher {
             Book::Integrated => true,
         }
     }
-}
-
-// The worked example of the rules: sells of 50 at 101 and 50 at 100, then a buy of 80 at 101, trade 50 at 100 and 30 at 101.
-pub fn example_stands() -> bool
-    ensures { λ _. ⌜ Worked ⌝ }
-{
-    true
 }

@@ -11,6 +11,7 @@ ghost use Rattle.std.specs.Options.{isSome};
 ghost use Rattle.std.specs.declared.option.Option.the-variants.{None, Some};
 ghost use Rattle.matching.specs.Meaning.{closed, opened, resized};
 ghost use Rattle.lit_book.specs.Books.{lit, lit-meaning, table};
+ghost use Rattle.lit_book.specs.Laws.{Enough, open-orders};
 ghost use Rattle.lit_book.specs.Lists.{FoundOrder, best, order-held};
 ghost use Rattle.lit_book.specs.Orders.{rests};
 ghost use Rattle.lit_book.specs.Rules.{altered, entered};
@@ -30,6 +31,14 @@ impl LitBook {
             }
         }
         None
+    }
+
+    // How many orders are open, which is how many events can come.
+    pub(crate) fn events_bound(&self) -> usize
+        ensures count { λ r. ⌜ r ≡ open-orders (lit (now (self .entry))) ⌝ }
+        ensures enough { λ r. ⌜ Enough r (lit (now (self .entry))) ⌝ }
+    {
+        self.orders.len()
     }
 
     // What is open under the number of the order at a place.

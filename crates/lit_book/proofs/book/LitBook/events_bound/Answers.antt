@@ -5,7 +5,7 @@ use Rattle.std.proofs.shelf.Lists.{length-drop, length-take-le}
 use Rattle.lit_book.specs.Books.{lit}
 use Rattle.lit_book.specs.Laws.{open-orders}
 use Rattle.lit_book.proofs.Ends.{enough}
-use Rattle.lit_book.proofs.book.LitBook.most_events.Needs as need
+use Rattle.lit_book.proofs.book.LitBook.events_bound.Needs as need
 
 pub returns : need.returns
 returns c =
