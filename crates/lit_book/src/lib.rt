@@ -5,3 +5,5 @@ pub mod order;
 mod rules;
 mod table;
 mod turns;
+
+pub use calls::LitBookMatcher;

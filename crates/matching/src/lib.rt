@@ -4,3 +4,5 @@ pub mod tape;
 mod tape_calls;
 mod tape_rows;
 pub mod terms;
+
+pub use tape_calls::TapeMatcher;
