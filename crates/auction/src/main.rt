@@ -13,7 +13,12 @@ use std::io;
 use std::io::BufRead;
 use std::io::BufReader;
 
-fn answer(rt: &LibcRuntime, account: &mut Account, done: &str, result: Result<(), Refusal>) -> io::Result<()> {
+fn answer(
+    rt: &LibcRuntime,
+    account: &mut Account,
+    done: &str,
+    result: Result<(), Refusal>,
+) -> io::Result<()> {
     account.call(result);
     match result {
         Ok(()) => println!(rt, "{done}"),
@@ -46,7 +51,12 @@ fn show(rt: &LibcRuntime, book: &LitBook) -> io::Result<()> {
     println!(rt, "waiting: {waiting}")
 }
 
-fn obey(rt: &LibcRuntime, account: &mut Account, book: &mut LitBook, order: Command) -> io::Result<()> {
+fn obey(
+    rt: &LibcRuntime,
+    account: &mut Account,
+    book: &mut LitBook,
+    order: Command,
+) -> io::Result<()> {
     match order {
         Command::Enter(number, terms) => {
             let result = book.enter(number, terms);

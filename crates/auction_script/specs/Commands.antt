@@ -1,8 +1,11 @@
 -- What the words of a call say: a command whose parts are those words, or the word that cannot be read. Assumes nothing.
 use mathlib.Core.Path.{_≡_}
-use mathlib.Core.List.{List}
+use mathlib.Core.List.{List, [], _∷_}
+use mathlib.Core.Logic.{_⊎_}
+use denote.Ref.{RefT}
 use Prim.Native.Nat.{ℕ}
 use lib.Chars.{codes}
+use lib.ListN.{getD, length}
 use Rattle.std.specs.declared.option.Option.the-variants.{Some, None}
 use Rattle.std.specs.declared.result.Result.{Result}
 use Rattle.std.specs.declared.result.Result.the-variants.{Ok, Err}
@@ -15,14 +18,6 @@ use Rattle.auction_script.specs.declared.command.Misread.{Misread}
 use Rattle.auction_script.specs.declared.command.Misread.the-variants.{Call, Number, Instrument, Side, OrderType, TimeInForce, Price, Quantity}
 use Rattle.auction_script.specs.declared.words.Kind.the-variants.{AtMarket, AtLimit}
 use Rattle.auction_script.specs.Words.{ForceWord, KindWord, NumberWord, PriceWord, SideWord}
-
--- how many words a command has
-abbrev pub word-count : Command → ℕ
-word-count (Enter n t) = 8
-word-count (Cancel n) = 2
-word-count (Amend n q p) = 4
-word-count Run = 1
-word-count Show = 1
 
 abbrev pub BareRead : List ℕ → Result Command Misread → Type 0
 BareRead w (Ok (Enter n t)) = ⊥
@@ -83,3 +78,24 @@ EnterRead n i s k f p q (Ok (Amend m r z)) = ⊥
 EnterRead n i s k f p q (Ok Run) = ⊥
 EnterRead n i s k f p q (Ok Show) = ⊥
 EnterRead n i s k f p q (Err e) = EnterWrong n i s k f p q e
+
+-- ---- a whole line
+
+-- the text of a line's word, the first at 0
+abbrev pub word : List (RefT (List ℕ)) → ℕ → List ℕ
+word ws k = getD ws k (record { ptr = (0, 0); name = 0; now = [] }) .now
+
+-- a call by its name, or none of this name
+abbrev pub Named : List ℕ → List ℕ → Type 0 → Result Command Misread → Type 0
+Named w name Read r = ((w ≡ name) × Read) ⊎ ((w ≡ name → ⊥) × (r ≡ Err Call))
+
+abbrev pub EnterLine : List (RefT (List ℕ)) → Result Command Misread → Type 0
+EnterLine ws r = EnterRead (word ws 1) (word ws 2) (word ws 3) (word ws 4) (word ws 5) (word ws 6) (word ws 7) r
+
+-- a line by the number of its words, and by its first one; any other is no call
+pub record LineRead (ws : List (RefT (List ℕ))) (r : Result Command Misread) : Type 0 where
+  pub one : length ws ≡ 1 → BareRead (word ws 0) r
+  pub two : length ws ≡ 2 → Named (word ws 0) (codes "cancel") (CancelRead (word ws 1) r) r
+  pub four : length ws ≡ 4 → Named (word ws 0) (codes "amend") (AmendRead (word ws 1) (word ws 2) (word ws 3) r) r
+  pub eight : length ws ≡ 8 → Named (word ws 0) (codes "enter") (EnterLine ws r) r
+  pub other : (length ws ≡ 1 → ⊥) → (length ws ≡ 2 → ⊥) → (length ws ≡ 4 → ⊥) → (length ws ≡ 8 → ⊥) → r ≡ Err Call

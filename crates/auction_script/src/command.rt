@@ -1,8 +1,8 @@
 // One line of a script as a command.
+ghost use lib.Chars.{codes};
 ghost use lib.ListN.{length};
 ghost use mathlib.Core.Path.{_≡_};
-ghost use Rattle.std.specs.Vec.{made};
-ghost use Rattle.auction_script.specs.Commands.{AmendRead, BareRead, CancelRead, EnterRead, word-count};
+ghost use Rattle.auction_script.specs.Commands.{AmendRead, BareRead, CancelRead, EnterLine, EnterRead, LineRead, Named, word};
 use crate::words;
 use crate::words::Kind;
 use matching::terms::Book;
@@ -36,7 +36,15 @@ pub enum Misread {
 
 // The words after `enter`: NUMBER INSTRUMENT buy|sell market|limit day|ioc PRICE QTY. A market order's price is read and
 // not kept.
-pub fn enter(number: &str, instrument: &str, side: &str, kind: &str, force: &str, price: &str, quantity: &str) -> Result<Command, Misread>
+fn enter(
+    number: &str,
+    instrument: &str,
+    side: &str,
+    kind: &str,
+    force: &str,
+    price: &str,
+    quantity: &str,
+) -> Result<Command, Misread>
     ensures { λ r. ⌜ EnterRead (now (number .entry)) (now (instrument .entry)) (now (side .entry)) (now (kind .entry)) (now (force .entry)) (now (price .entry)) (now (quantity .entry)) r ⌝ }
 {
     let Some(number) = words::number(number) else {
@@ -77,20 +85,26 @@ pub fn enter(number: &str, instrument: &str, side: &str, kind: &str, force: &str
     ))
 }
 
-// The word after `cancel`: NUMBER.
-pub fn cancel(number: &str) -> Result<Command, Misread>
-    ensures { λ r. ⌜ CancelRead (now (number .entry)) r ⌝ }
+// `cancel NUMBER`.
+fn cancel(name: &str, number: &str) -> Result<Command, Misread>
+    ensures { λ r. ⌜ Named (now (name .entry)) (codes "cancel") (CancelRead (now (number .entry)) r) r ⌝ }
 {
+    if name != "cancel" {
+        return Err(Misread::Call);
+    }
     match words::number(number) {
         Some(number) => Ok(Command::Cancel(number)),
         None => Err(Misread::Number),
     }
 }
 
-// The words after `amend`: NUMBER QTY PRICE.
-pub fn amend(number: &str, quantity: &str, price: &str) -> Result<Command, Misread>
-    ensures { λ r. ⌜ AmendRead (now (number .entry)) (now (quantity .entry)) (now (price .entry)) r ⌝ }
+// `amend NUMBER QTY PRICE`.
+fn amend(name: &str, number: &str, quantity: &str, price: &str) -> Result<Command, Misread>
+    ensures { λ r. ⌜ Named (now (name .entry)) (codes "amend") (AmendRead (now (number .entry)) (now (quantity .entry)) (now (price .entry)) r) r ⌝ }
 {
+    if name != "amend" {
+        return Err(Misread::Call);
+    }
     let Some(number) = words::number(number) else {
         return Err(Misread::Number);
     };
@@ -104,7 +118,7 @@ pub fn amend(number: &str, quantity: &str, price: &str) -> Result<Command, Misre
 }
 
 // A call of one word: `run` or `book`.
-pub fn bare(name: &str) -> Result<Command, Misread>
+fn bare(name: &str) -> Result<Command, Misread>
     ensures { λ r. ⌜ BareRead (now (name .entry)) r ⌝ }
 {
     if name == "run" {
@@ -116,17 +130,34 @@ pub fn bare(name: &str) -> Result<Command, Misread>
     Err(Misread::Call)
 }
 
+// A line of eight words: `enter` and seven more.
+fn entry(line: &[&str]) -> Result<Command, Misread>
+    requires { ⌜ length (now line) ≡ 8 ⌝ }
+    ensures { λ r. ⌜ Named (word (now (line .entry)) 0) (codes "enter") (EnterLine (now (line .entry)) r) r ⌝ }
+{
+    if line[0] != "enter" {
+        return Err(Misread::Call);
+    }
+    enter(
+        line[1],
+        line[2],
+        line[3],
+        line[4],
+        line[5],
+        line[6],
+        line[7],
+    )
+}
+
 // The command of a line's words.
 pub fn read(line: &[&str]) -> Result<Command, Misread>
-    ensures { λ r. ⌜ made r (λ c. length (now (line .entry)) ≡ word-count c) ⌝ }
+    ensures { λ r. ⌜ LineRead (now (line .entry)) r ⌝ }
 {
-    match line {
-        [name] => bare(name),
-        [name, number] if *name == "cancel" => cancel(number),
-        [name, number, quantity, price] if *name == "amend" => amend(number, quantity, price),
-        [name, number, instrument, side, kind, force, price, quantity] if *name == "enter" => {
-            enter(number, instrument, side, kind, force, price, quantity)
-        }
+    match line.len() {
+        1 => bare(line[0]),
+        2 => cancel(line[0], line[1]),
+        4 => amend(line[0], line[1], line[2], line[3]),
+        8 => entry(line),
         _ => Err(Misread::Call),
     }
 }

@@ -56,7 +56,13 @@ pub fn event(heap: Global, event: Event) -> Result<String, AllocError>
     }
 }
 
-fn trade(heap: Global, passive: Option<u64>, aggressive: Option<u64>, quantity: u32, price: i64) -> Result<String, AllocError>
+fn trade(
+    heap: Global,
+    passive: Option<u64>,
+    aggressive: Option<u64>,
+    quantity: u32,
+    price: i64,
+) -> Result<String, AllocError>
     ensures { λ r. ⌜ made r (λ s. string-bytes s ≡ trade-text (party-text passive) (party-text aggressive) quantity price) ⌝ }
 {
     let maker = party(heap, passive)?;
@@ -65,7 +71,13 @@ fn trade(heap: Global, passive: Option<u64>, aggressive: Option<u64>, quantity: 
 }
 
 // A trade between two orders.
-fn between(heap: Global, maker: &str, taker: &str, quantity: u32, price: i64) -> Result<String, AllocError>
+fn between(
+    heap: Global,
+    maker: &str,
+    taker: &str,
+    quantity: u32,
+    price: i64,
+) -> Result<String, AllocError>
     ensures { λ r. ⌜ made r (λ s. string-bytes s ≡ trade-text (now (maker .entry)) (now (taker .entry)) quantity price) ⌝ }
 {
     format!(heap, "trade {quantity} at {price}: {taker} with {maker}")
