@@ -6,7 +6,7 @@ ghost use Rattle.std.specs.Of.Vec.{vec-cap, vec-items, vec-len};
 ghost use Rattle.matching.specs.TapeRows.{all-apart};
 
 // One trade to play.
-#[derive(Clone, Copy, PartialEq, Eq, Debug)]
+#[derive(Clone, Copy)]
 pub struct Line {
     pub number: u64,
     pub quantity: u32,

@@ -1,12 +1,12 @@
 // What an order asks for, in a matching engine's own terms.
 
-#[derive(Clone, Copy, PartialEq, Eq, Debug)]
+#[derive(Clone, Copy, PartialEq, Eq)]
 pub enum Side {
     Buy,
     Sell,
 }
 
-#[derive(Clone, Copy, PartialEq, Eq, Debug)]
+#[derive(Clone, Copy)]
 pub enum OrderType {
     // at any price
     Market,
@@ -14,7 +14,7 @@ pub enum OrderType {
     Limit(i64),
 }
 
-#[derive(Clone, Copy, PartialEq, Eq, Debug)]
+#[derive(Clone, Copy, PartialEq, Eq)]
 pub enum TimeInForce {
     // what does not trade at once waits for the rest of the day
     Day,
@@ -23,13 +23,13 @@ pub enum TimeInForce {
 }
 
 // The order book that an order is meant for.
-#[derive(Clone, Copy, PartialEq, Eq, Debug)]
+#[derive(Clone, Copy, PartialEq, Eq)]
 pub enum Book {
     DarkMidpoint,
     Integrated,
 }
 
-#[derive(Clone, Copy, PartialEq, Eq, Debug)]
+#[derive(Clone, Copy)]
 pub struct Terms {
     pub instrument: u8,
     pub side: Side,
