@@ -7,6 +7,7 @@ use lib.ListN.{replicate}
 use Rattle.std.specs.declared.option.Option.the-variants.{Some, None}
 use Rattle.std.specs.declared.result.Result.the-variants.{Ok}
 use Rattle.texts.specs.Identifiers.{orderId, executionId}
+use Rattle.lit_book.specs.Laws.{Worked}
 use Rattle.wire.specs.declared.kinds.Channel.the-variants.{RealTime}
 use Rattle.wire.specs.declared.kinds.Kind.the-variants.{Heartbeat}
 use Rattle.wire.specs.Messages.{opening, verdict}
@@ -31,3 +32,5 @@ Examples =
     -- a request may name any order below 2 ^ 64, and nothing beyond
     × (verdict RealTime (cancelOf (codes "O0000000000A")) ≡ None)
     × (verdict RealTime (cancelOf (codes "Ozzzzzzzzzzz")) ≡ Some (5, 44))
+    -- in the lit book, sells of 50 at 101 and 50 at 100 meet a buy of 80 at 101
+    × Worked

@@ -8,4 +8,4 @@ use Rattle.examples.proofs.examples_hold.Needs as need
 
 pub returns : need.returns
 unfolding opening takes totalOf firstBad taken isOrder isText named base62
-returns c = (refl, refl, refl, refl, refl, refl, refl, refl, refl)
+returns c = (refl, refl, refl, refl, refl, refl, refl, refl, refl, (refl, refl, refl))
