@@ -4,5 +4,4 @@ ghost use Rattle.examples.specs.Examples.{Examples};
 // It gives nothing: its contract is the theorem.
 pub fn examples_hold()
     ensures { λ _. ⌜ Examples ⌝ }
-{
-}
+{}

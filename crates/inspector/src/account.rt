@@ -130,7 +130,10 @@ impl Account {
         let lines = self.lines;
         let read = self.read;
         let same = self.same_again;
-        write!(out, "{lines} lines: {read} read ({same} come out the same when written again), ")
+        write!(
+            out,
+            "{lines} lines: {read} read ({same} come out the same when written again), "
+        )
     }
 
     fn show_first_rules(&self, out: &mut String) -> fmt::Result
@@ -139,7 +142,10 @@ impl Account {
         let refused = self.refused;
         let first = self.rule_1;
         let second = self.rule_2;
-        write!(out, "{refused} refused (rule 1: {first}, rule 2: {second}, ")
+        write!(
+            out,
+            "{refused} refused (rule 1: {first}, rule 2: {second}, "
+        )
     }
 
     fn show_last_rules(&self, out: &mut String) -> fmt::Result

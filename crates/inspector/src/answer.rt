@@ -17,14 +17,14 @@ use crate::line::Unclear;
 use crate::line::is_text;
 use crate::line::parse;
 use crate::shown::show_line;
+use layout::field::Fault;
+use layout::value::Value;
 use std::alloc::AllocError;
 use std::alloc::Global;
-use layout::field::Fault;
 use wire::kinds::Channel;
 use wire::message::OwnedMessage;
 use wire::message::read;
 use wire::message::write;
-use layout::value::Value;
 
 // The text to print for a line, and how the line counts.
 #[derive(Drop)]
@@ -37,7 +37,8 @@ fn sentence(why: Unclear) -> &'static str
     ensures { λ r. ⌜ now r ≡ sentenceOf why ⌝ }
 {
     match why {
-        Unclear::UnknownReader => "not understood: the reader is none of real-time, recovery and follower",
+        Unclear::UnknownReader =>
+            "not understood: the reader is none of real-time, recovery and follower",
         Unclear::NoBytes => "not understood: no bytes are given; a message of none is written -",
         Unclear::MoreWords => "not understood: there are more words than a reader and its bytes",
         Unclear::NotHex => "not understood: one of the characters is no hex digit",
@@ -92,13 +93,19 @@ fn answer_message(heap: Global, channel: Channel, bytes: &[u8]) -> Result<Answer
     ensures { λ r. ⌜ made r (λ a. AnswersRead channel (now (bytes .entry)) a) ⌝ }
 {
     match read(channel, bytes) {
-        Err(fault) => Ok(Answer { text: refusal(heap, fault)?, outcome: Outcome::Refused(fault.rule) }),
+        Err(fault) => Ok(Answer {
+            text: refusal(heap, fault)?,
+            outcome: Outcome::Refused(fault.rule),
+        }),
         Ok(message) => {
             let Some(kept) = message.keep() else {
                 return Err(Failure::NotKept);
             };
             let outcome = Outcome::Read(is_same_again(&kept, bytes));
-            Ok(Answer { text: render(heap, &kept)?, outcome })
+            Ok(Answer {
+                text: render(heap, &kept)?,
+                outcome,
+            })
         }
     }
 }
@@ -111,7 +118,10 @@ pub fn answer_to(heap: Global, line: &[u8]) -> Result<Option<Answer>, Failure>
         Line::Skipped => Ok(None),
         Line::Unclear(why) => {
             let text = String::from_str(heap, sentence(why))?;
-            Ok(Some(Answer { text, outcome: Outcome::NotUnderstood }))
+            Ok(Some(Answer {
+                text,
+                outcome: Outcome::NotUnderstood,
+            }))
         }
         Line::Message(channel, bytes) => Ok(Some(answer_message(heap, channel, bytes.as_slice())?)),
     }

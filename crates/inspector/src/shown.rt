@@ -8,10 +8,10 @@ ghost use Rattle.inspector.specs.Shown.{fieldsText, lineText};
 use crate::labels::names;
 use crate::labels::title;
 use crate::values::show_field;
+use layout::value::Value;
 use std::alloc::Global;
 use std::fmt;
 use wire::kinds::Kind;
-use layout::value::Value;
 
 fn show_fields(out: &mut String, names: &[&str], values: &[Value<'_>]) -> fmt::Result
     ensures { λ r. ⌜ made r (λ _. string-bytes (now (out .exit)) ≡ string-bytes (now (out .entry)) ++ fieldsText (spelt (now (names .entry))) (now (values .entry))) ⌝ }

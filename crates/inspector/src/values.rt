@@ -8,11 +8,11 @@ ghost use Rattle.std.specs.Vec.{made};
 ghost use Rattle.std.specs.Options.{mapped};
 ghost use Rattle.std.specs.Written.{decimal};
 ghost use Rattle.inspector.specs.Shown.{hexGlyph, quoted, four, amount, priceText, alphaText, orderText, valueText, isReserved, fieldText};
+use layout::value::Value;
 use std::fmt;
 use texts::identifiers::OrderId;
 use texts::values::Price;
 use texts::values::Time;
-use layout::value::Value;
 
 // Each byte as the character of its number.
 fn show_bytes(out: &mut String, bytes: &[u8]) -> fmt::Result

@@ -131,6 +131,25 @@ fn read_kind<'a>(channel: Channel, bytes: &'a [u8]) -> Result<Message<'a>, Fault
     }
 }
 
+// A message of any kind, with what writing makes of it again.
+fn read_again<'a>(channel: Channel, bytes: &'a [u8]) -> Result<Message<'a>, Fault>
+    ensures checks { λ r. ⌜ WasRead channel (now (bytes .entry)) r ⌝ }
+    ensures again { λ r. ⌜ Cases r (λ m. Again (now (bytes .entry)) m) (λ _. Unit {0}) ⌝ }
+{
+    match read_kind(channel, bytes) {
+        Ok(message) => Ok(message),
+        Err(fault) => Err(fault),
+    }
+}
+
+// Reads one message, or says which check is the first to fail, and where.
+pub fn read<'a>(channel: Channel, bytes: &'a [u8]) -> Result<Message<'a>, Fault>
+    ensures checks { λ r. ⌜ WasRead channel (now (bytes .entry)) r ⌝ }
+    ensures again { λ r. ⌜ Cases r (λ m. Again (now (bytes .entry)) m) (λ _. Unit {0}) ⌝ }
+{
+    read_again(channel, bytes)
+}
+
 // A buffer that is too short for a message, which needs this many bytes.
 #[derive(Clone, Copy, Debug, PartialEq)]
 pub struct TooShort {
@@ -161,25 +180,6 @@ fn write_kind(message: &OwnedMessage, out: &mut [u8])
         OwnedMessage::OrderCancelReject(m) => write_order_cancel_reject(m, out),
         OwnedMessage::OrderMassCancelReport(m) => write_order_mass_cancel_report(m, out),
     }
-}
-
-// The same, with what writing makes of it again.
-fn read_again<'a>(channel: Channel, bytes: &'a [u8]) -> Result<Message<'a>, Fault>
-    ensures checks { λ r. ⌜ WasRead channel (now (bytes .entry)) r ⌝ }
-    ensures again { λ r. ⌜ Cases r (λ m. Again (now (bytes .entry)) m) (λ _. Unit {0}) ⌝ }
-{
-    match read_kind(channel, bytes) {
-        Ok(message) => Ok(message),
-        Err(fault) => Err(fault),
-    }
-}
-
-// Reads one message, or says which check is the first to fail, and where.
-pub fn read<'a>(channel: Channel, bytes: &'a [u8]) -> Result<Message<'a>, Fault>
-    ensures checks { λ r. ⌜ WasRead channel (now (bytes .entry)) r ⌝ }
-    ensures again { λ r. ⌜ Cases r (λ m. Again (now (bytes .entry)) m) (λ _. Unit {0}) ⌝ }
-{
-    read_again(channel, bytes)
 }
 
 // Writes a message in its one form to the front of a buffer; the bytes past it stay.
