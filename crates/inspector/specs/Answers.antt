@@ -26,7 +26,6 @@ sentenceOf why.NoBytes = codes "not understood: no bytes are given; a message of
 sentenceOf why.MoreWords = codes "not understood: there are more words than a reader and its bytes"
 sentenceOf why.NotHex = codes "not understood: one of the characters is no hex digit"
 sentenceOf why.OddDigits = codes "not understood: the number of hex digits is odd"
-sentenceOf why.TooLong = codes "not understood: there are more than 512 bytes"
 
 abbrev pub refusedText : ℕ → ℕ → List ℕ
 refusedText rule offset = codes "refused " ++ (decimal rule ++ (codes " at " ++ decimal offset))

@@ -40,13 +40,12 @@ readerOf w =
     cond (sameBytes w (codes "real-time")) (Some channel.RealTime) (cond (sameBytes w (codes "recovery")) (Some channel.Recovery)
     (cond (sameBytes w (codes "follower")) (Some channel.Follower) None))
 
--- what a word says as the bytes of a message: - for none, or pairs of hex digits, of at most 512 bytes
+-- what a word says as the bytes of a message: - for none, or pairs of hex digits
 abbrev pub bytesGiven : Channel → List ℕ → Given
 bytesGiven ch w =
     cond (sameBytes w (codes "-")) (message ch [])
     (cond (ltb (leading (inClass class.Hex) w) (length w)) (unclear why.NotHex)
-    (cond (eqb (length w % 2) 1) (unclear why.OddDigits)
-    (cond (ltb 1024 (length w)) (unclear why.TooLong) (message ch (hexBytes w)))))
+    (cond (eqb (length w % 2) 1) (unclear why.OddDigits) (message ch (hexBytes w))))
 
 abbrev pub emptyWord : List ℕ → Bool
 emptyWord w = eqb (length w) 0

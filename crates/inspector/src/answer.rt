@@ -42,7 +42,6 @@ fn sentence(why: Unclear) -> &'static str
         Unclear::MoreWords => "not understood: there are more words than a reader and its bytes",
         Unclear::NotHex => "not understood: one of the characters is no hex digit",
         Unclear::OddDigits => "not understood: the number of hex digits is odd",
-        Unclear::TooLong => "not understood: there are more than 512 bytes",
     }
 }
 

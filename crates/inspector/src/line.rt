@@ -18,7 +18,6 @@ pub enum Unclear {
     MoreWords,
     NotHex,
     OddDigits,
-    TooLong,
 }
 
 #[derive(Drop)]
@@ -68,9 +67,6 @@ fn bytes_of(heap: Global, channel: Channel, digits: &[u8]) -> Result<Line, Alloc
     }
     if n % 2 == 1 {
         return Ok(Line::Unclear(Unclear::OddDigits));
-    }
-    if n > 1024 {
-        return Ok(Line::Unclear(Unclear::TooLong));
     }
     Ok(Line::Message(channel, decode(heap, digits)?))
 }

@@ -10,7 +10,7 @@ use crate::field::Form;
 use crate::reader::Reader;
 
 impl Form {
-    pub fn width(self) -> usize
+    pub(crate) fn width(self) -> usize
         ensures { λ r. ⌜ r ≡ wide self ⌝ }
     {
         match self {
@@ -40,7 +40,7 @@ impl Form {
 }
 
 impl Field {
-    pub fn at(self) -> usize
+    pub(crate) fn at(self) -> usize
         ensures { λ r. ⌜ r ≡ place self ⌝ }
     {
         match self {
@@ -48,7 +48,7 @@ impl Field {
         }
     }
 
-    pub fn form(self) -> Form
+    pub(crate) fn form(self) -> Form
         ensures { λ r. ⌜ r ≡ formOf self ⌝ }
     {
         match self {

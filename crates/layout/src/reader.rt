@@ -111,7 +111,7 @@ impl<'a> Reader<'a> {
     }
 
     // Whether a field holds text: printable bytes, and then nothing but nulls.
-    pub fn is_text(&self, at: usize, width: usize) -> bool
+    pub(crate) fn is_text(&self, at: usize, width: usize) -> bool
         requires { ⌜ at + width ≤ length (now (now self .src)) ⌝ }
         ensures { λ r. ⌜ r ≡ isText (part at width (now (now (self .entry) .src))) ⌝ }
     {
@@ -122,7 +122,7 @@ impl<'a> Reader<'a> {
     }
 
     // Whether the text of a field is not empty.
-    pub fn is_named(&self, at: usize, width: usize) -> bool
+    pub(crate) fn is_named(&self, at: usize, width: usize) -> bool
         requires { ⌜ at + width ≤ length (now (now self .src)) ⌝ }
         ensures { λ r. ⌜ r ≡ named (part at width (now (now (self .entry) .src))) ⌝ }
     {
@@ -146,7 +146,7 @@ impl<'a> Reader<'a> {
     }
 
     // Whether a field holds an order's identifier, or null.
-    pub fn is_order(&self, at: usize) -> bool
+    pub(crate) fn is_order(&self, at: usize) -> bool
         requires { ⌜ at + 12 ≤ length (now (now self .src)) ⌝ }
         ensures { λ r. ⌜ r ≡ isOrder (part at 12 (now (now (self .entry) .src))) ⌝ }
     {

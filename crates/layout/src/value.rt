@@ -66,7 +66,7 @@ impl<'a> Value<'a> {
         }
     }
 
-    pub fn words(&self) -> &'a [u8]
+    pub(crate) fn words(&self) -> &'a [u8]
         ensures { λ r. ⌜ now r ≡ wordsOf (meant (now (self .entry))) ⌝ }
     {
         match *self {
@@ -75,7 +75,7 @@ impl<'a> Value<'a> {
         }
     }
 
-    pub fn order(&self) -> Option<OrderId>
+    pub(crate) fn order(&self) -> Option<OrderId>
         ensures { λ r. ⌜ mapped (λ i. i .number) r ≡ orderOf (meant (now (self .entry))) ⌝ }
     {
         match *self {
@@ -84,7 +84,7 @@ impl<'a> Value<'a> {
         }
     }
 
-    pub fn figure(&self) -> u64
+    pub(crate) fn figure(&self) -> u64
         ensures { λ r. ⌜ r ≡ figureOf (meant (now (self .entry))) ⌝ }
     {
         match *self {
@@ -94,7 +94,7 @@ impl<'a> Value<'a> {
         }
     }
 
-    pub fn int8(&self) -> i8
+    pub(crate) fn int8(&self) -> i8
         ensures { λ r. ⌜ r ≡ int8Of (meant (now (self .entry))) ⌝ }
     {
         match *self {
@@ -103,7 +103,7 @@ impl<'a> Value<'a> {
         }
     }
 
-    pub fn int32(&self) -> i32
+    pub(crate) fn int32(&self) -> i32
         ensures { λ r. ⌜ r ≡ int32Of (meant (now (self .entry))) ⌝ }
     {
         match *self {
@@ -112,7 +112,7 @@ impl<'a> Value<'a> {
         }
     }
 
-    pub fn price(&self) -> i64
+    pub(crate) fn price(&self) -> i64
         ensures { λ r. ⌜ r ≡ priceOf (meant (now (self .entry))) ⌝ }
     {
         match *self {
@@ -121,7 +121,7 @@ impl<'a> Value<'a> {
         }
     }
 
-    pub fn time(&self) -> Time
+    pub(crate) fn time(&self) -> Time
         ensures seconds { λ r. ⌜ r .seconds ≡ secondsOf (meant (now (self .entry))) ⌝ }
         ensures micros { λ r. ⌜ r .microseconds ≡ microsOf (meant (now (self .entry))) ⌝ }
     {
@@ -134,7 +134,7 @@ impl<'a> Value<'a> {
         }
     }
 
-    pub fn is_absent(&self) -> bool
+    pub(crate) fn is_absent(&self) -> bool
         ensures { λ r. ⌜ r ≡ absent (meant (now (self .entry))) ⌝ }
     {
         match *self {

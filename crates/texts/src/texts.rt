@@ -16,8 +16,8 @@ pub fn is_printable(byte: u8) -> bool
     byte >= 0x20 && byte <= 0x7e
 }
 
-// How many bytes at the front are printable: where a field's text ends.
-pub fn text_end(field: &[u8]) -> usize
+// How many bytes at the front are printable.
+fn printable_front(field: &[u8]) -> usize
     ensures value { λ r. ⌜ r ≡ leading printable (now (field .entry)) ⌝ }
     ensures bound { λ r. ⌜ r ≤ length (now (field .entry)) ⌝ }
 {
@@ -26,6 +26,14 @@ pub fn text_end(field: &[u8]) -> usize
         n += 1;
     }
     n
+}
+
+// Where a field's text ends.
+pub fn text_end(field: &[u8]) -> usize
+    ensures value { λ r. ⌜ r ≡ leading printable (now (field .entry)) ⌝ }
+    ensures bound { λ r. ⌜ r ≤ length (now (field .entry)) ⌝ }
+{
+    printable_front(field)
 }
 
 fn all_printable(text: &[u8]) -> bool
@@ -68,7 +76,7 @@ impl<const N: usize> FixedText<N> {
     pub fn empty() -> FixedText<N>
         ensures { λ t. ⌜ t .bytes ≡ replicate N 0 ⌝ }
     {
-        FixedText { bytes: [0; N] }
+        FixedText { bytes: filled(b"") }
     }
 
     // What the text says.

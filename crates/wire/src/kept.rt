@@ -303,6 +303,12 @@ impl OwnedMessage {
     pub fn value(&self, field: usize) -> Option<Value<'_>>
         ensures { λ r. ⌜ Picked (contentsOf (keptOf (now (self .entry)))) field r ⌝ }
     {
+        self.pick(field)
+    }
+
+    fn pick(&self, field: usize) -> Option<Value<'_>>
+        ensures { λ r. ⌜ Picked (contentsOf (keptOf (now (self .entry)))) field r ⌝ }
+    {
         match self {
             OwnedMessage::Logon(m) => nth(&logon_values(m), field),
             OwnedMessage::LogonReply(m) => nth(&logon_reply_values(m), field),
