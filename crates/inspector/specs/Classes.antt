@@ -9,9 +9,9 @@ use Rattle.texts.specs.Bytes.{both}
 use Rattle.inspector.specs.declared.classes.Class.{Class}
 use Rattle.inspector.specs.declared.classes.Class.the-variants as class
 
--- a space, a tab, or a carriage return
+-- a space, a tab, or what ends a line
 abbrev pub blank : ℕ → Bool
-blank b = cond (eqb b 32) true (cond (eqb b 9) true (eqb b 13))
+blank b = cond (eqb b 32) true (cond (eqb b 9) true (cond (eqb b 13) true (eqb b 10)))
 
 -- 0 to 9, A to F, a to f
 abbrev pub hexDigit : ℕ → Bool

@@ -17,8 +17,14 @@ impl Class {
         ensures { λ r. ⌜ r ≡ inClass self byte ⌝ }
     {
         match self {
-            Class::Blank => byte == b' ' || byte == b'\t' || byte == b'\r',
-            Class::Solid => byte != b' ' && byte != b'\t' && byte != b'\r',
+            Class::Blank => match byte {
+                b' ' | b'\t' | b'\r' | b'\n' => true,
+                _ => false,
+            },
+            Class::Solid => match byte {
+                b' ' | b'\t' | b'\r' | b'\n' => false,
+                _ => true,
+            },
             Class::Hex => match byte {
                 b'0'..=b'9' | b'A'..=b'F' | b'a'..=b'f' => true,
                 _ => false,
