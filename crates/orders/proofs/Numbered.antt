@@ -6,7 +6,7 @@ use mathlib.Core.Logic.{_⊎_, inl, inr}
 use Prim.Native.Nat.{ℕ, zero, suc, _+_, _-_, _≤_, _<_}
 use native.Mathlib.Omega.{arith}
 use lib.ListN.{length, getD, set}
-use Rattle.std.proofs.shelf.Maps.{nth-read, nth-past}
+use Rattle.std.proofs.shelf.Maps.{nth-getD, nth-past}
 use Rattle.std.specs.Options.{isSome}
 use Rattle.std.specs.declared.option.Option.{Option}
 use Rattle.std.specs.declared.option.Option.the-variants.{Some, None}
@@ -21,9 +21,12 @@ module _ {X : Type 0} where
   at-none xs len (suc m) e (inl h) = absurd (let no : ⊥ = omega arith in no)
   at-none xs len (suc m) e (inr h) = sym (nth-past xs m (omega arith))
 
+  pub at-getD : (xs : List X) (n i : ℕ) (d : X) → n ≡ i + 1 → i < length xs → at xs n ≡ Some (getD xs i d)
+  at-getD xs zero i d e h = absurd (let no : ⊥ = omega arith in no)
+  at-getD xs (suc m) i d e h = let same : i ≡ m = omega arith in nth-getD xs m d (omega arith) ∙ ap (λ k. Some (getD xs k d)) (sym same)
+
   pub at-read : (xs : List X) (n i : ℕ) (x : X) → n ≡ i + 1 → i < length xs → x ≡ getD xs i x → Some x ≡ at xs n
-  at-read xs zero i x e h read = absurd (let no : ⊥ = omega arith in no)
-  at-read xs (suc m) i x e h read = let same : i ≡ m = omega arith in sym (nth-read xs (length xs) m x refl (omega arith) (subst (λ k. x ≡ getD xs k x) same read))
+  at-read xs n i x e h read = sym (at-getD xs n i x e h ∙ ap Some (sym read))
 
   -- a number that has a row lies within the table
   pub at-within : (xs : List X) (n : ℕ) (x : X) → at xs n ≡ Some x → (0 < n) × (n ≤ length xs)
@@ -31,13 +34,6 @@ module _ {X : Type 0} where
   at-within [] (suc n) x e = none-some x e
   at-within (y ∷ xs) (suc zero) x e = (omega arith, omega arith)
   at-within (y ∷ xs) (suc (suc n)) x e = let h = at-within xs (suc n) x e in (omega arith, omega arith)
-
-  -- and a number within the table has a row
-  pub at-there : (xs : List X) (n : ℕ) → 0 < n → n ≤ length xs → isSome (at xs n) ≡ true
-  at-there xs zero a b = absurd (let no : ⊥ = omega arith in no)
-  at-there [] (suc n) a b = absurd (let no : ⊥ = omega arith in no)
-  at-there (y ∷ xs) (suc zero) a b = refl
-  at-there (y ∷ xs) (suc (suc n)) a b = at-there xs (suc n) (omega arith) (omega arith)
 
   -- one row more
   pub at-push : (xs : List X) (x : X) (n : ℕ) → n ≡ length xs + 1 → at (xs ++ (x ∷ [])) n ≡ Some x

@@ -1,11 +1,10 @@
 -- Rows under their numbers, which count from 1. Assumes nothing.
 use mathlib.Core.Path.{_≡_}
-use mathlib.Core.Logic.{_⊎_}
 use mathlib.Core.Bool.{Bool, true, false, cond, _&&_}
 use mathlib.Core.List.{List, [], _∷_}
 use Prim.Native.Nat.{ℕ, zero, suc, _+_, _<_}
 use lib.Dec.{eqb, ltb}
-use lib.ListN.{set}
+use lib.ListN.{length, getD, set}
 use Rattle.std.specs.Finite.{nth}
 use Rattle.std.specs.shelf.Text.{sameBytes}
 use Rattle.std.specs.declared.option.Option.{Option}
@@ -24,10 +23,10 @@ abbrev pub put : {X : Type 0} → List X → ℕ → X → List X
 put xs zero x = xs
 put xs (suc n) x = set xs n x
 
--- the index of a number in a list of a length, if it has one
-abbrev pub Placed : ℕ → ℕ → Option ℕ → Type 0
-Placed n len None = (n ≡ 0) ⊎ (len < n)
-Placed n len (Some i) = (n ≡ i + 1) × (i < len)
+-- the index of a number, if it has a row: what stands there, and where it is written
+abbrev pub Placed : {X : Type 0} → List X → ℕ → Option ℕ → Type 0
+Placed {X} xs n None = (at xs n ≡ None) × ((x : X) → put xs n x ≡ xs)
+Placed {X} xs n (Some i) = (n ≡ i + 1) × (i < length xs) × ((d : X) → at xs n ≡ Some (getD xs i d)) × ((x : X) → put xs n x ≡ set xs i x)
 
 -- rows that have the numbers from n on, each of which holds an order
 unfoldable pub kept-from : ℕ → List Row → Bool

@@ -1,14 +1,18 @@
 // The order table's calls.
 ghost use mathlib.Core.Path.{_≡_};
+ghost use mathlib.Core.Bool.{true};
 ghost use mathlib.Core.List.{[], _∷_, _++_};
 ghost use Prim.Native.Nat.{ℕ, _+_, _-_, _<_, _≤_};
-ghost use lib.Dec.{ltb};
+ghost use lib.Dec.{eqb, ltb};
 ghost use lib.ListN.{length};
 ghost use Rattle.std.specs.Options.{isSome, mapped};
+ghost use Rattle.std.specs.Of.Vec.{vec-items, vec-len, vec-cap};
 ghost use Rattle.std.specs.Vec.{made};
+ghost use Rattle.std.specs.declared.option.Option.the-variants.{Some};
+ghost use Rattle.std.specs.shelf.Text.{sameBytes};
 ghost use Rattle.texts.specs.Bytes.{said};
 ghost use Rattle.orders.specs.Orders.{rowOf};
-ghost use Rattle.orders.specs.Places.{at, put, open-count, owned, goes-by, latest};
+ghost use Rattle.orders.specs.Places.{at, put, Placed, open-count, owned, goes-by, latest};
 ghost use Rattle.orders.specs.Tables.{rowsOf, add-number, Adds};
 use crate::order::Order;
 use crate::places::place;
@@ -48,19 +52,39 @@ impl Row {
         self.leaves > 0
     }
 
+    fn is_owned(&self, owner: usize) -> bool
+        ensures { λ r. ⌜ r ≡ eqb (now (self .entry) .terms .owner) owner ⌝ }
+    {
+        self.terms.owner == owner
+    }
+
+    fn has_id(&self, client: &[u8]) -> bool
+        ensures { λ r. ⌜ r ≡ sameBytes (said (now (self .entry) .client .bytes)) (now (client .entry)) ⌝ }
+    {
+        self.client.as_bytes() == client
+    }
+
     fn is_known_as(&self, owner: usize, client: &[u8]) -> bool
         ensures { λ r. ⌜ r ≡ goes-by owner (now (client .entry)) (now (self .entry)) ⌝ }
     {
-        self.terms.owner == owner && self.client.as_bytes() == client
+        self.is_owned(owner) && self.has_id(client)
     }
 }
 
 impl Table {
+    fn begin(rows: Vec<Row>) -> Table
+        requires empty { ⌜ vec-items rows ≡ [] ⌝ }
+        requires room { ⌜ 256 ≤ vec-cap rows ⌝ }
+        ensures { λ t. ⌜ rowsOf t ≡ [] ⌝ }
+    {
+        Table { rows }
+    }
+
     pub fn new(heap: Global) -> Result<Table, AllocError>
         ensures { λ r. ⌜ made r (λ t. rowsOf t ≡ []) ⌝ }
     {
         let rows = Vec::with_capacity(heap, ORDERS)?;
-        Ok(Table { rows })
+        Ok(Table::begin(rows))
     }
 
     // How many orders there are: the highest number.
@@ -71,19 +95,22 @@ impl Table {
         self.rows.len() as u64
     }
 
-    fn row(&self, number: u64) -> Option<Row>
-        ensures { λ r. ⌜ r ≡ at (rowsOf (now (self .entry))) number ⌝ }
+    // Every row holds an order.
+    fn order_at(&self, number: u64, row: Row) -> Option<Order>
+        requires { ⌜ at (rowsOf (now self)) number ≡ Some row ⌝ }
+        ensures { λ r. ⌜ mapped rowOf r ≡ Some row ⌝ }
     {
-        let i = place(number, self.rows.len())?;
-        Some(self.rows[i])
+        Order::from_row(row)
     }
 
     // The order of a number.
     pub fn order(&self, number: u64) -> Option<Order>
         ensures { λ r. ⌜ mapped rowOf r ≡ at (rowsOf (now (self .entry))) number ⌝ }
     {
-        let row = self.row(number)?;
-        Order::from_row(row)
+        match place(&self.rows, number) {
+            Some(i) => self.order_at(number, self.rows[i]),
+            None => None,
+        }
     }
 
     // The order of a number, for its owner.
@@ -128,6 +155,14 @@ impl Table {
         n
     }
 
+    fn push(&mut self, order: Order)
+        requires next { ⌜ order .number ≡ length (rowsOf (now self)) + 1 ⌝ }
+        requires room { ⌜ length (rowsOf (now self)) < 256 ⌝ }
+        ensures { λ _. ⌜ rowsOf (now (self .exit)) ≡ rowsOf (now (self .entry)) ++ (rowOf order ∷ []) ⌝ }
+    {
+        self.rows.push_reserved(order.row());
+    }
+
     // Adds an order under the next number.
     pub fn add(&mut self, terms: Terms, ask: Ask) -> Result<Order, AddRefusal>
         ensures { λ r. ⌜ Adds (rowsOf (now (self .entry))) terms ask r (rowsOf (now (self .exit))) ⌝ }
@@ -138,8 +173,17 @@ impl Table {
         if self.rows.len() >= ORDERS {
             return Err(AddRefusal::Full);
         }
-        self.rows.push_reserved(order.row());
+        self.push(order);
         Ok(order)
+    }
+
+    fn put_row(&mut self, index: usize, order: Order)
+        requires { ⌜ Placed (rowsOf (now self)) (order .number) (Some index) ⌝ }
+        ensures there { λ _. ⌜ isSome (at (rowsOf (now (self .entry))) (order .number)) ≡ true ⌝ }
+        ensures rows { λ _. ⌜ rowsOf (now (self .exit)) ≡ put (rowsOf (now (self .entry))) (order .number) (rowOf order) ⌝ }
+        ensures others { λ _. ⌜ ((k : ℕ) → (k ≡ order .number → ⊥) → at (rowsOf (now (self .exit))) k ≡ at (rowsOf (now (self .entry))) k) ⌝ }
+    {
+        self.rows[index] = order.row();
     }
 
     // Writes the whole row of an order; false, and nothing written, where no row has its number.
@@ -148,10 +192,12 @@ impl Table {
         ensures rows { λ _. ⌜ rowsOf (now (self .exit)) ≡ put (rowsOf (now (self .entry))) (order .number) (rowOf order) ⌝ }
         ensures others { λ _. ⌜ ((k : ℕ) → (k ≡ order .number → ⊥) → at (rowsOf (now (self .exit))) k ≡ at (rowsOf (now (self .entry))) k) ⌝ }
     {
-        let Some(i) = place(order.number, self.rows.len()) else {
-            return false;
-        };
-        self.rows[i] = order.row();
-        true
+        match place(&self.rows, order.number) {
+            Some(index) => {
+                self.put_row(index, order);
+                true
+            }
+            None => false,
+        }
     }
 }

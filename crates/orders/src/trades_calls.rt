@@ -53,8 +53,10 @@ impl Trades {
     pub fn trade(&self, number: u64) -> Option<Trade>
         ensures { λ r. ⌜ r ≡ at (tradesOf (now (self .entry))) number ⌝ }
     {
-        let i = place(number, self.trades.len())?;
-        Some(self.trades[i])
+        match place(&self.trades, number) {
+            Some(i) => Some(self.trades[i]),
+            None => None,
+        }
     }
 
     // Adds a trade, and answers its number; none where there are 512.
@@ -72,7 +74,7 @@ impl Trades {
     pub fn cancel(&mut self, number: u64) -> Result<Trade, TradeRefusal>
         ensures { λ r. ⌜ Voids (tradesOf (now (self .entry))) number r (tradesOf (now (self .exit))) ⌝ }
     {
-        let Some(i) = place(number, self.trades.len()) else {
+        let Some(i) = place(&self.trades, number) else {
             return Err(TradeRefusal::Unknown);
         };
         let trade = self.trades[i];

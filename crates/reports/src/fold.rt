@@ -5,8 +5,8 @@ ghost use mathlib.Core.List.{[]};
 ghost use Prim.Native.Nat.{ℕ, _+_, _≤_, _<_};
 ghost use lib.Dec.{eqb};
 ghost use lib.IntN.{pos, _-ℤ_};
-ghost use lib.ListN.{length};
-ghost use Rattle.std.specs.Finite.{nth};
+ghost use lib.ListN.{getD};
+ghost use Rattle.std.specs.Options.{Cases as BySome};
 ghost use Rattle.std.specs.Vec.{made};
 ghost use Rattle.std.specs.declared.option.Option.the-variants.{Some, None};
 ghost use Rattle.reports.specs.Effects.{effect-of};
@@ -154,7 +154,7 @@ impl Standings {
 
     // The known order at an index, in the order in which they were added.
     pub fn get(&self, index: usize) -> Option<Known>
-        ensures { λ r. ⌜ r ≡ nth (knownOf (now (self .entry))) index ⌝ }
+        ensures { λ r. ⌜ BySome r (tableOf (now (self .entry)) .count ≤ index) (λ k. (index < tableOf (now (self .entry)) .count) × (k ≡ getD (knownOf (now (self .entry))) index k)) ⌝ }
     {
         if index < self.rows.len() { Some(self.rows[index]) } else { None }
     }
