@@ -42,7 +42,7 @@ next-step o zero m (y ∷ l) x b h read e = ap (λ (t : Bool). cond t (Some m) (
 next-step o (suc i) m (y ∷ l) x b h read e = next-step o i m l x b (omega arith) read e
 
 -- numbers that begin one higher
-next-shift : (o m : ℕ) (l : List Entry) → next-from o (suc m) l ≡ mapped suc (next-from o m l)
+pub next-shift : (o m : ℕ) (l : List Entry) → next-from o (suc m) l ≡ mapped suc (next-from o m l)
 unfolding next-from
 next-shift o m [] = refl
 next-shift o m (e ∷ l) = either (eqb (e .owner) o) (next-shift o (suc m) l)
