@@ -1,2 +1,3 @@
-pub mod Padding
 pub mod Digits
+pub mod Kept
+pub mod Padding

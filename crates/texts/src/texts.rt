@@ -84,6 +84,13 @@ impl RequestId {
         Some(RequestId { id })
     }
 
+    pub fn as_bytes(&self) -> &[u8]
+        ensures value { λ r. ⌜ now r ≡ said (now (self .entry) .id .bytes) ⌝ }
+        ensures bound { λ r. ⌜ length (now r) ≤ 20 ⌝ }
+    {
+        self.id.as_bytes()
+    }
+
     pub fn text(&self) -> FixedText<20>
         ensures { λ r. ⌜ r ≡ now (self .entry) .id ⌝ }
     {

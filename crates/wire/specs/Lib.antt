@@ -1,4 +1,2 @@
 pub mod Kinds
-pub mod Layout
-pub mod Values
-pub mod Writing
+pub mod Messages

@@ -1,7 +1,4 @@
-// The protocol's messages: read from bytes and written to them.
-pub mod field;
+// Any message of the protocol: read from bytes and written to them.
+pub mod kept;
 pub mod kinds;
-mod layout;
-mod reader;
-mod value;
-mod writer;
+pub mod message;

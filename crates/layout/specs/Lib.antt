@@ -1,0 +1,4 @@
+pub mod Holding
+pub mod Layout
+pub mod Values
+pub mod Writing

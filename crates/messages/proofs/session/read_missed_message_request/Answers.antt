@@ -1,0 +1,15 @@
+use borrow.Author.Needs.{needs}
+use mathlib.Core.Path.{ap, refl}
+use mir.Val.{toZ}
+use mir.Syntax.{w8, w32, w64}
+use Rattle.layout.specs.Layout.Content.{words, order, figure, int8, int32, price}
+use Rattle.messages.proofs.Pair.{_⊹_, blank, clocked, consed}
+use Rattle.messages.proofs.session.read_missed_message_request.Needs as need
+
+pub returns : need.returns
+returns c =
+    (c .in-Continue-check .ensures tt .0,
+    ap (λ n. int8 (toZ w8 n)) (c .i8 .ensures .bits)
+    ⊹ ap figure (c .u32 .ensures)
+    ⊹ tt,
+    refl)

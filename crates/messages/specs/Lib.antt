@@ -1,0 +1,4 @@
+pub mod Reports
+pub mod Requests
+pub mod Session
+pub mod Terms
