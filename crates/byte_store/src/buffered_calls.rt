@@ -1,11 +1,11 @@
 // The calls of the store of bytes.
 ghost use mathlib.Core.Path.{_≡_};
 ghost use mathlib.Core.Bool.{true, false};
-ghost use mathlib.Core.List.{List, map};
+ghost use mathlib.Core.List.{List, [], map};
 ghost use Prim.Native.Nat.{ℕ, _+_, _-_, _≤_, _<_};
 ghost use lib.Dec.{eqb};
 ghost use lib.ListN.{length};
-ghost use Rattle.std.specs.Of.Vec.{vec-items, vec-len};
+ghost use Rattle.std.specs.Of.Vec.{vec-items, vec-len, vec-cap};
 ghost use Rattle.std.specs.Options.{mapped};
 ghost use Rattle.std.specs.Vec.{made};
 ghost use Rattle.reports.specs.Tally.{entry-at};
@@ -25,6 +25,17 @@ use store::Store;
 use store::REPORTS;
 
 impl<C: Codec + Drop> Buffered<C> {
+    fn begin(codec: C, size: usize, buffer: Vec<u8>, one: Vec<Place>, two: Vec<Place>, three: Vec<Place>) -> Buffered<C>
+        requires buffer { ⌜ vec-items buffer ≡ [] ⌝ ∗ ⌜ size ≤ vec-cap buffer ⌝ }
+        requires one { ⌜ vec-items one ≡ [] ⌝ ∗ ⌜ 16384 ≤ vec-cap one ⌝ }
+        requires two { ⌜ vec-items two ≡ [] ⌝ ∗ ⌜ 16384 ≤ vec-cap two ⌝ }
+        requires three { ⌜ vec-items three ≡ [] ⌝ ∗ ⌜ 16384 ≤ vec-cap three ⌝ }
+        ensures kept { λ s. ⌜ kept-in (C·Codec .decoded) s ≡ empty ⌝ }
+        ensures free { λ s. ⌜ free-in s ≡ free-places size 0 0 ⌝ }
+    {
+        Buffered { codec, size, buffer, one, two, three }
+    }
+
     // A store with so many bytes.
     pub fn new(heap: Global, codec: C, size: usize) -> Result<Buffered<C>, AllocError>
         ensures { λ r. ⌜ made r (λ s. (kept-in (C·Codec .decoded) s ≡ empty) × (free-in s ≡ free-places size 0 0)) ⌝ }
@@ -33,7 +44,7 @@ impl<C: Codec + Drop> Buffered<C> {
         let one = Vec::with_capacity(heap, REPORTS)?;
         let two = Vec::with_capacity(heap, REPORTS)?;
         let three = Vec::with_capacity(heap, REPORTS)?;
-        Ok(Buffered { codec, size, buffer, one, two, three })
+        Ok(Buffered::begin(codec, size, buffer, one, two, three))
     }
 }
 
