@@ -1,10 +1,10 @@
 -- Any message: the checks in their order, what a message says, and its one written form. Assumes nothing.
 use mathlib.Core.Path.{_≡_}
-use mathlib.Core.Bool.{cond}
+use mathlib.Core.Bool.{Bool, true, false, cond}
 use mathlib.Core.List.{List, [], _∷_, _++_}
-use Prim.Native.Nat.{ℕ, _+_, _<_}
+use Prim.Native.Nat.{ℕ, _+_, _≤_, _<_}
 use lib.Dec.{ltb, eqb}
-use lib.ListN.{length, drop}
+use lib.ListN.{length, take, drop, replicate}
 use Rattle.std.specs.declared.option.Option.{Option}
 use Rattle.std.specs.declared.option.Option.the-variants.{Some, None}
 use Rattle.std.specs.declared.result.Result.{Result}
@@ -12,6 +12,8 @@ use Rattle.std.specs.declared.result.Result.the-variants.{Ok, Err}
 use Rattle.std.specs.Results.{Cases}
 use Rattle.texts.specs.Bytes.{le}
 use Rattle.layout.specs.declared.field.Fault.{Fault}
+use Rattle.layout.specs.declared.field.Form.{Form}
+use Rattle.layout.specs.declared.field.Form.the-variants as form
 use Rattle.layout.specs.declared.field.Field.{Field}
 use Rattle.wire.specs.declared.kinds.Channel.{Channel}
 use Rattle.wire.specs.declared.kinds.Kind.{Kind}
@@ -20,6 +22,7 @@ use Rattle.wire.specs.declared.message.Message.{Message}
 use Rattle.wire.specs.declared.message.Message.the-variants as message
 use Rattle.wire.specs.declared.message.OwnedMessage.{OwnedMessage}
 use Rattle.wire.specs.declared.message.OwnedMessage.the-variants as owned
+use Rattle.wire.specs.declared.message.TooShort.{TooShort}
 use Rattle.messages.specs.declared.session.Logon.{Logon}
 use Rattle.messages.specs.declared.session.LogonReply.{LogonReply}
 use Rattle.messages.specs.declared.session.Logout.{Logout}
@@ -35,7 +38,7 @@ use Rattle.messages.specs.declared.reports.ExecutionReport.{ExecutionReport}
 use Rattle.messages.specs.declared.reports.OrderCancelReject.{OrderCancelReject}
 use Rattle.messages.specs.declared.reports.OrderMassCancelReport.{OrderMassCancelReport}
 use Rattle.wire.specs.Kinds.{letterOf, totalOf, takes}
-use Rattle.layout.specs.Layout.{Content, part, firstBad, Says, textPlaces}
+use Rattle.layout.specs.Layout.{Content, part, place, width, formOf, matters, firstBad, Says, textPlaces}
 use Rattle.layout.specs.Writing.{header, encode}
 use Rattle.layout.specs.Holding.{HoldsIn}
 use Rattle.messages.specs.Session.{logon, logonContents, logonHeard, logonKept, logonPlaces, logonReply, logonReplyContents, logonReplyHeard, logonReplyKept, logonReplyPlaces, logout, logoutContents, logoutHeard, logoutKept, logoutPlaces, missedMessageRequest, missedMessageRequestContents, missedMessageRequestHeard, missedMessageRequestKept, missedMessageRequestPlaces, missedMessageRequestAck, missedMessageRequestAckContents, missedMessageRequestAckHeard, missedMessageRequestAckKept, missedMessageRequestAckPlaces, missedMessageReport, missedMessageReportContents, missedMessageReportHeard, missedMessageReportKept, missedMessageReportPlaces, reject, rejectContents, rejectHeard, rejectKept, rejectPlaces}
@@ -203,3 +206,42 @@ written m = header (letterOf (kindOf m)) (totalOf (kindOf m)) ++ encode (tableOf
 -- what a message may say
 abbrev pub Holdable : Said → Type 0
 Holdable m = HoldsIn (tableOf (kindOf m)) (contentsOf m)
+
+-- the fields of a message that was read, with nulls for what is reserved or does not matter
+abbrev pub reserved : Form → Bool
+reserved (form.Text w) = false
+reserved (form.Name w) = false
+reserved form.Order = false
+reserved (form.Number w) = false
+reserved form.Sequence = false
+reserved form.Int8 = false
+reserved form.Int32 = false
+reserved form.Price = false
+reserved form.Time = false
+reserved (form.Code cs) = false
+reserved (form.Reserved w) = true
+
+unfoldable pub blanked : List Field → List ℕ → List ℕ
+blanked [] bs = []
+blanked (f ∷ fs) bs =
+    cond (matters bs f) (cond (reserved (formOf f)) (replicate (width f) 0) (part (place f) (width f) bs)) (replicate (width f) 0) ++ blanked fs bs
+
+-- writing undoes reading: a message that was read is written as its bytes stood, but for those fields
+abbrev pub Again : List ℕ → Message → Type 0
+Again bs m = written (heardOf m) ≡ take 4 bs ++ blanked (tableOf (kindOf (heardOf m))) bs
+
+-- reading undoes writing: each reader that takes such messages reads this very one, and no other, from its bytes
+abbrev pub GivenBack : Said → Type 0
+GivenBack m =
+    (ch : Channel) → takes ch (letterOf (kindOf m)) ≡ Some (kindOf m)
+    → (verdict ch (written m) ≡ None) × ((b : Message) → Reads ch (written m) b → heardOf b ≡ m)
+
+-- a message was written to the front of a buffer, or the buffer is too short and stands as it was
+abbrev pub Wrote : Said → List ℕ → List ℕ → Result ℕ TooShort → Type 0
+Wrote m before after r =
+    Cases r (λ n. (n ≡ totalOf (kindOf m)) × (n ≤ length before) × (after ≡ written m ++ drop n before))
+    (λ e. (e .needed ≡ totalOf (kindOf m)) × (length before < e .needed) × (after ≡ before))
+
+-- no other message is written in the same form
+abbrev pub Apart : Said → Type 0
+Apart m = (n : Said) → Holdable n → written n ≡ written m → n ≡ m

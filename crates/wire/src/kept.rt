@@ -1,4 +1,6 @@
 // From a message as it was read to one of its own, and its values in the order of its layout.
+ghost use mathlib.Core.Path.{_≡_};
+ghost use Rattle.wire.specs.Messages.{keptOf, kindOf};
 use crate::kinds::Kind;
 use crate::message::Message;
 use crate::message::OwnedMessage;
@@ -193,7 +195,9 @@ impl Message<'_> {
 }
 
 impl OwnedMessage {
-    pub fn kind(&self) -> Kind {
+    pub fn kind(&self) -> Kind
+        ensures { λ r. ⌜ r ≡ kindOf (keptOf (now (self .entry))) ⌝ }
+    {
         match self {
             OwnedMessage::Logon(_) => Kind::Logon,
             OwnedMessage::LogonReply(_) => Kind::LogonReply,

@@ -6,7 +6,7 @@ ghost use lib.ListN.{length, drop};
 ghost use Rattle.std.specs.declared.result.Result.the-variants.{Ok, Err};
 ghost use Rattle.std.specs.Results.{Cases};
 ghost use Rattle.wire.specs.Kinds.{totals, totalOf};
-ghost use Rattle.wire.specs.Messages.{opening, keptOf, kindOf, written, Holdable, WasRead};
+ghost use Rattle.wire.specs.Messages.{opening, keptOf, kindOf, written, Holdable, GivenBack, Apart, Again, WasRead, Wrote};
 use layout::field::Fault;
 use crate::kinds::Channel;
 use crate::kinds::Kind;
@@ -118,6 +118,8 @@ fn write_kind(message: &OwnedMessage, out: &mut [u8])
     requires { ⌜ totalOf (kindOf (keptOf (now message))) ≤ length (now out) ⌝ }
     ensures wrote { λ _. ⌜ now (out .exit) ≡ written (keptOf (now (message .entry))) ++ drop (totalOf (kindOf (keptOf (now (message .entry))))) (now (out .entry)) ⌝ }
     ensures holds { λ _. ⌜ Holdable (keptOf (now (message .entry))) ⌝ }
+    ensures back { λ _. ⌜ GivenBack (keptOf (now (message .entry))) ⌝ }
+    ensures apart { λ _. ⌜ Apart (keptOf (now (message .entry))) ⌝ }
 {
     match message {
         OwnedMessage::Logon(m) => write_logon(m, out),
@@ -138,15 +140,30 @@ fn write_kind(message: &OwnedMessage, out: &mut [u8])
     }
 }
 
+// The same, with what writing makes of it again.
+fn read_again<'a>(channel: Channel, bytes: &'a [u8]) -> Result<Message<'a>, Fault>
+    ensures checks { λ r. ⌜ WasRead channel (now (bytes .entry)) r ⌝ }
+    ensures again { λ r. ⌜ Cases r (λ m. Again (now (bytes .entry)) m) (λ _. Unit {0}) ⌝ }
+{
+    match read_kind(channel, bytes) {
+        Ok(message) => Ok(message),
+        Err(fault) => Err(fault),
+    }
+}
+
 // Reads one message, or says which check is the first to fail, and where.
 pub fn read<'a>(channel: Channel, bytes: &'a [u8]) -> Result<Message<'a>, Fault>
-    ensures { λ m. ⌜ WasRead channel (now (bytes .entry)) m ⌝ }
+    ensures checks { λ r. ⌜ WasRead channel (now (bytes .entry)) r ⌝ }
+    ensures again { λ r. ⌜ Cases r (λ m. Again (now (bytes .entry)) m) (λ _. Unit {0}) ⌝ }
 {
-    read_kind(channel, bytes)
+    read_again(channel, bytes)
 }
 
 // Writes a message in its one form to the front of a buffer; the bytes past it stay.
 pub fn write(message: &OwnedMessage, out: &mut [u8]) -> Result<usize, TooShort>
+    ensures bytes { λ r. ⌜ Wrote (keptOf (now (message .entry))) (now (out .entry)) (now (out .exit)) r ⌝ }
+    ensures back { λ r. ⌜ Cases r (λ _. GivenBack (keptOf (now (message .entry)))) (λ _. Unit {0}) ⌝ }
+    ensures apart { λ r. ⌜ Cases r (λ _. Apart (keptOf (now (message .entry)))) (λ _. Unit {0}) ⌝ }
 {
     let total = message.kind().total();
     if out.len() < total {

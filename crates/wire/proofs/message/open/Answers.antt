@@ -1,5 +1,5 @@
 use borrow.Author.Needs.{needs}
-use mathlib.Core.Path.{_≡_}
+use mathlib.Core.Path.{_≡_, _∙_}
 use lib.ListN.{length}
 use Rattle.wire.specs.Kinds.{totalOf}
 use Rattle.wire.specs.Messages.{opening}
@@ -30,4 +30,4 @@ pub returns : need.returns
 unfolding opening
 returns c =
     let e : length (c .args .r .now .src .now) ≡ totalOf (c .in-Some .kind) = search needs in
-    record { cases = search needs; long = total-is (c .in-Some .kind) (length (c .args .r .now .src .now)) e }
+    record { cases = search needs; long = e ∙ total-is (c .in-Some .kind) }
