@@ -4,3 +4,4 @@ pub mod Fold
 pub mod Views
 pub mod Tally
 pub mod Laws
+pub mod FoldLaws
