@@ -21,11 +21,18 @@ use codes::session::Partition;
 use reports::report::Entry;
 use std::alloc::AllocError;
 use std::alloc::Global;
-use store::Store;
 use store::REPORTS;
+use store::Store;
 
 impl<C: Codec + Drop> Buffered<C> {
-    fn begin(codec: C, size: usize, buffer: Vec<u8>, one: Vec<Place>, two: Vec<Place>, three: Vec<Place>) -> Buffered<C>
+    fn begin(
+        codec: C,
+        size: usize,
+        buffer: Vec<u8>,
+        one: Vec<Place>,
+        two: Vec<Place>,
+        three: Vec<Place>,
+    ) -> Buffered<C>
         requires buffer { ⌜ vec-items buffer ≡ [] ⌝ ∗ ⌜ size ≤ vec-cap buffer ⌝ }
         requires one { ⌜ vec-items one ≡ [] ⌝ ∗ ⌜ 16384 ≤ vec-cap one ⌝ }
         requires two { ⌜ vec-items two ≡ [] ⌝ ∗ ⌜ 16384 ≤ vec-cap two ⌝ }
@@ -33,7 +40,14 @@ impl<C: Codec + Drop> Buffered<C> {
         ensures kept { λ s. ⌜ kept-in (C·Codec .decoded) s ≡ empty ⌝ }
         ensures free { λ s. ⌜ free-in s ≡ free-places size 0 0 ⌝ }
     {
-        Buffered { codec, size, buffer, one, two, three }
+        Buffered {
+            codec,
+            size,
+            buffer,
+            one,
+            two,
+            three,
+        }
     }
 
     // A store with so many bytes.
@@ -155,9 +169,14 @@ impl<C: Codec> Buffered<C> {
         ensures one { λ _. ⌜ free-in (now (self .entry)) ≤ free-in (now (self .exit)) + 1 ⌝ }
     {
         let mut bytes = [0; 145];
-        let len = self.codec.encode(partition, number, entry.report, &mut bytes);
+        let len = self.codec
+            .encode(partition, number, entry.report, &mut bytes);
         let start = self.buffer.len();
-        let place = Place { owner: entry.owner, start, len };
+        let place = Place {
+            owner: entry.owner,
+            start,
+            len,
+        };
         let written = &bytes[..];
         self.keep(partition, place, &written[0..len]);
     }

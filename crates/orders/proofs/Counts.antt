@@ -54,6 +54,7 @@ open-le r r′ h = go (cases-lt 0 (r .leaves))
     cond-le : (t : Bool) → cond t 1 0 ≤ 1
     cond-le true = omega arith
     cond-le false = omega arith
+
     go : (0 < r .leaves) ⊎ (r .leaves ≤ 0) → open-one r′ ≤ open-one r
     go (inl some) = let a = open-yes r some in let b = cond-le (ltb 0 (r′ .leaves)) in omega arith
     go (inr none) = let a = open-no r (omega arith) in let b = open-no r′ (omega arith) in omega arith

@@ -221,7 +221,11 @@ impl Order {
             Some(Ending::Expired) => Status::Expired,
             None => {
                 if self.leaves > 0 {
-                    if self.executed > 0 { Status::PartiallyFilled } else { Status::New }
+                    if self.executed > 0 {
+                        Status::PartiallyFilled
+                    } else {
+                        Status::New
+                    }
                 } else if self.ordered == 0 {
                     Status::Cancelled
                 } else {

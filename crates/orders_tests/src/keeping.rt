@@ -4,9 +4,9 @@ use reports::report::CancelReject;
 use reports::report::Entry;
 use reports::report::Report;
 use std::test::*;
+use store::Store;
 use store::records::Records;
 use store::records_calls::RecordsStore;
-use store::Store;
 use texts::fixed::FixedText;
 use texts::values::Time;
 
@@ -14,9 +14,15 @@ fn entry(owner: usize, reason: i32) -> Entry {
     let reject = CancelReject {
         client: FixedText::empty(),
         reason,
-        time: Time { seconds: 0, microseconds: 0 },
+        time: Time {
+            seconds: 0,
+            microseconds: 0,
+        },
     };
-    Entry { owner, report: Report::CancelReject(reject) }
+    Entry {
+        owner,
+        report: Report::CancelReject(reject),
+    }
 }
 
 #[test]

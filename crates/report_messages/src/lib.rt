@@ -75,7 +75,10 @@ fn own_id(partition: Partition, number: u32) -> Identifier
     ensures { λ r. ⌜ said (r .bytes) ≡ own-text partition number ⌝ }
 {
     let partition = code_of(partition);
-    ExecutionId { partition, sequence: number }.text()
+    ExecutionId {
+        partition,
+        sequence: number,
+    }.text()
 }
 
 fn nobody() -> Counterparty
@@ -90,7 +93,11 @@ fn no_order() -> Identifier
     FixedText::empty()
 }
 
-fn execution_message(partition: Partition, number: u32, e: ExecutionReport) -> ExecutionMessage<Identifier, ClientOrderId, Symbol, Counterparty>
+fn execution_message(
+    partition: Partition,
+    number: u32,
+    e: ExecutionReport,
+) -> ExecutionMessage<Identifier, ClientOrderId, Symbol, Counterparty>
     requires { ⌜ number < 2147483648 ⌝ }
     ensures { λ r. ⌜ executionReportKept r ≡ execution-told partition number e ⌝ }
 {
@@ -119,7 +126,11 @@ fn execution_message(partition: Partition, number: u32, e: ExecutionReport) -> E
     }
 }
 
-fn reject_message(partition: Partition, number: u32, r: CancelReject) -> OrderCancelReject<ClientOrderId, Identifier>
+fn reject_message(
+    partition: Partition,
+    number: u32,
+    r: CancelReject,
+) -> OrderCancelReject<ClientOrderId, Identifier>
     requires { ⌜ number < 2147483648 ⌝ }
     ensures { λ m. ⌜ orderCancelRejectKept m ≡ reject-told partition number r ⌝ }
 {
@@ -133,7 +144,11 @@ fn reject_message(partition: Partition, number: u32, r: CancelReject) -> OrderCa
     }
 }
 
-fn mass_message(partition: Partition, number: u32, r: MassCancelReport) -> OrderMassCancelReport<ClientOrderId>
+fn mass_message(
+    partition: Partition,
+    number: u32,
+    r: MassCancelReport,
+) -> OrderMassCancelReport<ClientOrderId>
     requires { ⌜ number < 2147483648 ⌝ }
     ensures { λ m. ⌜ orderMassCancelReportKept m ≡ mass-told partition number r ⌝ }
 {
@@ -155,8 +170,20 @@ pub fn message_of(partition: Partition, number: u32, report: Report) -> Option<O
         return None;
     }
     match report {
-        Report::Execution(e) => Some(OwnedMessage::ExecutionReport(execution_message(partition, number, e))),
-        Report::CancelReject(r) => Some(OwnedMessage::OrderCancelReject(reject_message(partition, number, r))),
-        Report::MassCancel(r) => Some(OwnedMessage::OrderMassCancelReport(mass_message(partition, number, r))),
+        Report::Execution(e) => Some(OwnedMessage::ExecutionReport(execution_message(
+            partition,
+            number,
+            e,
+        ))),
+        Report::CancelReject(r) => Some(OwnedMessage::OrderCancelReject(reject_message(
+            partition,
+            number,
+            r,
+        ))),
+        Report::MassCancel(r) => Some(OwnedMessage::OrderMassCancelReport(mass_message(
+            partition,
+            number,
+            r,
+        ))),
     }
 }

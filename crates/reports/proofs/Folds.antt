@@ -145,9 +145,9 @@ leaves-bound (Some l) t s s′ h = bounded-bound (executed-after (effect-of (t .
 
 pub fold-laws : FoldLaws
 fold-laws p t k = record {
-    rejected = λ e. ap (λ x. fold-by (effect-of x) p t k) e;
-    others = λ k′ n h ne. by-others (effect-of (t .kind)) p t k k′ n h ne;
-    count = λ k′ h. by-count (effect-of (t .kind)) p t k k′ h;
-    fill = λ s s′ e h. leaves-moved (natural (t .leaves)) t s s′ (ap effect-of e) h;
-    bound = λ s s′ h. leaves-bound (natural (t .leaves)) t s s′ h
-  }
+  rejected = λ e. ap (λ x. fold-by (effect-of x) p t k) e;
+  others = λ k′ n h ne. by-others (effect-of (t .kind)) p t k k′ n h ne;
+  count = λ k′ h. by-count (effect-of (t .kind)) p t k k′ h;
+  fill = λ s s′ e h. leaves-moved (natural (t .leaves)) t s s′ (ap effect-of e) h;
+  bound = λ s s′ h. leaves-bound (natural (t .leaves)) t s s′ h;
+}

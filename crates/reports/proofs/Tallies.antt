@@ -104,12 +104,12 @@ module _ (p : Partition) (o : ℕ) where
 
   pub laws : (l : List Entry) → Laws p o l
   laws l = record {
-      start = from-nil nothing-known;
-      further = λ n e h. rw add-one (from-further nothing-known l n e (rw add-one at h));
-      next = next-own l;
-      rest = from-rest nothing-known l;
-      only = λ l′ e. from-own nothing-known l ∙ ap (from nothing-known) e ∙ sym (from-own nothing-known l′)
-    }
+    start = from-nil nothing-known;
+    further = λ n e h. rw add-one (from-further nothing-known l n e (rw add-one at h));
+    next = next-own l;
+    rest = from-rest nothing-known l;
+    only = λ l′ e. from-own nothing-known l ∙ ap (from nothing-known) e ∙ sym (from-own nothing-known l′);
+  }
 
 pub tally-laws : TallyLaws
 tally-laws p o l = laws p o l

@@ -12,10 +12,10 @@ ghost use Rattle.std.specs.declared.option.Option.the-variants.{Some, None};
 ghost use Rattle.reports.specs.Effects.{effect-of};
 ghost use Rattle.reports.specs.Fold.{nothing-known, natural, added, filled-to, executed-after, changed, fold-number, fold-order, fold, Folds};
 ghost use Rattle.reports.specs.Views.{knownOf, tableOf, Found, standing-in};
-use crate::standing::effect_of;
 use crate::standing::Effect;
 use crate::standing::Standing;
 use crate::standing::Told;
+use crate::standing::effect_of;
 use crate::standings::Known;
 use crate::standings::Standings;
 use codes::session::Partition;
@@ -50,7 +50,11 @@ impl FoldRefusal {
 fn natural_of(figure: i32) -> Option<u32>
     ensures { λ r. ⌜ r ≡ natural figure ⌝ }
 {
-    if figure < 0 { None } else { Some(figure as u32) }
+    if figure < 0 {
+        None
+    } else {
+        Some(figure as u32)
+    }
 }
 
 // The standing of an order that a report adds.
@@ -156,7 +160,11 @@ impl Standings {
     pub fn get(&self, index: usize) -> Option<Known>
         ensures { λ r. ⌜ BySome r (tableOf (now (self .entry)) .count ≤ index) (λ k. (index < tableOf (now (self .entry)) .count) × (k ≡ getD (knownOf (now (self .entry))) index k)) ⌝ }
     {
-        if index < self.rows.len() { Some(self.rows[index]) } else { None }
+        if index < self.rows.len() {
+            Some(self.rows[index])
+        } else {
+            None
+        }
     }
 
     fn find(&self, number: u64) -> Option<usize>

@@ -4,10 +4,8 @@ ghost use Rattle.reports.specs.Laws.{TallyLaws};
 
 pub fn tally_laws_hold()
     ensures { λ _. ⌜ TallyLaws ⌝ }
-{
-}
+{}
 
 pub fn fold_laws_hold()
     ensures { λ _. ⌜ FoldLaws ⌝ }
-{
-}
+{}

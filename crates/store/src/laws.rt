@@ -3,5 +3,4 @@ ghost use Rattle.store.specs.Laws.{NextLaw};
 
 pub fn next_is_lowest()
     ensures { λ _. ⌜ NextLaw ⌝ }
-{
-}
+{}

@@ -9,9 +9,9 @@ ghost use Rattle.std.specs.Vec.{made};
 ghost use Rattle.reports.specs.Tally.{entry-at};
 ghost use Rattle.store.specs.Kept.{empty, reports-in, next-after};
 ghost use Rattle.store.specs.Views.{recorded, unused};
-use crate::records::Records;
-use crate::Store;
 use crate::REPORTS;
+use crate::Store;
+use crate::records::Records;
 use codes::session::Partition;
 use reports::report::Entry;
 use std::alloc::AllocError;
@@ -55,7 +55,12 @@ impl Records {
         let one = Vec::with_capacity(heap, places)?;
         let two = Vec::with_capacity(heap, places)?;
         let three = Vec::with_capacity(heap, places)?;
-        Ok(Records { one, two, three, places })
+        Ok(Records {
+            one,
+            two,
+            three,
+            places,
+        })
     }
 
     fn entries(&self, partition: Partition) -> &Vec<Entry>

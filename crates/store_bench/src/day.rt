@@ -48,7 +48,10 @@ pub fn entry_of(i: u32) -> Entry
         symbol: FixedText::empty(),
         side: Side::Buy,
         trade: 0,
-        time: Time { seconds: i, microseconds: 0 },
+        time: Time {
+            seconds: i,
+            microseconds: 0,
+        },
         book: Book::Integrated,
         capacity: Capacity::Principal,
     });

@@ -6,9 +6,9 @@ use crate::walk::fill;
 use crate::walk::read_all;
 use std::error::AnyError;
 use std::time::Instant;
+use store::REPORTS;
 use store::records::Records;
 use store::records_calls::RecordsStore;
-use store::REPORTS;
 
 // A time in nanoseconds for each of so many.
 fn each(nanoseconds: u128, count: usize) -> u128 {
@@ -30,7 +30,10 @@ fn run(rt: &LibcRuntime) -> Result<(), AnyError> {
     println!(rt, "records: {found} reports read back by next")?;
     let append_time = each(filled.as_nanos(), appended);
     let read_time = each(walked.as_nanos(), found);
-    eprintln!(rt, "records: {append_time} ns for each append, {read_time} ns for each report read back")?;
+    eprintln!(
+        rt,
+        "records: {append_time} ns for each append, {read_time} ns for each report read back"
+    )?;
     Ok(())
 }
 

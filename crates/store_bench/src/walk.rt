@@ -3,12 +3,12 @@ ghost use mathlib.Core.Path.{_≡_};
 ghost use Prim.Native.Nat.{ℕ, _+_, _≤_};
 ghost use Rattle.store.specs.Kept.{total, reports-in};
 ghost use Rattle.store_bench.specs.Counts.{owned, owned-below, Counts};
+use crate::day::OWNERS;
 use crate::day::entry_of;
 use crate::day::partition_of;
-use crate::day::OWNERS;
 use codes::session::Partition;
-use store::Store;
 use store::REPORTS;
+use store::Store;
 
 // Appends one report, and answers 1, or 0 where it found no place.
 fn append_one<S: Store>(store: &mut S, i: u32) -> usize

@@ -11,8 +11,8 @@ returns-then-number-eq0 g c =
     let xs = c .args .items .now .items in
     let n = c .args .number in
     elim (c .then-number-eq0 .came) [
-      then-number-eq0·by·then-number-eq0 w ↦ (sym (at-none xs _ n refl (inl (w .if-number-eq0 .taken))), λ x. sym (put-none xs _ n x refl (inl (w .if-number-eq0 .taken))))
-    | then-number-eq0·by·else-number-eq0·then-number-len w ↦ (sym (at-none xs (w .len .result) n (omega arith) (inr (omega arith))), λ x. sym (put-none xs (w .len .result) n x (omega arith) (inr (omega arith))))
+      | then-number-eq0·by·then-number-eq0 w ↦ (sym (at-none xs _ n refl (inl (w .if-number-eq0 .taken))), λ x. sym (put-none xs _ n x refl (inl (w .if-number-eq0 .taken))))
+      | then-number-eq0·by·else-number-eq0·then-number-len w ↦ (sym (at-none xs (w .len .result) n (omega arith) (inr (omega arith))), λ x. sym (put-none xs (w .len .result) n x (omega arith) (inr (omega arith))))
     ]
 
 pub returns : need.returns

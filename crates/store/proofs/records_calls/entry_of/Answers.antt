@@ -9,8 +9,8 @@ use Rattle.store.proofs.records_calls.entry_of.Needs.{then-number-eq0·by·the
 pub returns-then-number-eq0 : need.returns-then-number-eq0
 returns-then-number-eq0 c =
     elim (c .then-number-eq0 .came) [
-      then-number-eq0·by·then-number-eq0 w ↦ at-none (c .args .entries .now .items) (c .args .number) _ refl (inl (w .if-number-eq0 .taken))
-    | then-number-eq0·by·else-number-eq0·then-number-len w ↦ at-none (c .args .entries .now .items) (c .args .number) (w .len .result) (omega arith) (inr (omega arith))
+      | then-number-eq0·by·then-number-eq0 w ↦ at-none (c .args .entries .now .items) (c .args .number) _ refl (inl (w .if-number-eq0 .taken))
+      | then-number-eq0·by·else-number-eq0·then-number-len w ↦ at-none (c .args .entries .now .items) (c .args .number) (w .len .result) (omega arith) (inr (omega arith))
     ]
 
 pub returns : need.returns

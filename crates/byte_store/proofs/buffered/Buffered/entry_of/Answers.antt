@@ -11,8 +11,8 @@ use Rattle.byte_store.proofs.buffered.Buffered.entry_of.Needs.{then-number-eq0
 pub returns-then-number-eq0 : need.returns-then-number-eq0
 returns-then-number-eq0 g c =
     elim (c .then-number-eq0 .came) [
-      then-number-eq0·by·then-number-eq0 w ↦ read-none (g .C·Codec .decoded) (c .args .self .now) (c .args .partition) (c .places-of-places .result .now .items) (c .args .number) _ (c .places-of-places .ensures .items) refl (inl (w .if-number-eq0 .taken))
-    | then-number-eq0·by·else-number-eq0·then-number-len w ↦ read-none (g .C·Codec .decoded) (c .args .self .now) (c .args .partition) (c .places-of-places .result .now .items) (c .args .number) (w .len .result) (c .places-of-places .ensures .items) (omega arith) (inr (omega arith))
+      | then-number-eq0·by·then-number-eq0 w ↦ read-none (g .C·Codec .decoded) (c .args .self .now) (c .args .partition) (c .places-of-places .result .now .items) (c .args .number) _ (c .places-of-places .ensures .items) refl (inl (w .if-number-eq0 .taken))
+      | then-number-eq0·by·else-number-eq0·then-number-len w ↦ read-none (g .C·Codec .decoded) (c .args .self .now) (c .args .partition) (c .places-of-places .result .now .items) (c .args .number) (w .len .result) (c .places-of-places .ensures .items) (omega arith) (inr (omega arith))
     ]
 
 pub entry-requires : need.entry-requires

@@ -14,17 +14,17 @@ loop-i-holds c = (sym count-none, omega arith)
 
 pub loop-i-again : need.loop-i-again
 loop-i-again c =
-  let rs = c .args .self .now .rows .items in
-  let x = c .index .result .now in
-  let lt : c .loop-i .i < length rs = omega arith in
-  let more = count-more rs (c .loop-i .i) x lt (c .index .ensures) in
-  elim (c .if-is-open .came) [
-    then-is-open w ↦ (let a = open-tested x true (w .if-is-open .ensures tt) in (omega (arith, w .n-is), omega (arith, w .n-is)))
-  | else-is-open w ↦ (let a = open-tested x false (w .if-is-open .ensures tt) in (omega (arith, w .n-is), omega (arith, w .n-is)))
-  ]
+    let rs = c .args .self .now .rows .items in
+    let x = c .index .result .now in
+    let lt : c .loop-i .i < length rs = omega arith in
+    let more = count-more rs (c .loop-i .i) x lt (c .index .ensures) in
+    elim (c .if-is-open .came) [
+      | then-is-open w ↦ (let a = open-tested x true (w .if-is-open .ensures tt) in (omega (arith, w .n-is), omega (arith, w .n-is)))
+      | else-is-open w ↦ (let a = open-tested x false (w .if-is-open .ensures tt) in (omega (arith, w .n-is), omega (arith, w .n-is)))
+    ]
 
 pub returns : need.returns
 returns c =
-  let rs = c .args .self .now .rows .items in
-  let ge : length rs ≤ c .loop-i .i = omega arith in
-  record { value = c .loop-i .inv .0 ∙ ap open-count (take-all _ rs ge); bound = omega arith }
+    let rs = c .args .self .now .rows .items in
+    let ge : length rs ≤ c .loop-i .i = omega arith in
+    record { value = c .loop-i .inv .0 ∙ ap open-count (take-all _ rs ge); bound = omega arith }
