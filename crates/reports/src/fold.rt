@@ -167,6 +167,17 @@ impl Standings {
         }
     }
 
+    // Takes over what another table knows, in the memory that is reserved: for a trial that may have to be undone.
+    pub fn copy_from(&mut self, other: &Standings)
+        ensures rows { λ _. ⌜ knownOf (now (self .exit)) ≡ knownOf (now (other .entry)) ⌝ }
+        ensures table { λ _. ⌜ tableOf (now (self .exit)) ≡ tableOf (now (other .entry)) ⌝ }
+    {
+        self.rows.clear();
+        for i in 0..other.rows.len() {
+            self.rows.push_reserved(other.rows[i]);
+        }
+    }
+
     fn find(&self, number: u64) -> Option<usize>
         ensures { λ r. ⌜ Found (knownOf (now (self .entry))) number r ⌝ }
     {
