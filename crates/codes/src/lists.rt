@@ -5,8 +5,8 @@ ghost use Rattle.codes.specs.Member.{member};
 ghost use Rattle.codes.specs.Lists.{listed};
 use crate::code::Code;
 use crate::order::*;
-use crate::session::*;
 use crate::report::*;
+use crate::session::*;
 
 // A list of codes: the values of a field, or, under a name that ends in `Only`, `By..` or `Or..`, those of another field
 // that make a field matter.

@@ -10,11 +10,12 @@ use crate::field::Form;
 use crate::reader::Reader;
 
 impl Form {
-    pub fn width(self) -> usize
+    pub(crate) fn width(self) -> usize
         ensures { λ r. ⌜ r ≡ wide self ⌝ }
     {
         match self {
-            Form::Text(width) | Form::Name(width) | Form::Number(width) | Form::Reserved(width) => width,
+            Form::Text(width) | Form::Name(width) | Form::Number(width) | Form::Reserved(width) =>
+                width,
             Form::Order => 12,
             Form::Sequence | Form::Int32 => 4,
             Form::Int8 | Form::Code(_) => 1,
@@ -39,7 +40,7 @@ impl Form {
 }
 
 impl Field {
-    pub fn at(self) -> usize
+    pub(crate) fn at(self) -> usize
         ensures { λ r. ⌜ r ≡ place self ⌝ }
     {
         match self {
@@ -47,7 +48,7 @@ impl Field {
         }
     }
 
-    pub fn form(self) -> Form
+    pub(crate) fn form(self) -> Form
         ensures { λ r. ⌜ r ≡ formOf self ⌝ }
     {
         match self {
@@ -75,7 +76,10 @@ pub fn check(fields: &[Field], total: usize, r: &Reader<'_>) -> Result<(), Fault
 {
     for field in fields {
         if !field.good(r) {
-            return Err(Fault { rule: 5, offset: field.at() });
+            return Err(Fault {
+                rule: 5,
+                offset: field.at(),
+            });
         }
     }
     Ok(())

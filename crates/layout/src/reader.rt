@@ -61,7 +61,16 @@ impl<'a> Reader<'a> {
         ensures { λ r. ⌜ r ≡ le (part at 8 (now (now (self .entry) .src))) ⌝ }
     {
         let s = self.src;
-        u64::from_le_bytes([s[at], s[at + 1], s[at + 2], s[at + 3], s[at + 4], s[at + 5], s[at + 6], s[at + 7]])
+        u64::from_le_bytes([
+            s[at],
+            s[at + 1],
+            s[at + 2],
+            s[at + 3],
+            s[at + 4],
+            s[at + 5],
+            s[at + 6],
+            s[at + 7],
+        ])
     }
 
     pub fn i8(&self, at: usize) -> i8
@@ -85,7 +94,9 @@ impl<'a> Reader<'a> {
         ensures value { λ r. ⌜ r .raw ≡ toZ w64 (le (part at 8 (now (now (self .entry) .src)))) ⌝ }
         ensures bits { λ r. ⌜ ofZ w64 (r .raw) ≡ le (part at 8 (now (now (self .entry) .src))) ⌝ }
     {
-        Price { raw: self.u64(at).cast_signed() }
+        Price {
+            raw: self.u64(at).cast_signed(),
+        }
     }
 
     pub fn time(&self, at: usize) -> Time
@@ -93,11 +104,14 @@ impl<'a> Reader<'a> {
         ensures seconds { λ r. ⌜ r .seconds ≡ le (take 4 (part at 8 (now (now (self .entry) .src)))) ⌝ }
         ensures micros { λ r. ⌜ r .microseconds ≡ le (take 4 (drop 4 (part at 8 (now (now (self .entry) .src))))) ⌝ }
     {
-        Time { seconds: self.u32(at), microseconds: self.u32(at + 4) }
+        Time {
+            seconds: self.u32(at),
+            microseconds: self.u32(at + 4),
+        }
     }
 
     // Whether a field holds text: printable bytes, and then nothing but nulls.
-    pub fn is_text(&self, at: usize, width: usize) -> bool
+    pub(crate) fn is_text(&self, at: usize, width: usize) -> bool
         requires { ⌜ at + width ≤ length (now (now self .src)) ⌝ }
         ensures { λ r. ⌜ r ≡ isText (part at width (now (now (self .entry) .src))) ⌝ }
     {
@@ -108,7 +122,7 @@ impl<'a> Reader<'a> {
     }
 
     // Whether the text of a field is not empty.
-    pub fn is_named(&self, at: usize, width: usize) -> bool
+    pub(crate) fn is_named(&self, at: usize, width: usize) -> bool
         requires { ⌜ at + width ≤ length (now (now self .src)) ⌝ }
         ensures { λ r. ⌜ r ≡ named (part at width (now (now (self .entry) .src))) ⌝ }
     {
@@ -132,7 +146,7 @@ impl<'a> Reader<'a> {
     }
 
     // Whether a field holds an order's identifier, or null.
-    pub fn is_order(&self, at: usize) -> bool
+    pub(crate) fn is_order(&self, at: usize) -> bool
         requires { ⌜ at + 12 ≤ length (now (now self .src)) ⌝ }
         ensures { λ r. ⌜ r ≡ isOrder (part at 12 (now (now (self .entry) .src))) ⌝ }
     {

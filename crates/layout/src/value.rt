@@ -50,7 +50,10 @@ impl<'a> Value<'a> {
         ensures value { λ r. ⌜ meant r ≡ clock (t .seconds) (t .microseconds) ⌝ }
         ensures typed { λ _. ⌜ (t .seconds < 4294967296) × (t .microseconds < 4294967296) ⌝ }
     {
-        Value::Time(Time { seconds: t.seconds, microseconds: t.microseconds })
+        Value::Time(Time {
+            seconds: t.seconds,
+            microseconds: t.microseconds,
+        })
     }
 
     pub fn of_order(o: Option<OrderId>) -> Value<'a>
@@ -63,7 +66,7 @@ impl<'a> Value<'a> {
         }
     }
 
-    pub fn words(&self) -> &'a [u8]
+    pub(crate) fn words(&self) -> &'a [u8]
         ensures { λ r. ⌜ now r ≡ wordsOf (meant (now (self .entry))) ⌝ }
     {
         match *self {
@@ -72,7 +75,7 @@ impl<'a> Value<'a> {
         }
     }
 
-    pub fn order(&self) -> Option<OrderId>
+    pub(crate) fn order(&self) -> Option<OrderId>
         ensures { λ r. ⌜ mapped (λ i. i .number) r ≡ orderOf (meant (now (self .entry))) ⌝ }
     {
         match *self {
@@ -81,7 +84,7 @@ impl<'a> Value<'a> {
         }
     }
 
-    pub fn figure(&self) -> u64
+    pub(crate) fn figure(&self) -> u64
         ensures { λ r. ⌜ r ≡ figureOf (meant (now (self .entry))) ⌝ }
     {
         match *self {
@@ -91,7 +94,7 @@ impl<'a> Value<'a> {
         }
     }
 
-    pub fn int8(&self) -> i8
+    pub(crate) fn int8(&self) -> i8
         ensures { λ r. ⌜ r ≡ int8Of (meant (now (self .entry))) ⌝ }
     {
         match *self {
@@ -100,7 +103,7 @@ impl<'a> Value<'a> {
         }
     }
 
-    pub fn int32(&self) -> i32
+    pub(crate) fn int32(&self) -> i32
         ensures { λ r. ⌜ r ≡ int32Of (meant (now (self .entry))) ⌝ }
     {
         match *self {
@@ -109,7 +112,7 @@ impl<'a> Value<'a> {
         }
     }
 
-    pub fn price(&self) -> i64
+    pub(crate) fn price(&self) -> i64
         ensures { λ r. ⌜ r ≡ priceOf (meant (now (self .entry))) ⌝ }
     {
         match *self {
@@ -118,17 +121,20 @@ impl<'a> Value<'a> {
         }
     }
 
-    pub fn time(&self) -> Time
+    pub(crate) fn time(&self) -> Time
         ensures seconds { λ r. ⌜ r .seconds ≡ secondsOf (meant (now (self .entry))) ⌝ }
         ensures micros { λ r. ⌜ r .microseconds ≡ microsOf (meant (now (self .entry))) ⌝ }
     {
         match *self {
             Value::Time(time) => time,
-            _ => Time { seconds: 0, microseconds: 0 },
+            _ => Time {
+                seconds: 0,
+                microseconds: 0,
+            },
         }
     }
 
-    pub fn is_absent(&self) -> bool
+    pub(crate) fn is_absent(&self) -> bool
         ensures { λ r. ⌜ r ≡ absent (meant (now (self .entry))) ⌝ }
     {
         match *self {

@@ -5,7 +5,6 @@ use Prim.Native.Nat.{ℕ}
 use Rattle.layout.specs.Layout.Content.{nothing, clock}
 
 infixr 5 _⊹_
-
 pub _⊹_ : {A B : Type 0} → A → B → A × B
 _⊹_ a b = (a, b)
 

@@ -7,6 +7,8 @@ ghost use Rattle.layout.specs.Values.{Means};
 ghost use Rattle.layout.specs.Writing.{Wrote};
 ghost use Rattle.layout.specs.Holding.{HoldsIn};
 ghost use Rattle.messages.specs.Reports.{executionReport, executionReportContents, executionReportTyped, executionReportHeard, executionReportKept, executionReportPlaces, orderCancelReject, orderCancelRejectContents, orderCancelRejectTyped, orderCancelRejectHeard, orderCancelRejectKept, orderCancelRejectPlaces, orderMassCancelReport, orderMassCancelReportContents, orderMassCancelReportTyped, orderMassCancelReportHeard, orderMassCancelReportKept, orderMassCancelReportPlaces};
+use crate::terms::Execution;
+use crate::terms::read_execution;
 use codes::lists::Codes;
 use codes::order::Book;
 use codes::order::BookCode;
@@ -22,13 +24,11 @@ use codes::report::Status;
 use codes::report::StatusCode;
 use codes::session::Partition;
 use codes::session::PartitionCode;
+use layout::check::check;
 use layout::field::Fault;
 use layout::field::Field;
 use layout::field::Form;
-use layout::check::check;
 use layout::reader::Reader;
-use crate::terms::Execution;
-use crate::terms::read_execution;
 use layout::value::Value;
 use layout::writer::write_fields;
 use texts::names::ClientOrderId;
@@ -92,7 +92,12 @@ const EXECUTION_REPORT: [Field; 26] = [
     Field::Always(98, Form::Code(Codes::Sides)),
     Field::Always(99, Form::Number(8)),
     Field::Always(107, Form::Text(11)),
-    Field::When(118, Form::Code(Codes::Liquidities), 53, Codes::TradeOrCancel),
+    Field::When(
+        118,
+        Form::Code(Codes::Liquidities),
+        53,
+        Codes::TradeOrCancel,
+    ),
     Field::Always(119, Form::Number(8)),
     Field::Always(127, Form::Time),
     Field::Always(135, Form::Code(Codes::Books)),
@@ -102,7 +107,9 @@ const EXECUTION_REPORT: [Field; 26] = [
     Field::Always(139, Form::Reserved(6)),
 ];
 
-pub fn read_execution_report<'a>(r: &Reader<'a>) -> Result<ExecutionReport<Text<'a>, Text<'a>, Text<'a>, Text<'a>>, Fault>
+pub fn read_execution_report<'a>(
+    r: &Reader<'a>,
+) -> Result<ExecutionReport<Text<'a>, Text<'a>, Text<'a>, Text<'a>>, Fault>
     requires { ⌜ length (now (now r .src)) ≡ 145 ⌝ }
     ensures { λ m. ⌜ Body executionReport (λ m. executionReportContents (executionReportHeard m)) executionReportPlaces (now (now (r .entry) .src)) m ⌝ }
 {
@@ -132,7 +139,9 @@ pub fn read_execution_report<'a>(r: &Reader<'a>) -> Result<ExecutionReport<Text<
     })
 }
 
-pub fn execution_report_values(m: &ExecutionReport<Identifier, ClientOrderId, Symbol, Counterparty>) -> [Value<'_>; 26]
+pub fn execution_report_values(
+    m: &ExecutionReport<Identifier, ClientOrderId, Symbol, Counterparty>,
+) -> [Value<'_>; 26]
     ensures means { λ r. ⌜ Means r (executionReportContents (executionReportKept (now (m .entry)))) ⌝ }
     ensures typed { λ _. ⌜ executionReportTyped (executionReportKept (now (m .entry))) ⌝ }
 {
@@ -195,7 +204,9 @@ const ORDER_CANCEL_REJECT: [Field; 7] = [
     Field::Always(53, Form::Reserved(10)),
 ];
 
-pub fn read_order_cancel_reject<'a>(r: &Reader<'a>) -> Result<OrderCancelReject<Text<'a>, Text<'a>>, Fault>
+pub fn read_order_cancel_reject<'a>(
+    r: &Reader<'a>,
+) -> Result<OrderCancelReject<Text<'a>, Text<'a>>, Fault>
     requires { ⌜ length (now (now r .src)) ≡ 63 ⌝ }
     ensures { λ m. ⌜ Body orderCancelReject (λ m. orderCancelRejectContents (orderCancelRejectHeard m)) orderCancelRejectPlaces (now (now (r .entry) .src)) m ⌝ }
 {
@@ -210,7 +221,9 @@ pub fn read_order_cancel_reject<'a>(r: &Reader<'a>) -> Result<OrderCancelReject<
     })
 }
 
-pub fn order_cancel_reject_values(m: &OrderCancelReject<ClientOrderId, Identifier>) -> [Value<'_>; 7]
+pub fn order_cancel_reject_values(
+    m: &OrderCancelReject<ClientOrderId, Identifier>,
+) -> [Value<'_>; 7]
     ensures means { λ r. ⌜ Means r (orderCancelRejectContents (orderCancelRejectKept (now (m .entry)))) ⌝ }
     ensures typed { λ _. ⌜ orderCancelRejectTyped (orderCancelRejectKept (now (m .entry))) ⌝ }
 {
@@ -248,7 +261,9 @@ const ORDER_MASS_CANCEL_REPORT: [Field; 8] = [
     Field::Always(46, Form::Reserved(10)),
 ];
 
-pub fn read_order_mass_cancel_report<'a>(r: &Reader<'a>) -> Result<OrderMassCancelReport<Text<'a>>, Fault>
+pub fn read_order_mass_cancel_report<'a>(
+    r: &Reader<'a>,
+) -> Result<OrderMassCancelReport<Text<'a>>, Fault>
     requires { ⌜ length (now (now r .src)) ≡ 56 ⌝ }
     ensures { λ m. ⌜ Body orderMassCancelReport (λ m. orderMassCancelReportContents (orderMassCancelReportHeard m)) orderMassCancelReportPlaces (now (now (r .entry) .src)) m ⌝ }
 {
@@ -279,12 +294,21 @@ pub fn order_mass_cancel_report_values(m: &OrderMassCancelReport<ClientOrderId>)
     ]
 }
 
-pub fn write_execution_report(m: &ExecutionReport<Identifier, ClientOrderId, Symbol, Counterparty>, out: &mut [u8])
+pub fn write_execution_report(
+    m: &ExecutionReport<Identifier, ClientOrderId, Symbol, Counterparty>,
+    out: &mut [u8],
+)
     requires { ⌜ 145 ≤ length (now out) ⌝ }
     ensures wrote { λ _. ⌜ Wrote 56 145 executionReport (executionReportContents (executionReportKept (now (m .entry)))) (now (out .entry)) (now (out .exit)) ⌝ }
     ensures holds { λ _. ⌜ HoldsIn executionReport (executionReportContents (executionReportKept (now (m .entry)))) ⌝ }
 {
-    write_fields(out, b'8', 145, &EXECUTION_REPORT, &execution_report_values(m));
+    write_fields(
+        out,
+        b'8',
+        145,
+        &EXECUTION_REPORT,
+        &execution_report_values(m),
+    );
 }
 
 pub fn write_order_cancel_reject(m: &OrderCancelReject<ClientOrderId, Identifier>, out: &mut [u8])
@@ -292,7 +316,13 @@ pub fn write_order_cancel_reject(m: &OrderCancelReject<ClientOrderId, Identifier
     ensures wrote { λ _. ⌜ Wrote 57 63 orderCancelReject (orderCancelRejectContents (orderCancelRejectKept (now (m .entry)))) (now (out .entry)) (now (out .exit)) ⌝ }
     ensures holds { λ _. ⌜ HoldsIn orderCancelReject (orderCancelRejectContents (orderCancelRejectKept (now (m .entry)))) ⌝ }
 {
-    write_fields(out, b'9', 63, &ORDER_CANCEL_REJECT, &order_cancel_reject_values(m));
+    write_fields(
+        out,
+        b'9',
+        63,
+        &ORDER_CANCEL_REJECT,
+        &order_cancel_reject_values(m),
+    );
 }
 
 pub fn write_order_mass_cancel_report(m: &OrderMassCancelReport<ClientOrderId>, out: &mut [u8])
@@ -300,5 +330,11 @@ pub fn write_order_mass_cancel_report(m: &OrderMassCancelReport<ClientOrderId>, 
     ensures wrote { λ _. ⌜ Wrote 114 56 orderMassCancelReport (orderMassCancelReportContents (orderMassCancelReportKept (now (m .entry)))) (now (out .entry)) (now (out .exit)) ⌝ }
     ensures holds { λ _. ⌜ HoldsIn orderMassCancelReport (orderMassCancelReportContents (orderMassCancelReportKept (now (m .entry)))) ⌝ }
 {
-    write_fields(out, b'r', 56, &ORDER_MASS_CANCEL_REPORT, &order_mass_cancel_report_values(m));
+    write_fields(
+        out,
+        b'r',
+        56,
+        &ORDER_MASS_CANCEL_REPORT,
+        &order_mass_cancel_report_values(m),
+    );
 }

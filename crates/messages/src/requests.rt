@@ -7,6 +7,12 @@ ghost use Rattle.layout.specs.Values.{Means};
 ghost use Rattle.layout.specs.Writing.{Wrote};
 ghost use Rattle.layout.specs.Holding.{HoldsIn};
 ghost use Rattle.messages.specs.Requests.{newOrder, newOrderContents, newOrderTyped, newOrderHeard, newOrderKept, newOrderPlaces, orderCancelRequest, orderCancelRequestContents, orderCancelRequestTyped, orderCancelRequestHeard, orderCancelRequestKept, orderCancelRequestPlaces, orderCancelReplaceRequest, orderCancelReplaceRequestContents, orderCancelReplaceRequestTyped, orderCancelReplaceRequestHeard, orderCancelReplaceRequestKept, orderCancelReplaceRequestPlaces, orderMassCancelRequest, orderMassCancelRequestContents, orderMassCancelRequestHeard, orderMassCancelRequestKept, orderMassCancelRequestPlaces};
+use crate::terms::Pricing;
+use crate::terms::Scope;
+use crate::terms::Target;
+use crate::terms::read_pricing;
+use crate::terms::read_scope;
+use crate::terms::read_target;
 use codes::lists::Codes;
 use codes::order::AutoCancel;
 use codes::order::AutoCancelCode;
@@ -24,17 +30,11 @@ use codes::order::Side;
 use codes::order::SideCode;
 use codes::order::TimeInForce;
 use codes::order::TimeInForceCode;
+use layout::check::check;
 use layout::field::Fault;
 use layout::field::Field;
 use layout::field::Form;
-use layout::check::check;
 use layout::reader::Reader;
-use crate::terms::Pricing;
-use crate::terms::Scope;
-use crate::terms::Target;
-use crate::terms::read_pricing;
-use crate::terms::read_scope;
-use crate::terms::read_target;
 use layout::value::Value;
 use layout::writer::write_fields;
 use texts::fixed::RequestId;
@@ -101,7 +101,9 @@ const NEW_ORDER: [Field; 21] = [
     Field::Always(96, Form::Code(Codes::PassiveOnlys)),
 ];
 
-pub fn read_new_order<'a>(r: &Reader<'a>) -> Result<NewOrder<Text<'a>, Text<'a>, Text<'a>, Text<'a>>, Fault>
+pub fn read_new_order<'a>(
+    r: &Reader<'a>,
+) -> Result<NewOrder<Text<'a>, Text<'a>, Text<'a>, Text<'a>>, Fault>
     requires { ⌜ length (now (now r .src)) ≡ 97 ⌝ }
     ensures { λ m. ⌜ Body newOrder (λ m. newOrderContents (newOrderHeard m)) newOrderPlaces (now (now (r .entry) .src)) m ⌝ }
 {
@@ -185,7 +187,9 @@ const ORDER_CANCEL_REQUEST: [Field; 7] = [
     Field::Always(64, Form::Reserved(9)),
 ];
 
-pub fn read_order_cancel_request<'a>(r: &Reader<'a>) -> Result<OrderCancelRequest<Text<'a>, Text<'a>, Text<'a>>, Fault>
+pub fn read_order_cancel_request<'a>(
+    r: &Reader<'a>,
+) -> Result<OrderCancelRequest<Text<'a>, Text<'a>, Text<'a>>, Fault>
     requires { ⌜ length (now (now r .src)) ≡ 73 ⌝ }
     ensures { λ m. ⌜ Body orderCancelRequest (λ m. orderCancelRequestContents (orderCancelRequestHeard m)) orderCancelRequestPlaces (now (now (r .entry) .src)) m ⌝ }
 {
@@ -200,7 +204,9 @@ pub fn read_order_cancel_request<'a>(r: &Reader<'a>) -> Result<OrderCancelReques
     })
 }
 
-pub fn order_cancel_request_values(m: &OrderCancelRequest<RequestId, ClientOrderId, Symbol>) -> [Value<'_>; 7]
+pub fn order_cancel_request_values(
+    m: &OrderCancelRequest<RequestId, ClientOrderId, Symbol>,
+) -> [Value<'_>; 7]
     ensures means { λ r. ⌜ Means r (orderCancelRequestContents (orderCancelRequestKept (now (m .entry)))) ⌝ }
     ensures typed { λ _. ⌜ orderCancelRequestTyped (orderCancelRequestKept (now (m .entry))) ⌝ }
 {
@@ -256,13 +262,20 @@ const ORDER_CANCEL_REPLACE_REQUEST: [Field; 17] = [
     Field::Always(93, Form::Code(Codes::Sides)),
     Field::Always(94, Form::Reserved(8)),
     Field::Always(102, Form::Code(Codes::Books)),
-    Field::When(103, Form::Code(Codes::ExecInstructions), 102, Codes::DarkOnly),
+    Field::When(
+        103,
+        Form::Code(Codes::ExecInstructions),
+        102,
+        Codes::DarkOnly,
+    ),
     Field::Always(104, Form::Int32),
     Field::Always(108, Form::Code(Codes::PassiveOnlys)),
     Field::Always(109, Form::Reserved(3)),
 ];
 
-pub fn read_order_cancel_replace_request<'a>(r: &Reader<'a>) -> Result<OrderCancelReplaceRequest<Text<'a>, Text<'a>, Text<'a>, Text<'a>>, Fault>
+pub fn read_order_cancel_replace_request<'a>(
+    r: &Reader<'a>,
+) -> Result<OrderCancelReplaceRequest<Text<'a>, Text<'a>, Text<'a>, Text<'a>>, Fault>
     requires { ⌜ length (now (now r .src)) ≡ 112 ⌝ }
     ensures { λ m. ⌜ Body orderCancelReplaceRequest (λ m. orderCancelReplaceRequestContents (orderCancelReplaceRequestHeard m)) orderCancelReplaceRequestPlaces (now (now (r .entry) .src)) m ⌝ }
 {
@@ -285,7 +298,9 @@ pub fn read_order_cancel_replace_request<'a>(r: &Reader<'a>) -> Result<OrderCanc
     })
 }
 
-pub fn order_cancel_replace_request_values(m: &OrderCancelReplaceRequest<RequestId, ClientOrderId, Symbol, Account>) -> [Value<'_>; 17]
+pub fn order_cancel_replace_request_values(
+    m: &OrderCancelReplaceRequest<RequestId, ClientOrderId, Symbol, Account>,
+) -> [Value<'_>; 17]
     ensures means { λ r. ⌜ Means r (orderCancelReplaceRequestContents (orderCancelReplaceRequestKept (now (m .entry)))) ⌝ }
     ensures typed { λ _. ⌜ orderCancelReplaceRequestTyped (orderCancelReplaceRequestKept (now (m .entry))) ⌝ }
 {
@@ -336,7 +351,9 @@ const ORDER_MASS_CANCEL_REQUEST: [Field; 7] = [
     Field::Always(37, Form::Reserved(9)),
 ];
 
-pub fn read_order_mass_cancel_request<'a>(r: &Reader<'a>) -> Result<OrderMassCancelRequest<'a>, Fault>
+pub fn read_order_mass_cancel_request<'a>(
+    r: &Reader<'a>,
+) -> Result<OrderMassCancelRequest<'a>, Fault>
     requires { ⌜ length (now (now r .src)) ≡ 46 ⌝ }
     ensures { λ m. ⌜ Body orderMassCancelRequest (λ m. orderMassCancelRequestContents (orderMassCancelRequestHeard m)) orderMassCancelRequestPlaces (now (now (r .entry) .src)) m ⌝ }
 {
@@ -369,20 +386,38 @@ pub fn write_new_order(m: &NewOrder<RequestId, TraderId, Account, Symbol>, out: 
     write_fields(out, b'D', 97, &NEW_ORDER, &new_order_values(m));
 }
 
-pub fn write_order_cancel_request(m: &OrderCancelRequest<RequestId, ClientOrderId, Symbol>, out: &mut [u8])
+pub fn write_order_cancel_request(
+    m: &OrderCancelRequest<RequestId, ClientOrderId, Symbol>,
+    out: &mut [u8],
+)
     requires { ⌜ 73 ≤ length (now out) ⌝ }
     ensures wrote { λ _. ⌜ Wrote 70 73 orderCancelRequest (orderCancelRequestContents (orderCancelRequestKept (now (m .entry)))) (now (out .entry)) (now (out .exit)) ⌝ }
     ensures holds { λ _. ⌜ HoldsIn orderCancelRequest (orderCancelRequestContents (orderCancelRequestKept (now (m .entry)))) ⌝ }
 {
-    write_fields(out, b'F', 73, &ORDER_CANCEL_REQUEST, &order_cancel_request_values(m));
+    write_fields(
+        out,
+        b'F',
+        73,
+        &ORDER_CANCEL_REQUEST,
+        &order_cancel_request_values(m),
+    );
 }
 
-pub fn write_order_cancel_replace_request(m: &OrderCancelReplaceRequest<RequestId, ClientOrderId, Symbol, Account>, out: &mut [u8])
+pub fn write_order_cancel_replace_request(
+    m: &OrderCancelReplaceRequest<RequestId, ClientOrderId, Symbol, Account>,
+    out: &mut [u8],
+)
     requires { ⌜ 112 ≤ length (now out) ⌝ }
     ensures wrote { λ _. ⌜ Wrote 71 112 orderCancelReplaceRequest (orderCancelReplaceRequestContents (orderCancelReplaceRequestKept (now (m .entry)))) (now (out .entry)) (now (out .exit)) ⌝ }
     ensures holds { λ _. ⌜ HoldsIn orderCancelReplaceRequest (orderCancelReplaceRequestContents (orderCancelReplaceRequestKept (now (m .entry)))) ⌝ }
 {
-    write_fields(out, b'G', 112, &ORDER_CANCEL_REPLACE_REQUEST, &order_cancel_replace_request_values(m));
+    write_fields(
+        out,
+        b'G',
+        112,
+        &ORDER_CANCEL_REPLACE_REQUEST,
+        &order_cancel_replace_request_values(m),
+    );
 }
 
 pub fn write_order_mass_cancel_request(m: &OwnedMassCancelRequest, out: &mut [u8])
@@ -390,5 +425,11 @@ pub fn write_order_mass_cancel_request(m: &OwnedMassCancelRequest, out: &mut [u8
     ensures wrote { λ _. ⌜ Wrote 113 46 orderMassCancelRequest (orderMassCancelRequestContents (orderMassCancelRequestKept (now (m .entry)))) (now (out .entry)) (now (out .exit)) ⌝ }
     ensures holds { λ _. ⌜ HoldsIn orderMassCancelRequest (orderMassCancelRequestContents (orderMassCancelRequestKept (now (m .entry)))) ⌝ }
 {
-    write_fields(out, b'q', 46, &ORDER_MASS_CANCEL_REQUEST, &order_mass_cancel_request_values(m));
+    write_fields(
+        out,
+        b'q',
+        46,
+        &ORDER_MASS_CANCEL_REQUEST,
+        &order_mass_cancel_request_values(m),
+    );
 }

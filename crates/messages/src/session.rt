@@ -14,10 +14,10 @@ use codes::session::ReportResponse;
 use codes::session::ReportResponseCode;
 use codes::session::Version;
 use codes::session::VersionCode;
+use layout::check::check;
 use layout::field::Fault;
 use layout::field::Field;
 use layout::field::Form;
-use layout::check::check;
 use layout::reader::Reader;
 use layout::sequence::LastSequence;
 use layout::value::Value;
@@ -110,9 +110,7 @@ pub struct Logout<T> {
 
 impl<T: Copy> Copy for Logout<T> {}
 
-const LOGOUT: [Field; 1] = [
-    Field::Always(4, Form::Text(20)),
-];
+const LOGOUT: [Field; 1] = [Field::Always(4, Form::Text(20))];
 
 pub fn read_logout<'a>(r: &Reader<'a>) -> Result<Logout<Text<'a>>, Fault>
     requires { ⌜ length (now (now r .src)) ≡ 24 ⌝ }
@@ -127,9 +125,7 @@ pub fn read_logout<'a>(r: &Reader<'a>) -> Result<Logout<Text<'a>>, Fault>
 pub fn logout_values(m: &Logout<LogoutReason>) -> [Value<'_>; 1]
     ensures { λ r. ⌜ Means r (logoutContents (logoutKept (now (m .entry)))) ⌝ }
 {
-    [
-        Value::Text(m.reason.as_bytes()),
-    ]
+    [Value::Text(m.reason.as_bytes())]
 }
 
 // Asks for a download of the reports behind the last one seen. Any partition may be named.
@@ -172,9 +168,7 @@ pub struct MissedMessageRequestAck {
     pub response: AckResponse,
 }
 
-const MISSED_MESSAGE_REQUEST_ACK: [Field; 1] = [
-    Field::Always(4, Form::Code(Codes::AckResponses)),
-];
+const MISSED_MESSAGE_REQUEST_ACK: [Field; 1] = [Field::Always(4, Form::Code(Codes::AckResponses))];
 
 pub fn read_missed_message_request_ack(r: &Reader<'_>) -> Result<MissedMessageRequestAck, Fault>
     requires { ⌜ length (now (now r .src)) ≡ 5 ⌝ }
@@ -189,9 +183,7 @@ pub fn read_missed_message_request_ack(r: &Reader<'_>) -> Result<MissedMessageRe
 pub fn missed_message_request_ack_values(m: &MissedMessageRequestAck) -> [Value<'_>; 1]
     ensures { λ r. ⌜ Means r (missedMessageRequestAckContents (missedMessageRequestAckKept (now (m .entry)))) ⌝ }
 {
-    [
-        Value::Code(m.response as u8),
-    ]
+    [Value::Code(m.response as u8)]
 }
 
 // How a download ended.
@@ -200,9 +192,7 @@ pub struct MissedMessageReport {
     pub response: ReportResponse,
 }
 
-const MISSED_MESSAGE_REPORT: [Field; 1] = [
-    Field::Always(4, Form::Code(Codes::ReportResponses)),
-];
+const MISSED_MESSAGE_REPORT: [Field; 1] = [Field::Always(4, Form::Code(Codes::ReportResponses))];
 
 pub fn read_missed_message_report(r: &Reader<'_>) -> Result<MissedMessageReport, Fault>
     requires { ⌜ length (now (now r .src)) ≡ 5 ⌝ }
@@ -217,9 +207,7 @@ pub fn read_missed_message_report(r: &Reader<'_>) -> Result<MissedMessageReport,
 pub fn missed_message_report_values(m: &MissedMessageReport) -> [Value<'_>; 1]
     ensures { λ r. ⌜ Means r (missedMessageReportContents (missedMessageReportKept (now (m .entry)))) ⌝ }
 {
-    [
-        Value::Code(m.response as u8),
-    ]
+    [Value::Code(m.response as u8)]
 }
 
 // A message that was not taken, by its type and its Client Order ID where they are known.
@@ -300,7 +288,13 @@ pub fn write_missed_message_request(m: &MissedMessageRequest<LastSequence>, out:
     ensures wrote { λ _. ⌜ Wrote 77 9 missedMessageRequest (missedMessageRequestContents (missedMessageRequestKept (now (m .entry)))) (now (out .entry)) (now (out .exit)) ⌝ }
     ensures holds { λ _. ⌜ HoldsIn missedMessageRequest (missedMessageRequestContents (missedMessageRequestKept (now (m .entry)))) ⌝ }
 {
-    write_fields(out, b'M', 9, &MISSED_MESSAGE_REQUEST, &missed_message_request_values(m));
+    write_fields(
+        out,
+        b'M',
+        9,
+        &MISSED_MESSAGE_REQUEST,
+        &missed_message_request_values(m),
+    );
 }
 
 pub fn write_missed_message_request_ack(m: &MissedMessageRequestAck, out: &mut [u8])
@@ -308,7 +302,13 @@ pub fn write_missed_message_request_ack(m: &MissedMessageRequestAck, out: &mut [
     ensures wrote { λ _. ⌜ Wrote 78 5 missedMessageRequestAck (missedMessageRequestAckContents (missedMessageRequestAckKept (now (m .entry)))) (now (out .entry)) (now (out .exit)) ⌝ }
     ensures holds { λ _. ⌜ HoldsIn missedMessageRequestAck (missedMessageRequestAckContents (missedMessageRequestAckKept (now (m .entry)))) ⌝ }
 {
-    write_fields(out, b'N', 5, &MISSED_MESSAGE_REQUEST_ACK, &missed_message_request_ack_values(m));
+    write_fields(
+        out,
+        b'N',
+        5,
+        &MISSED_MESSAGE_REQUEST_ACK,
+        &missed_message_request_ack_values(m),
+    );
 }
 
 pub fn write_missed_message_report(m: &MissedMessageReport, out: &mut [u8])
@@ -316,7 +316,13 @@ pub fn write_missed_message_report(m: &MissedMessageReport, out: &mut [u8])
     ensures wrote { λ _. ⌜ Wrote 80 5 missedMessageReport (missedMessageReportContents (missedMessageReportKept (now (m .entry)))) (now (out .entry)) (now (out .exit)) ⌝ }
     ensures holds { λ _. ⌜ HoldsIn missedMessageReport (missedMessageReportContents (missedMessageReportKept (now (m .entry)))) ⌝ }
 {
-    write_fields(out, b'P', 5, &MISSED_MESSAGE_REPORT, &missed_message_report_values(m));
+    write_fields(
+        out,
+        b'P',
+        5,
+        &MISSED_MESSAGE_REPORT,
+        &missed_message_report_values(m),
+    );
 }
 
 pub fn write_reject(m: &Reject<Reason, ClientOrderId>, out: &mut [u8])

@@ -12,12 +12,12 @@ ghost use Rattle.layout.specs.Layout.{ok, got};
 ghost use Rattle.layout.specs.Layout.Content.{figure};
 ghost use Rattle.layout.specs.Values.{meant};
 ghost use Rattle.messages.specs.Terms.{pricingCode, pricingPrice, pricingTyped, targetCode, targetInstruction, scopeHeard, scopeKept, scopeCode, scopeSymbol, scopeSegment, scopeBook, scopePlaces, scopeTexts, executionCode, executionReject, executionLiquidity, executionTrade, executionTyped};
-use layout::reader::Reader;
-use layout::value::Value;
 use codes::order::Book;
 use codes::order::BookCode;
 use codes::order::ExecInstruction;
 use codes::order::ExecInstructionCode;
+use codes::order::ExecInstructionDebug;
+use codes::order::ExecInstructionPartialEq;
 use codes::order::MassCancelType;
 use codes::order::MassCancelTypeCode;
 use codes::order::OrderType;
@@ -26,20 +26,20 @@ use codes::report::ExecType;
 use codes::report::ExecTypeCode;
 use codes::report::Liquidity;
 use codes::report::LiquidityCode;
+use codes::report::LiquidityDebug;
+use codes::report::LiquidityPartialEq;
 use codes::report::TradeType;
 use codes::report::TradeTypeCode;
+use codes::report::TradeTypeDebug;
+use codes::report::TradeTypePartialEq;
+use layout::reader::Reader;
+use layout::value::Value;
 use texts::names::Segment;
 use texts::names::Symbol;
 use texts::values::Price;
-use texts::values::Text;
-use codes::order::ExecInstructionDebug;
-use codes::order::ExecInstructionPartialEq;
-use codes::report::LiquidityDebug;
-use codes::report::LiquidityPartialEq;
-use codes::report::TradeTypeDebug;
-use codes::report::TradeTypePartialEq;
 use texts::values::PriceDebug;
 use texts::values::PricePartialEq;
+use texts::values::Text;
 
 // Only a limit order has a limit.
 #[derive(Clone, Copy, Debug, PartialEq)]
@@ -83,7 +83,7 @@ pub enum Execution {
 }
 
 impl Pricing {
-    pub fn code(&self) -> u8
+    pub(crate) fn code(&self) -> u8
         ensures { λ r. ⌜ r ≡ pricingCode (now (self .entry)) ⌝ }
     {
         match self {
@@ -92,7 +92,7 @@ impl Pricing {
         }
     }
 
-    pub fn price(&self) -> Value<'static>
+    pub(crate) fn price(&self) -> Value<'static>
         ensures value { λ r. ⌜ meant r ≡ pricingPrice (now (self .entry)) ⌝ }
         ensures typed { λ _. ⌜ pricingTyped (now (self .entry)) ⌝ }
     {
@@ -103,7 +103,7 @@ impl Pricing {
     }
 }
 
-pub fn read_pricing(r: &Reader<'_>) -> Pricing
+pub(crate) fn read_pricing(r: &Reader<'_>) -> Pricing
     requires { ⌜ 75 ≤ length (now (now r .src)) ⌝ }
     requires { ⌜ ok (now (now r .src)) (field.Always 52 (form.Code list.OrderTypes)) ≡ true ⌝ }
     ensures code { λ p. ⌜ figure (pricingCode p) ≡ got (now (now (r .entry) .src)) (field.Always 52 (form.Code list.OrderTypes)) ⌝ }
@@ -117,7 +117,7 @@ pub fn read_pricing(r: &Reader<'_>) -> Pricing
 }
 
 impl Target {
-    pub fn code(&self) -> u8
+    pub(crate) fn code(&self) -> u8
         ensures { λ r. ⌜ r ≡ targetCode (now (self .entry)) ⌝ }
     {
         match self {
@@ -126,7 +126,7 @@ impl Target {
         }
     }
 
-    pub fn instruction(&self) -> Value<'static>
+    pub(crate) fn instruction(&self) -> Value<'static>
         ensures { λ r. ⌜ meant r ≡ targetInstruction (now (self .entry)) ⌝ }
     {
         match self {
@@ -137,7 +137,7 @@ impl Target {
 }
 
 // The book at a place, and the instruction right behind it.
-pub fn read_target(r: &Reader<'_>, at: usize) -> Target
+pub(crate) fn read_target(r: &Reader<'_>, at: usize) -> Target
     requires { ⌜ at + 2 ≤ length (now (now r .src)) ⌝ }
     requires { ⌜ ok (now (now r .src)) (field.Always at (form.Code list.Books)) ≡ true ⌝ }
     requires { ⌜ ok (now (now r .src)) (field.When (at + 1) (form.Code list.ExecInstructions) at list.DarkOnly) ≡ true ⌝ }
@@ -152,7 +152,7 @@ pub fn read_target(r: &Reader<'_>, at: usize) -> Target
 }
 
 impl Scope<Symbol, Segment> {
-    pub fn code(&self) -> u8
+    pub(crate) fn code(&self) -> u8
         ensures { λ r. ⌜ r ≡ scopeCode (scopeKept (now (self .entry))) ⌝ }
     {
         match self {
@@ -165,35 +165,39 @@ impl Scope<Symbol, Segment> {
         }
     }
 
-    pub fn symbol(&self) -> Value<'_>
+    pub(crate) fn symbol(&self) -> Value<'_>
         ensures { λ r. ⌜ meant r ≡ scopeSymbol (scopeKept (now (self .entry))) ⌝ }
     {
         match self {
-            Scope::FirmInstrument(symbol, _) | Scope::CompIdInstrument(symbol, _) => Value::Text(symbol.as_bytes()),
+            Scope::FirmInstrument(symbol, _) | Scope::CompIdInstrument(symbol, _) =>
+                Value::Text(symbol.as_bytes()),
             _ => Value::Ignored,
         }
     }
 
-    pub fn segment(&self) -> Value<'_>
+    pub(crate) fn segment(&self) -> Value<'_>
         ensures { λ r. ⌜ meant r ≡ scopeSegment (scopeKept (now (self .entry))) ⌝ }
     {
         match self {
-            Scope::FirmSegment(segment) | Scope::CompIdSegment(segment) => Value::Text(segment.as_bytes()),
+            Scope::FirmSegment(segment) | Scope::CompIdSegment(segment) =>
+                Value::Text(segment.as_bytes()),
             _ => Value::Ignored,
         }
     }
 
-    pub fn book(&self) -> Value<'static>
+    pub(crate) fn book(&self) -> Value<'static>
         ensures { λ r. ⌜ meant r ≡ scopeBook (scopeKept (now (self .entry))) ⌝ }
     {
         match self {
-            Scope::FirmInstrument(_, book) | Scope::CompIdInstrument(_, book) => Value::Code(*book as u8),
+            Scope::FirmInstrument(_, book) | Scope::CompIdInstrument(_, book) => Value::Code(
+                *book as u8,
+            ),
             _ => Value::Ignored,
         }
     }
 }
 
-pub fn read_scope<'a>(r: &Reader<'a>) -> Scope<Text<'a>, Text<'a>>
+pub(crate) fn read_scope<'a>(r: &Reader<'a>) -> Scope<Text<'a>, Text<'a>>
     requires { ⌜ 46 ≤ length (now (now r .src)) ⌝ }
     requires { ⌜ ok (now (now r .src)) (field.Always 24 (form.Code list.MassCancelTypes)) ≡ true ⌝ }
     requires { ⌜ ok (now (now r .src)) (field.When 36 (form.Code list.Books) 24 list.ByInstrument) ≡ true ⌝ }
@@ -215,7 +219,7 @@ pub fn read_scope<'a>(r: &Reader<'a>) -> Scope<Text<'a>, Text<'a>>
 }
 
 impl Execution {
-    pub fn code(&self) -> u8
+    pub(crate) fn code(&self) -> u8
         ensures { λ r. ⌜ r ≡ executionCode (now (self .entry)) ⌝ }
     {
         match self {
@@ -231,7 +235,7 @@ impl Execution {
         }
     }
 
-    pub fn reject_code(&self) -> Value<'static>
+    pub(crate) fn reject_code(&self) -> Value<'static>
         ensures value { λ r. ⌜ meant r ≡ executionReject (now (self .entry)) ⌝ }
         ensures typed { λ _. ⌜ executionTyped (now (self .entry)) ⌝ }
     {
@@ -241,16 +245,18 @@ impl Execution {
         }
     }
 
-    pub fn liquidity(&self) -> Value<'static>
+    pub(crate) fn liquidity(&self) -> Value<'static>
         ensures { λ r. ⌜ meant r ≡ executionLiquidity (now (self .entry)) ⌝ }
     {
         match self {
-            Execution::Trade(liquidity, _) | Execution::TradeCancel(liquidity) => Value::Alpha(*liquidity as u8),
+            Execution::Trade(liquidity, _) | Execution::TradeCancel(liquidity) => Value::Alpha(
+                *liquidity as u8,
+            ),
             _ => Value::Ignored,
         }
     }
 
-    pub fn trade_type(&self) -> Value<'static>
+    pub(crate) fn trade_type(&self) -> Value<'static>
         ensures { λ r. ⌜ meant r ≡ executionTrade (now (self .entry)) ⌝ }
     {
         match self {
@@ -260,7 +266,7 @@ impl Execution {
     }
 }
 
-pub fn read_execution(r: &Reader<'_>) -> Execution
+pub(crate) fn read_execution(r: &Reader<'_>) -> Execution
     requires { ⌜ 145 ≤ length (now (now r .src)) ⌝ }
     requires { ⌜ ok (now (now r .src)) (field.Always 53 (form.Code list.ExecTypes)) ≡ true ⌝ }
     requires { ⌜ ok (now (now r .src)) (field.When 118 (form.Code list.Liquidities) 53 list.TradeOrCancel) ≡ true ⌝ }

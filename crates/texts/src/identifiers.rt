@@ -92,7 +92,9 @@ fn id_text(letter: u8, number: u64) -> FixedText<12>
     ensures text { λ r. ⌜ r .bytes ≡ idOf letter number ⌝ }
     ensures returns { λ _. ⌜ Returns letter number ⌝ }
 {
-    FixedText { bytes: write_id(letter, number) }
+    FixedText {
+        bytes: write_id(letter, number),
+    }
 }
 
 impl OrderId {
@@ -119,6 +121,9 @@ impl ExecutionId {
         ensures text { λ r. ⌜ r .bytes ≡ executionId (self .partition) (self .sequence) ⌝ }
         ensures returns { λ _. ⌜ Returns 69 (executionNumber (self .partition) (self .sequence)) ⌝ }
     {
-        id_text(b'E', u64::from(self.partition) * 4294967296 + u64::from(self.sequence))
+        id_text(
+            b'E',
+            u64::from(self.partition) * 4294967296 + u64::from(self.sequence),
+        )
     }
 }

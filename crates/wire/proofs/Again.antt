@@ -203,7 +203,7 @@ opened-by ch k b₀ b₁ b₂ b₃ bs e =
     let r₂ = cond (eqb (le (part 0 1 ms)) 2) (sized ms (takes ch (le (part 3 1 ms)))) (Err (2, 0)) in
     let r₁ = cond (ltb (length ms) (le (part 1 2 ms) + 3)) (Err (1, 1)) r₂ in
     let u = kept-on (eqb (le (part 0 1 ms)) 2) (sized ms (takes ch (le (part 3 1 ms)))) (2, 0) k
-        (past (ltb (length ms) (le (part 1 2 ms) + 3)) r₂ (1, 1) k (past (ltb (length ms) 4) r₁ (1, 1) k e)) in
+    (past (ltb (length ms) (le (part 1 2 ms) + 3)) r₂ (1, 1) k (past (ltb (length ms) 4) r₁ (1, 1) k e)) in
     let v = sized-by ms (takes ch (le (part 3 1 ms))) k (u .1) in
     let z : b₀ + 256 * 0 ≡ 2 = eqb-true (b₀ + 256 * 0) 2 (u .0) in
     let w : takes ch (b₃ + 256 * 0) ≡ Some k = v .0 in

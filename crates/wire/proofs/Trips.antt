@@ -238,11 +238,13 @@ ok-same r j k p q = cc
 
 pub given-back : (m : Said) → Holdable m → GivenBack m
 given-back m h ch d =
-    let a = again ch m h d in
-    (a .1, λ b r.
-        let k : kindOf (heardOf b) ≡ kindOf m = ok-same (opening ch (written m)) (kindOf (heardOf b)) (kindOf m) (r .opens) (a .0) in
-        let P : Kind → Type 0 = λ j. Says (contentsOf (heardOf b)) (tableOf j) (written m) in
-        same (heardOf b) m k (says-same (tableOf (kindOf m)) (contentsOf (heardOf b)) (contentsOf m) (written m) (subst P k (r .says)) (a .2)))
+    let a = again ch m h d in (
+      a .1,
+      λ b r.
+          let k : kindOf (heardOf b) ≡ kindOf m = ok-same (opening ch (written m)) (kindOf (heardOf b)) (kindOf m) (r .opens) (a .0) in
+          let P : Kind → Type 0 = λ j. Says (contentsOf (heardOf b)) (tableOf j) (written m) in
+          same (heardOf b) m k (says-same (tableOf (kindOf m)) (contentsOf (heardOf b)) (contentsOf m) (written m) (subst P k (r .says)) (a .2)),
+    )
 
 -- some reader takes each kind
 taken-by : (k : Kind) → (ch : Channel) × (takes ch (letterOf k) ≡ Some k)

@@ -7,15 +7,15 @@ ghost use Rattle.std.specs.declared.result.Result.the-variants.{Ok, Err};
 ghost use Rattle.std.specs.Results.{Cases};
 ghost use Rattle.wire.specs.Kinds.{totals, totalOf};
 ghost use Rattle.wire.specs.Messages.{opening, keptOf, kindOf, written, Holdable, GivenBack, Apart, Again, WasRead, Wrote};
-use layout::field::Fault;
 use crate::kinds::Channel;
 use crate::kinds::Kind;
+use layout::field::Fault;
 use layout::reader::Reader;
-use messages::session::*;
-use messages::requests::*;
-use messages::reports::*;
 use layout::sequence::LastSequence;
 use layout::writer::put_header;
+use messages::reports::*;
+use messages::requests::*;
+use messages::session::*;
 use texts::fixed::RequestId;
 use texts::names::*;
 use texts::values::Text;
@@ -94,17 +94,40 @@ fn read_kind<'a>(channel: Channel, bytes: &'a [u8]) -> Result<Message<'a>, Fault
         Kind::LogonReply => Ok(Message::LogonReply(read_logon_reply(&r)?)),
         Kind::Logout => Ok(Message::Logout(read_logout(&r)?)),
         Kind::Heartbeat => Ok(Message::Heartbeat),
-        Kind::MissedMessageRequest => Ok(Message::MissedMessageRequest(read_missed_message_request(&r)?)),
-        Kind::MissedMessageRequestAck => Ok(Message::MissedMessageRequestAck(read_missed_message_request_ack(&r)?)),
-        Kind::MissedMessageReport => Ok(Message::MissedMessageReport(read_missed_message_report(&r)?)),
-        Kind::Reject => Ok(Message::Reject(ReadReject { fields: read_reject(&r)? })),
-        Kind::NewOrder => Ok(Message::NewOrder(ReadNewOrder { fields: read_new_order(&r)? })),
-        Kind::OrderCancelRequest => Ok(Message::OrderCancelRequest(ReadOrderCancelRequest { fields: read_order_cancel_request(&r)? })),
-        Kind::OrderCancelReplaceRequest => Ok(Message::OrderCancelReplaceRequest(ReadOrderCancelReplaceRequest { fields: read_order_cancel_replace_request(&r)? })),
-        Kind::OrderMassCancelRequest => Ok(Message::OrderMassCancelRequest(read_order_mass_cancel_request(&r)?)),
-        Kind::ExecutionReport => Ok(Message::ExecutionReport(ReadExecutionReport { fields: read_execution_report(&r)? })),
-        Kind::OrderCancelReject => Ok(Message::OrderCancelReject(ReadOrderCancelReject { fields: read_order_cancel_reject(&r)? })),
-        Kind::OrderMassCancelReport => Ok(Message::OrderMassCancelReport(read_order_mass_cancel_report(&r)?)),
+        Kind::MissedMessageRequest => Ok(Message::MissedMessageRequest(
+            read_missed_message_request(&r)?,
+        )),
+        Kind::MissedMessageRequestAck => Ok(Message::MissedMessageRequestAck(
+            read_missed_message_request_ack(&r)?,
+        )),
+        Kind::MissedMessageReport => Ok(Message::MissedMessageReport(
+            read_missed_message_report(&r)?,
+        )),
+        Kind::Reject => Ok(Message::Reject(ReadReject {
+            fields: read_reject(&r)?,
+        })),
+        Kind::NewOrder => Ok(Message::NewOrder(ReadNewOrder {
+            fields: read_new_order(&r)?,
+        })),
+        Kind::OrderCancelRequest => Ok(Message::OrderCancelRequest(ReadOrderCancelRequest {
+            fields: read_order_cancel_request(&r)?,
+        })),
+        Kind::OrderCancelReplaceRequest =>
+            Ok(Message::OrderCancelReplaceRequest(ReadOrderCancelReplaceRequest {
+                fields: read_order_cancel_replace_request(&r)?,
+            })),
+        Kind::OrderMassCancelRequest => Ok(Message::OrderMassCancelRequest(
+            read_order_mass_cancel_request(&r)?,
+        )),
+        Kind::ExecutionReport => Ok(Message::ExecutionReport(ReadExecutionReport {
+            fields: read_execution_report(&r)?,
+        })),
+        Kind::OrderCancelReject => Ok(Message::OrderCancelReject(ReadOrderCancelReject {
+            fields: read_order_cancel_reject(&r)?,
+        })),
+        Kind::OrderMassCancelReport => Ok(Message::OrderMassCancelReport(
+            read_order_mass_cancel_report(&r)?,
+        )),
     }
 }
 

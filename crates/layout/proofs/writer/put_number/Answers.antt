@@ -23,10 +23,12 @@ loop-i-again c =
     let h : i < w = search needs in
     let l : i < length xs = rw (length-toLe w (c .args .number)) h in
     let k : c .args .at + i < length (c .args .out .now) = search needs in
-    let t = toLe-turn w i (c .loop-i .n) xs h l (c .loop-i .inv .1) in
-    (ap (λ x. set x (c .args .at + i) (c .loop-i .n % 256)) (c .loop-i .inv .0)
-    ∙ ap (λ v. set (paste (c .args .out .now) (c .args .at) xs i) (c .args .at + i) v) (sym (t .0))
-    ∙ paste-more (c .args .out .now) (c .args .at) xs i 0 k l, t .1)
+    let t = toLe-turn w i (c .loop-i .n) xs h l (c .loop-i .inv .1) in (
+      ap (λ x. set x (c .args .at + i) (c .loop-i .n % 256)) (c .loop-i .inv .0)
+          ∙ ap (λ v. set (paste (c .args .out .now) (c .args .at) xs i) (c .args .at + i) v) (sym (t .0))
+          ∙ paste-more (c .args .out .now) (c .args .at) xs i 0 k l,
+      t .1,
+    )
 
 pub returns : need.returns
 returns c =

@@ -10,14 +10,15 @@ pub code-requires : need.code-requires
 code-requires c κs = (search needs, c .in-Continue-check .ensures tt .1 .0)
 
 pub returns : need.returns
-returns c =
-    (c .in-Continue-check .ensures tt .0,
-    ap figure (c .code .ensures)
-    ⊹ ap (λ n. int32 (toZ w32 n)) (c .i32 .ensures .bits)
-    ⊹ ap words (c .text .ensures .bytes)
-    ⊹ ap words (c .text-2 .ensures .bytes)
-    ⊹ ap (λ n. int32 (toZ w32 n)) (c .i32-2 .ensures .bits)
-    ⊹ clocked (c .time .ensures .seconds) (c .time .ensures .micros)
-    ⊹ blank
-    ⊹ tt,
-    consed (c .text .ensures .offset) (consed (c .text-2 .ensures .offset) refl))
+returns c = (
+  c .in-Continue-check .ensures tt .0,
+  ap figure (c .code .ensures)
+      ⊹ ap (λ n. int32 (toZ w32 n)) (c .i32 .ensures .bits)
+      ⊹ ap words (c .text .ensures .bytes)
+      ⊹ ap words (c .text-2 .ensures .bytes)
+      ⊹ ap (λ n. int32 (toZ w32 n)) (c .i32-2 .ensures .bits)
+      ⊹ clocked (c .time .ensures .seconds) (c .time .ensures .micros)
+      ⊹ blank
+      ⊹ tt,
+  consed (c .text .ensures .offset) (consed (c .text-2 .ensures .offset) refl),
+)

@@ -10,14 +10,14 @@ pub write-fields-requires : need.write-fields-requires
 write-fields-requires c κs =
     let h = orderCancelReject-holds (c .args .m .now) (c .order-cancel-reject-values .ensures .typed) in
     record {
-        room = (c .pre, omega arith);
-        table = (refl, refl);
-        each = (means-long (c .order-cancel-reject-values .result) (orderCancelRejectContents (orderCancelRejectKept (c .args .m .now))) (c .order-cancel-reject-values .ensures .means), fits-means orderCancelReject (c .order-cancel-reject-values .result) (orderCancelRejectContents (orderCancelRejectKept (c .args .m .now))) (c .order-cancel-reject-values .ensures .means) h)
+      room = (c .pre, omega arith);
+      table = (refl, refl);
+      each = (means-long (c .order-cancel-reject-values .result) (orderCancelRejectContents (orderCancelRejectKept (c .args .m .now))) (c .order-cancel-reject-values .ensures .means), fits-means orderCancelReject (c .order-cancel-reject-values .result) (orderCancelRejectContents (orderCancelRejectKept (c .args .m .now))) (c .order-cancel-reject-values .ensures .means) h);
     }
 
 pub returns : need.returns
 returns c =
     record {
-        wrote = wrote-means 57 63 orderCancelReject (c .order-cancel-reject-values .result) (orderCancelRejectContents (orderCancelRejectKept (c .args .m .now))) (c .args .out .now) (c .order-cancel-reject-values .ensures .means) (c .write-fields .ensures);
-        holds = orderCancelReject-holds (c .args .m .now) (c .order-cancel-reject-values .ensures .typed)
+      wrote = wrote-means 57 63 orderCancelReject (c .order-cancel-reject-values .result) (orderCancelRejectContents (orderCancelRejectKept (c .args .m .now))) (c .args .out .now) (c .order-cancel-reject-values .ensures .means) (c .write-fields .ensures);
+      holds = orderCancelReject-holds (c .args .m .now) (c .order-cancel-reject-values .ensures .typed);
     }

@@ -10,14 +10,14 @@ pub write-fields-requires : need.write-fields-requires
 write-fields-requires c κs =
     let h = orderMassCancelReport-holds (c .args .m .now) (c .order-mass-cancel-report-values .ensures .typed) in
     record {
-        room = (c .pre, omega arith);
-        table = (refl, refl);
-        each = (means-long (c .order-mass-cancel-report-values .result) (orderMassCancelReportContents (orderMassCancelReportKept (c .args .m .now))) (c .order-mass-cancel-report-values .ensures .means), fits-means orderMassCancelReport (c .order-mass-cancel-report-values .result) (orderMassCancelReportContents (orderMassCancelReportKept (c .args .m .now))) (c .order-mass-cancel-report-values .ensures .means) h)
+      room = (c .pre, omega arith);
+      table = (refl, refl);
+      each = (means-long (c .order-mass-cancel-report-values .result) (orderMassCancelReportContents (orderMassCancelReportKept (c .args .m .now))) (c .order-mass-cancel-report-values .ensures .means), fits-means orderMassCancelReport (c .order-mass-cancel-report-values .result) (orderMassCancelReportContents (orderMassCancelReportKept (c .args .m .now))) (c .order-mass-cancel-report-values .ensures .means) h);
     }
 
 pub returns : need.returns
 returns c =
     record {
-        wrote = wrote-means 114 56 orderMassCancelReport (c .order-mass-cancel-report-values .result) (orderMassCancelReportContents (orderMassCancelReportKept (c .args .m .now))) (c .args .out .now) (c .order-mass-cancel-report-values .ensures .means) (c .write-fields .ensures);
-        holds = orderMassCancelReport-holds (c .args .m .now) (c .order-mass-cancel-report-values .ensures .typed)
+      wrote = wrote-means 114 56 orderMassCancelReport (c .order-mass-cancel-report-values .result) (orderMassCancelReportContents (orderMassCancelReportKept (c .args .m .now))) (c .args .out .now) (c .order-mass-cancel-report-values .ensures .means) (c .write-fields .ensures);
+      holds = orderMassCancelReport-holds (c .args .m .now) (c .order-mass-cancel-report-values .ensures .typed);
     }

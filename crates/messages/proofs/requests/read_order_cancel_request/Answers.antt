@@ -13,14 +13,15 @@ pub code-requires-2 : need.code-requires-2
 code-requires-2 c κs = (search needs, c .in-Continue-check .ensures tt .1 .1 .1 .1 .1 .1 .0)
 
 pub returns : need.returns
-returns c =
-    (c .in-Continue-check .ensures tt .0,
-    ap words (c .text .ensures .bytes)
-    ⊹ ap words (c .text-2 .ensures .bytes)
-    ⊹ ap order (c .order .ensures)
-    ⊹ ap words (c .text-3 .ensures .bytes)
-    ⊹ ap figure (c .code .ensures)
-    ⊹ ap figure (c .code-2 .ensures)
-    ⊹ blank
-    ⊹ tt,
-    consed (c .text .ensures .offset) (consed (c .text-2 .ensures .offset) (consed (c .text-3 .ensures .offset) refl)))
+returns c = (
+  c .in-Continue-check .ensures tt .0,
+  ap words (c .text .ensures .bytes)
+      ⊹ ap words (c .text-2 .ensures .bytes)
+      ⊹ ap order (c .order .ensures)
+      ⊹ ap words (c .text-3 .ensures .bytes)
+      ⊹ ap figure (c .code .ensures)
+      ⊹ ap figure (c .code-2 .ensures)
+      ⊹ blank
+      ⊹ tt,
+  consed (c .text .ensures .offset) (consed (c .text-2 .ensures .offset) (consed (c .text-3 .ensures .offset) refl)),
+)

@@ -10,14 +10,15 @@ pub read-scope-requires : need.read-scope-requires
 read-scope-requires c κs = (search needs, c .in-Continue-check .ensures tt .1 .1 .0, c .in-Continue-check .ensures tt .1 .1 .1 .1 .1 .1 .0)
 
 pub returns : need.returns
-returns c =
-    (c .in-Continue-check .ensures tt .0,
-    ap words (c .text .ensures .bytes)
-    ⊹ c .read-scope .ensures .code
-    ⊹ c .read-scope .ensures .symbol
-    ⊹ c .read-scope .ensures .segment
-    ⊹ blank
-    ⊹ c .read-scope .ensures .book
-    ⊹ blank
-    ⊹ tt,
-    consed (c .text .ensures .offset) (c .read-scope .ensures .places))
+returns c = (
+  c .in-Continue-check .ensures tt .0,
+  ap words (c .text .ensures .bytes)
+      ⊹ c .read-scope .ensures .code
+      ⊹ c .read-scope .ensures .symbol
+      ⊹ c .read-scope .ensures .segment
+      ⊹ blank
+      ⊹ c .read-scope .ensures .book
+      ⊹ blank
+      ⊹ tt,
+  consed (c .text .ensures .offset) (c .read-scope .ensures .places),
+)

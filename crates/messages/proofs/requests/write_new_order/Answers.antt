@@ -10,14 +10,14 @@ pub write-fields-requires : need.write-fields-requires
 write-fields-requires c κs =
     let h = newOrder-holds (c .args .m .now) (c .new-order-values .ensures .typed) in
     record {
-        room = (c .pre, omega arith);
-        table = (refl, refl);
-        each = (means-long (c .new-order-values .result) (newOrderContents (newOrderKept (c .args .m .now))) (c .new-order-values .ensures .means), fits-means newOrder (c .new-order-values .result) (newOrderContents (newOrderKept (c .args .m .now))) (c .new-order-values .ensures .means) h)
+      room = (c .pre, omega arith);
+      table = (refl, refl);
+      each = (means-long (c .new-order-values .result) (newOrderContents (newOrderKept (c .args .m .now))) (c .new-order-values .ensures .means), fits-means newOrder (c .new-order-values .result) (newOrderContents (newOrderKept (c .args .m .now))) (c .new-order-values .ensures .means) h);
     }
 
 pub returns : need.returns
 returns c =
     record {
-        wrote = wrote-means 68 97 newOrder (c .new-order-values .result) (newOrderContents (newOrderKept (c .args .m .now))) (c .args .out .now) (c .new-order-values .ensures .means) (c .write-fields .ensures);
-        holds = newOrder-holds (c .args .m .now) (c .new-order-values .ensures .typed)
+      wrote = wrote-means 68 97 newOrder (c .new-order-values .result) (newOrderContents (newOrderKept (c .args .m .now))) (c .args .out .now) (c .new-order-values .ensures .means) (c .write-fields .ensures);
+      holds = newOrder-holds (c .args .m .now) (c .new-order-values .ensures .typed);
     }

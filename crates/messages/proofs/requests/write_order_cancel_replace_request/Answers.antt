@@ -10,14 +10,14 @@ pub write-fields-requires : need.write-fields-requires
 write-fields-requires c κs =
     let h = orderCancelReplaceRequest-holds (c .args .m .now) (c .order-cancel-replace-request-values .ensures .typed) in
     record {
-        room = (c .pre, omega arith);
-        table = (refl, refl);
-        each = (means-long (c .order-cancel-replace-request-values .result) (orderCancelReplaceRequestContents (orderCancelReplaceRequestKept (c .args .m .now))) (c .order-cancel-replace-request-values .ensures .means), fits-means orderCancelReplaceRequest (c .order-cancel-replace-request-values .result) (orderCancelReplaceRequestContents (orderCancelReplaceRequestKept (c .args .m .now))) (c .order-cancel-replace-request-values .ensures .means) h)
+      room = (c .pre, omega arith);
+      table = (refl, refl);
+      each = (means-long (c .order-cancel-replace-request-values .result) (orderCancelReplaceRequestContents (orderCancelReplaceRequestKept (c .args .m .now))) (c .order-cancel-replace-request-values .ensures .means), fits-means orderCancelReplaceRequest (c .order-cancel-replace-request-values .result) (orderCancelReplaceRequestContents (orderCancelReplaceRequestKept (c .args .m .now))) (c .order-cancel-replace-request-values .ensures .means) h);
     }
 
 pub returns : need.returns
 returns c =
     record {
-        wrote = wrote-means 71 112 orderCancelReplaceRequest (c .order-cancel-replace-request-values .result) (orderCancelReplaceRequestContents (orderCancelReplaceRequestKept (c .args .m .now))) (c .args .out .now) (c .order-cancel-replace-request-values .ensures .means) (c .write-fields .ensures);
-        holds = orderCancelReplaceRequest-holds (c .args .m .now) (c .order-cancel-replace-request-values .ensures .typed)
+      wrote = wrote-means 71 112 orderCancelReplaceRequest (c .order-cancel-replace-request-values .result) (orderCancelReplaceRequestContents (orderCancelReplaceRequestKept (c .args .m .now))) (c .args .out .now) (c .order-cancel-replace-request-values .ensures .means) (c .write-fields .ensures);
+      holds = orderCancelReplaceRequest-holds (c .args .m .now) (c .order-cancel-replace-request-values .ensures .typed);
     }

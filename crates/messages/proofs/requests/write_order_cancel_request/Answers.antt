@@ -10,14 +10,14 @@ pub write-fields-requires : need.write-fields-requires
 write-fields-requires c κs =
     let h = orderCancelRequest-holds (c .args .m .now) (c .order-cancel-request-values .ensures .typed) in
     record {
-        room = (c .pre, omega arith);
-        table = (refl, refl);
-        each = (means-long (c .order-cancel-request-values .result) (orderCancelRequestContents (orderCancelRequestKept (c .args .m .now))) (c .order-cancel-request-values .ensures .means), fits-means orderCancelRequest (c .order-cancel-request-values .result) (orderCancelRequestContents (orderCancelRequestKept (c .args .m .now))) (c .order-cancel-request-values .ensures .means) h)
+      room = (c .pre, omega arith);
+      table = (refl, refl);
+      each = (means-long (c .order-cancel-request-values .result) (orderCancelRequestContents (orderCancelRequestKept (c .args .m .now))) (c .order-cancel-request-values .ensures .means), fits-means orderCancelRequest (c .order-cancel-request-values .result) (orderCancelRequestContents (orderCancelRequestKept (c .args .m .now))) (c .order-cancel-request-values .ensures .means) h);
     }
 
 pub returns : need.returns
 returns c =
     record {
-        wrote = wrote-means 70 73 orderCancelRequest (c .order-cancel-request-values .result) (orderCancelRequestContents (orderCancelRequestKept (c .args .m .now))) (c .args .out .now) (c .order-cancel-request-values .ensures .means) (c .write-fields .ensures);
-        holds = orderCancelRequest-holds (c .args .m .now) (c .order-cancel-request-values .ensures .typed)
+      wrote = wrote-means 70 73 orderCancelRequest (c .order-cancel-request-values .result) (orderCancelRequestContents (orderCancelRequestKept (c .args .m .now))) (c .args .out .now) (c .order-cancel-request-values .ensures .means) (c .write-fields .ensures);
+      holds = orderCancelRequest-holds (c .args .m .now) (c .order-cancel-request-values .ensures .typed);
     }

@@ -10,11 +10,12 @@ pub code-requires : need.code-requires
 code-requires c κs = (search needs, c .in-Continue-check .ensures tt .1 .1 .1 .1 .0)
 
 pub returns : need.returns
-returns c =
-    (c .in-Continue-check .ensures tt .0,
-    ap words (c .text .ensures .bytes)
-    ⊹ ap words (c .text-2 .ensures .bytes)
-    ⊹ ap words (c .text-3 .ensures .bytes)
-    ⊹ ap figure (c .code .ensures)
-    ⊹ tt,
-    consed (c .text .ensures .offset) (consed (c .text-2 .ensures .offset) (consed (c .text-3 .ensures .offset) refl)))
+returns c = (
+  c .in-Continue-check .ensures tt .0,
+  ap words (c .text .ensures .bytes)
+      ⊹ ap words (c .text-2 .ensures .bytes)
+      ⊹ ap words (c .text-3 .ensures .bytes)
+      ⊹ ap figure (c .code .ensures)
+      ⊹ tt,
+  consed (c .text .ensures .offset) (consed (c .text-2 .ensures .offset) (consed (c .text-3 .ensures .offset) refl)),
+)

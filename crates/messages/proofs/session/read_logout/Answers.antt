@@ -7,8 +7,9 @@ use Rattle.messages.proofs.Pair.{_⊹_, blank, clocked, consed}
 use Rattle.messages.proofs.session.read_logout.Needs as need
 
 pub returns : need.returns
-returns c =
-    (c .in-Continue-check .ensures tt .0,
-    ap words (c .text .ensures .bytes)
-    ⊹ tt,
-    consed (c .text .ensures .offset) refl)
+returns c = (
+  c .in-Continue-check .ensures tt .0,
+  ap words (c .text .ensures .bytes)
+      ⊹ tt,
+  consed (c .text .ensures .offset) refl,
+)

@@ -7,9 +7,10 @@ use Rattle.messages.proofs.Pair.{_⊹_, blank, clocked, consed}
 use Rattle.messages.proofs.session.read_missed_message_request.Needs as need
 
 pub returns : need.returns
-returns c =
-    (c .in-Continue-check .ensures tt .0,
-    ap (λ n. int8 (toZ w8 n)) (c .i8 .ensures .bits)
-    ⊹ ap figure (c .u32 .ensures)
-    ⊹ tt,
-    refl)
+returns c = (
+  c .in-Continue-check .ensures tt .0,
+  ap (λ n. int8 (toZ w8 n)) (c .i8 .ensures .bits)
+      ⊹ ap figure (c .u32 .ensures)
+      ⊹ tt,
+  refl,
+)

@@ -10,14 +10,14 @@ pub write-fields-requires : need.write-fields-requires
 write-fields-requires c κs =
     let h = logon-holds (c .args .m .now) in
     record {
-        room = (c .pre, omega arith);
-        table = (refl, refl);
-        each = (means-long (c .logon-values .result) (logonContents (logonKept (c .args .m .now))) (c .logon-values .ensures), fits-means logon (c .logon-values .result) (logonContents (logonKept (c .args .m .now))) (c .logon-values .ensures) h)
+      room = (c .pre, omega arith);
+      table = (refl, refl);
+      each = (means-long (c .logon-values .result) (logonContents (logonKept (c .args .m .now))) (c .logon-values .ensures), fits-means logon (c .logon-values .result) (logonContents (logonKept (c .args .m .now))) (c .logon-values .ensures) h);
     }
 
 pub returns : need.returns
 returns c =
     record {
-        wrote = wrote-means 65 80 logon (c .logon-values .result) (logonContents (logonKept (c .args .m .now))) (c .args .out .now) (c .logon-values .ensures) (c .write-fields .ensures);
-        holds = logon-holds (c .args .m .now)
+      wrote = wrote-means 65 80 logon (c .logon-values .result) (logonContents (logonKept (c .args .m .now))) (c .args .out .now) (c .logon-values .ensures) (c .write-fields .ensures);
+      holds = logon-holds (c .args .m .now);
     }

@@ -10,14 +10,14 @@ pub write-fields-requires : need.write-fields-requires
 write-fields-requires c κs =
     let h = logonReply-holds (c .args .m .now) (c .logon-reply-values .ensures .typed) in
     record {
-        room = (c .pre, omega arith);
-        table = (refl, refl);
-        each = (means-long (c .logon-reply-values .result) (logonReplyContents (logonReplyKept (c .args .m .now))) (c .logon-reply-values .ensures .means), fits-means logonReply (c .logon-reply-values .result) (logonReplyContents (logonReplyKept (c .args .m .now))) (c .logon-reply-values .ensures .means) h)
+      room = (c .pre, omega arith);
+      table = (refl, refl);
+      each = (means-long (c .logon-reply-values .result) (logonReplyContents (logonReplyKept (c .args .m .now))) (c .logon-reply-values .ensures .means), fits-means logonReply (c .logon-reply-values .result) (logonReplyContents (logonReplyKept (c .args .m .now))) (c .logon-reply-values .ensures .means) h);
     }
 
 pub returns : need.returns
 returns c =
     record {
-        wrote = wrote-means 66 38 logonReply (c .logon-reply-values .result) (logonReplyContents (logonReplyKept (c .args .m .now))) (c .args .out .now) (c .logon-reply-values .ensures .means) (c .write-fields .ensures);
-        holds = logonReply-holds (c .args .m .now) (c .logon-reply-values .ensures .typed)
+      wrote = wrote-means 66 38 logonReply (c .logon-reply-values .result) (logonReplyContents (logonReplyKept (c .args .m .now))) (c .args .out .now) (c .logon-reply-values .ensures .means) (c .write-fields .ensures);
+      holds = logonReply-holds (c .args .m .now) (c .logon-reply-values .ensures .typed);
     }

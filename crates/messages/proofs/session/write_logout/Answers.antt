@@ -10,14 +10,14 @@ pub write-fields-requires : need.write-fields-requires
 write-fields-requires c κs =
     let h = logout-holds (c .args .m .now) in
     record {
-        room = (c .pre, omega arith);
-        table = (refl, refl);
-        each = (means-long (c .logout-values .result) (logoutContents (logoutKept (c .args .m .now))) (c .logout-values .ensures), fits-means logout (c .logout-values .result) (logoutContents (logoutKept (c .args .m .now))) (c .logout-values .ensures) h)
+      room = (c .pre, omega arith);
+      table = (refl, refl);
+      each = (means-long (c .logout-values .result) (logoutContents (logoutKept (c .args .m .now))) (c .logout-values .ensures), fits-means logout (c .logout-values .result) (logoutContents (logoutKept (c .args .m .now))) (c .logout-values .ensures) h);
     }
 
 pub returns : need.returns
 returns c =
     record {
-        wrote = wrote-means 53 24 logout (c .logout-values .result) (logoutContents (logoutKept (c .args .m .now))) (c .args .out .now) (c .logout-values .ensures) (c .write-fields .ensures);
-        holds = logout-holds (c .args .m .now)
+      wrote = wrote-means 53 24 logout (c .logout-values .result) (logoutContents (logoutKept (c .args .m .now))) (c .args .out .now) (c .logout-values .ensures) (c .write-fields .ensures);
+      holds = logout-holds (c .args .m .now);
     }

@@ -10,14 +10,14 @@ pub write-fields-requires : need.write-fields-requires
 write-fields-requires c κs =
     let h = missedMessageReport-holds (c .args .m .now) in
     record {
-        room = (c .pre, omega arith);
-        table = (refl, refl);
-        each = (means-long (c .missed-message-report-values .result) (missedMessageReportContents (missedMessageReportKept (c .args .m .now))) (c .missed-message-report-values .ensures), fits-means missedMessageReport (c .missed-message-report-values .result) (missedMessageReportContents (missedMessageReportKept (c .args .m .now))) (c .missed-message-report-values .ensures) h)
+      room = (c .pre, omega arith);
+      table = (refl, refl);
+      each = (means-long (c .missed-message-report-values .result) (missedMessageReportContents (missedMessageReportKept (c .args .m .now))) (c .missed-message-report-values .ensures), fits-means missedMessageReport (c .missed-message-report-values .result) (missedMessageReportContents (missedMessageReportKept (c .args .m .now))) (c .missed-message-report-values .ensures) h);
     }
 
 pub returns : need.returns
 returns c =
     record {
-        wrote = wrote-means 80 5 missedMessageReport (c .missed-message-report-values .result) (missedMessageReportContents (missedMessageReportKept (c .args .m .now))) (c .args .out .now) (c .missed-message-report-values .ensures) (c .write-fields .ensures);
-        holds = missedMessageReport-holds (c .args .m .now)
+      wrote = wrote-means 80 5 missedMessageReport (c .missed-message-report-values .result) (missedMessageReportContents (missedMessageReportKept (c .args .m .now))) (c .args .out .now) (c .missed-message-report-values .ensures) (c .write-fields .ensures);
+      holds = missedMessageReport-holds (c .args .m .now);
     }

@@ -10,14 +10,14 @@ pub write-fields-requires : need.write-fields-requires
 write-fields-requires c κs =
     let h = missedMessageRequest-holds (c .args .m .now) (c .missed-message-request-values .ensures .typed) in
     record {
-        room = (c .pre, omega arith);
-        table = (refl, refl);
-        each = (means-long (c .missed-message-request-values .result) (missedMessageRequestContents (missedMessageRequestKept (c .args .m .now))) (c .missed-message-request-values .ensures .means), fits-means missedMessageRequest (c .missed-message-request-values .result) (missedMessageRequestContents (missedMessageRequestKept (c .args .m .now))) (c .missed-message-request-values .ensures .means) h)
+      room = (c .pre, omega arith);
+      table = (refl, refl);
+      each = (means-long (c .missed-message-request-values .result) (missedMessageRequestContents (missedMessageRequestKept (c .args .m .now))) (c .missed-message-request-values .ensures .means), fits-means missedMessageRequest (c .missed-message-request-values .result) (missedMessageRequestContents (missedMessageRequestKept (c .args .m .now))) (c .missed-message-request-values .ensures .means) h);
     }
 
 pub returns : need.returns
 returns c =
     record {
-        wrote = wrote-means 77 9 missedMessageRequest (c .missed-message-request-values .result) (missedMessageRequestContents (missedMessageRequestKept (c .args .m .now))) (c .args .out .now) (c .missed-message-request-values .ensures .means) (c .write-fields .ensures);
-        holds = missedMessageRequest-holds (c .args .m .now) (c .missed-message-request-values .ensures .typed)
+      wrote = wrote-means 77 9 missedMessageRequest (c .missed-message-request-values .result) (missedMessageRequestContents (missedMessageRequestKept (c .args .m .now))) (c .args .out .now) (c .missed-message-request-values .ensures .means) (c .write-fields .ensures);
+      holds = missedMessageRequest-holds (c .args .m .now) (c .missed-message-request-values .ensures .typed);
     }

@@ -10,14 +10,14 @@ pub write-fields-requires : need.write-fields-requires
 write-fields-requires c κs =
     let h = missedMessageRequestAck-holds (c .args .m .now) in
     record {
-        room = (c .pre, omega arith);
-        table = (refl, refl);
-        each = (means-long (c .missed-message-request-ack-values .result) (missedMessageRequestAckContents (missedMessageRequestAckKept (c .args .m .now))) (c .missed-message-request-ack-values .ensures), fits-means missedMessageRequestAck (c .missed-message-request-ack-values .result) (missedMessageRequestAckContents (missedMessageRequestAckKept (c .args .m .now))) (c .missed-message-request-ack-values .ensures) h)
+      room = (c .pre, omega arith);
+      table = (refl, refl);
+      each = (means-long (c .missed-message-request-ack-values .result) (missedMessageRequestAckContents (missedMessageRequestAckKept (c .args .m .now))) (c .missed-message-request-ack-values .ensures), fits-means missedMessageRequestAck (c .missed-message-request-ack-values .result) (missedMessageRequestAckContents (missedMessageRequestAckKept (c .args .m .now))) (c .missed-message-request-ack-values .ensures) h);
     }
 
 pub returns : need.returns
 returns c =
     record {
-        wrote = wrote-means 78 5 missedMessageRequestAck (c .missed-message-request-ack-values .result) (missedMessageRequestAckContents (missedMessageRequestAckKept (c .args .m .now))) (c .args .out .now) (c .missed-message-request-ack-values .ensures) (c .write-fields .ensures);
-        holds = missedMessageRequestAck-holds (c .args .m .now)
+      wrote = wrote-means 78 5 missedMessageRequestAck (c .missed-message-request-ack-values .result) (missedMessageRequestAckContents (missedMessageRequestAckKept (c .args .m .now))) (c .args .out .now) (c .missed-message-request-ack-values .ensures) (c .write-fields .ensures);
+      holds = missedMessageRequestAck-holds (c .args .m .now);
     }

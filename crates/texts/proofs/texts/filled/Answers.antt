@@ -5,7 +5,8 @@ use Prim.Native.Nat.{ℕ, _<_, _+_}
 use lib.ListN.{length, set, getD, replicate, length-replicate}
 use lib.Seq.{paste}
 use Rattle.std.proofs.shelf.Edits.{paste-more}
-use Rattle.texts.proofs.Padding.{pasted}
+use Rattle.texts.specs.Bytes.{said, isText, named}
+use Rattle.texts.proofs.Padding.{pasted, length-padded, isText-padded, said-padded, named-padded}
 use Rattle.texts.proofs.texts.filled.Needs as need
 
 pub loop-i-again : need.loop-i-again
@@ -20,5 +21,13 @@ loop-i-again g c =
 
 pub returns : need.returns
 returns g c =
-    let e : c .loop-i .i ≡ length (c .args .text .now) = search needs in
-    c .loop-i .inv ∙ ap (paste (replicate (g .N) 0) 0 (c .args .text .now)) e ∙ pasted (g .N) (c .args .text .now)
+    let t = c .args .text .now in
+    let e : c .loop-i .i ≡ length t = search needs in
+    let v = c .loop-i .inv ∙ ap (paste (replicate (g .N) 0) 0 t) e ∙ pasted (g .N) t in
+    record {
+      value = v;
+      wide = ap length v ∙ length-padded (g .N) t (c .pre .0);
+      text = ap isText v ∙ isText-padded (g .N) t (c .pre .1);
+      said = ap said v ∙ said-padded (g .N) t (c .pre .1);
+      named = λ h. ap named v ∙ named-padded (g .N) t (c .pre .1) h;
+    }

@@ -7,7 +7,6 @@ use Rattle.wire.proofs.Trips.{given-back, apart}
 use Rattle.wire.proofs.Totals.{letter-is, total-is, roomy, as-said}
 use Rattle.wire.proofs.message.write_kind.Needs as need
 
-
 pub write-logon-requires : need.write-logon-requires
 write-logon-requires c κs = roomy (keptOf (c .args .message .now)) _ _ 80 (ap keptOf (c .in-Logon .is)) (total-is kind.Logon) (c .pre)
 

@@ -7,6 +7,6 @@ pub returns : need.returns
 returns c =
     let bs = c .args .self .now .src .now in
     record {
-        seconds = c .u32 .ensures ∙ ap le (sym (first-half (c .args .at) bs));
-        micros = c .u32-2 .ensures ∙ ap le (sym (second-half (c .args .at) bs))
+      seconds = c .u32 .ensures ∙ ap le (sym (first-half (c .args .at) bs));
+      micros = c .u32-2 .ensures ∙ ap le (sym (second-half (c .args .at) bs));
     }

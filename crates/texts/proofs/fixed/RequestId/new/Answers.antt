@@ -1,9 +1,6 @@
 use mathlib.Core.Path.{_≡_, _∙_, ap}
-use mathlib.Core.Bool.{true}
 use Prim.Native.Nat.{_<_}
 use borrow.Author.Needs.{needs}
-use borrow.Author.Tests.{leb-true}
-use native.Mathlib.Omega.{arith}
 use lib.Dec.{leb}
 use lib.ListN.{length}
 use Rattle.texts.specs.Bytes.{named, allPrintable}
@@ -12,7 +9,7 @@ use Rattle.texts.proofs.fixed.RequestId.new.Needs as need
 
 pub ghost-result : need.ghost-result
 ghost-result c =
-    let k = c .in-Continue-id .ensures tt in
+    let k = c .in-Some .ensures tt in
     let q = both-true (leb (length (c .args .text .now)) 20) (allPrintable (c .args .text .now)) (k .0) in
     let h : 0 < length (c .args .text .now) = search needs in
     (ap named (k .1) ∙ named-padded 20 (c .args .text .now) (q .1) h, tt)

@@ -1,0 +1,5 @@
+pub mod Words
+pub mod Commands
+pub mod Texts
+pub mod Ladders
+pub mod Accounts

@@ -1,0 +1,12 @@
+mod Amends
+mod Bests
+mod Changes
+mod Ends
+mod Fairs
+mod Matches
+mod Nexts
+mod Queues
+mod Searches
+mod Settles
+mod Stops
+mod Tables

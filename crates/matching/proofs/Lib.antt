@@ -1,0 +1,4 @@
+pub mod Fills
+pub mod Looks
+pub mod Plays
+pub mod Rows

@@ -1,0 +1,5 @@
+pub mod Look
+pub mod Meaning
+pub mod Rows
+pub mod TapeRows
+pub mod Tapes
