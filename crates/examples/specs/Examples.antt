@@ -8,6 +8,7 @@ use Rattle.std.specs.declared.option.Option.the-variants.{Some, None}
 use Rattle.std.specs.declared.result.Result.the-variants.{Ok}
 use Rattle.texts.specs.Identifiers.{orderId, executionId}
 use Rattle.lit_book.specs.Laws.{Worked}
+use Rattle.orders.specs.Examples.{Examples as OrdersWorked}
 use Rattle.wire.specs.declared.kinds.Channel.the-variants.{RealTime}
 use Rattle.wire.specs.declared.kinds.Kind.the-variants.{Heartbeat}
 use Rattle.wire.specs.Messages.{opening, verdict}
@@ -34,3 +35,5 @@ Examples =
     × (verdict RealTime (cancelOf (codes "Ozzzzzzzzzzz")) ≡ Some (5, 44))
     -- in the lit book, sells of 50 at 101 and 50 at 100 meet a buy of 80 at 101
     × Worked
+    -- an order of 100 with 40 executed: cancelled and its fill undone; replaced by 40, and by 41
+    × OrdersWorked
