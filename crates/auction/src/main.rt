@@ -1,4 +1,6 @@
 // Plays a script of calls on a lit book, read from standard input, and prints what each did.
+#![tactic(auto)]
+
 use auction_script::account::Account;
 use auction_script::command::Command;
 use auction_script::ladder::ladder;

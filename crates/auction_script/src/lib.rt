@@ -1,4 +1,6 @@
 // The words of a script of calls on a lit book, and the lines that answer it.
+#![tactic(auto)]
+
 pub mod account;
 pub mod command;
 pub mod ladder;

@@ -1,4 +1,6 @@
 // The values that the protocol's fields list, as enums, and their bytes.
+#![tactic(auto)]
+
 pub mod code;
 pub mod lists;
 pub mod order;

@@ -1,4 +1,6 @@
 // Reads captured messages from standard input, a line each, and prints what each says or why it is refused.
+#![tactic(auto)]
+
 use inspector::account::Account;
 use inspector::answer::answer_to;
 use std::io::{BufRead, BufReader};

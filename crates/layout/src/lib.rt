@@ -1,5 +1,7 @@
 // A message's layout as a table of fields: checking bytes against it, reading fields, writing them.
 // An inner crate of the wire: what a function requires, the crates above show.
+#![tactic(auto)]
+
 pub mod check;
 pub mod field;
 pub mod reader;

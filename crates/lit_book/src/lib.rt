@@ -1,4 +1,6 @@
 // A lit order book: orders match by price, and at one price by the time at which they came to rest.
+#![tactic(auto)]
+
 pub mod book;
 mod calls;
 pub mod order;

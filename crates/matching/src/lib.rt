@@ -1,4 +1,6 @@
 // What a matching engine means, as a trait, and an engine that plays given trades.
+#![tactic(auto)]
+
 pub mod matcher;
 pub mod tape;
 mod tape_calls;

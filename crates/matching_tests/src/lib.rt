@@ -1,4 +1,5 @@
 // Worked scenarios of the queue, the tape and the lit book, run as tests.
+#![tactic(auto)]
 
 #[cfg(test)]
 mod tests {

@@ -1,4 +1,6 @@
 // Orders and trades of a day: their records, their changes and their tables.
+#![tactic(auto)]
+
 pub mod changes;
 pub mod examples;
 pub mod order;

@@ -1,4 +1,6 @@
 // Runs of orders, reports and stores on examples.
+#![tactic(auto)]
+
 #[cfg(test)]
 mod folding;
 #[cfg(test)]

@@ -1,4 +1,6 @@
 // A stored report as the message that tells it to its owner.
+#![tactic(auto)]
+
 ghost use Rattle.std.specs.Prelude.{◌≡◌, ℕ, ◌<◌, ◌≤◌, [], MatchOption};
 ghost use Rattle.codes.specs.Session.{partitionCode};
 ghost use Rattle.texts.specs.Bytes.{said};

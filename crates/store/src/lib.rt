@@ -1,4 +1,6 @@
 // A store of reports, by what it means: three lists of reports, each with its owner, and a number of free places.
+#![tactic(auto)]
+
 ghost use Rattle.std.specs.Prelude.{◌≡◌, ℕ, ◌+◌, ◌≤◌, length};
 ghost use Rattle.reports.specs.Tally.{entry_at};
 ghost use Rattle.store.specs.Kept.{Kept, reports-in, total, next-after, Appends};

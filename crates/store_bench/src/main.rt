@@ -1,4 +1,6 @@
 // Fills a store with a day's reports of eight CompIDs, reads them all back by their owners, and says how long each took.
+#![tactic(auto)]
+
 mod day;
 mod walk;
 

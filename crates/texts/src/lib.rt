@@ -1,4 +1,6 @@
 // Texts of the protocol's fields, borrowed and kept, and identifiers.
+#![tactic(auto)]
+
 pub mod fixed;
 pub mod identifiers;
 pub mod names;

@@ -19,7 +19,7 @@ invariant-of-self c = (
 
 pub returns : goal.returns
 returns c = record {
-  after = ap (meant row_number row-held 64 (λ _. true)) c.push-reserved.ensures.items
+  after = ap (meant row_number row-held 64 (λ _. true)) c.push_reserved.ensures.items
       ∙ pushed-means row_number row-held 64 (λ _. true) c.args.self.now.rows.items c.args.row c.requires.new;
   ahead = refl;
 }

@@ -30,7 +30,7 @@ loop-self-preserved c =
     let os = look row_number row-held c.loop-self.self.rows.items in
     let ls = c.loop-self.self.lines.items in
     let lt : c.loop-self.self.at < length ls = omega arith in
-    (c.loop-self.invariant.0, sym (played-more os ls c.loop-self.self.at l lt c.index-line.ensures c.in-default.ensures) ∙ c.loop-self.invariant.1)
+    (c.loop-self.invariant.0, sym (played-more os ls c.loop-self.self.at l lt c.index-line.ensures c.in_default.ensures) ∙ c.loop-self.invariant.1)
 
 pub returns : goal.returns
 returns c =
