@@ -1,4 +1,4 @@
-use Rattle.std.proofs.Common.{arith, rules}
+use Rattle.std.proofs.Common.{arith}
 use Rattle.std.proofs.lemmas.List.{drop_all}
 use Rattle.texts.proofs.Digits.{after-drop}
 use Rattle.texts.proofs.identifiers.number_of.Goals as goal

@@ -6,4 +6,4 @@ pub returns : goal.returns
 returns c =
     let l : length c.args.bytes.now ≡ 12 = search rules in
     let g : get_or c.args.bytes.now 0 0 ≡ c.args.letter = search rules in
-    c.number-of.ensures ∙ number_is c.args.letter c.args.bytes.now l g
+    c.number_of.ensures ∙ number_is c.args.letter c.args.bytes.now l g

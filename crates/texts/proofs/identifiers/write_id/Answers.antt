@@ -1,4 +1,4 @@
-use Rattle.std.proofs.Common.{◌≡◌, ◌+◌, ◌<◌, ◌++◌, length, drop, ◌∙◌, arith, rules}
+use Rattle.std.proofs.Common.{◌≡◌, ◌+◌, ◌<◌, ◌++◌, length, drop, arith, rules}
 use Rattle.texts.specs.Identifiers.{base62}
 use Rattle.texts.proofs.Digits.{write-turn, write-end}
 use Rattle.texts.proofs.identifiers.write_id.Goals as goal

@@ -1,4 +1,4 @@
-use Rattle.std.proofs.Common.{◌≡◌, ℕ, Bool, true, false, eqb, List, length, sym, refl, ◌∙◌, arith, eq-eqb, eqb-true}
+use Rattle.std.proofs.Common.{◌≡◌, ℕ, Bool, true, false, eqb, List, length, sym, refl, ◌∙◌, eq-eqb, eqb-true}
 use Rattle.std.specs.List.{prefix_len}
 use Rattle.texts.specs.Bytes.{printable, allPrintable}
 use Rattle.texts.proofs.Padding.{printable-all, lead-all}
@@ -10,4 +10,4 @@ by t n false false e p q = refl
 by t n false true e p q = sym p ∙ eq-eqb n (length t) (e ∙ lead-all t q)
 
 pub returns : goal.returns
-returns c = by c.args.text.now c.text-end.result _ _ c.text-end.ensures.value refl refl
+returns c = by c.args.text.now c.text_end.result _ _ c.text_end.ensures.value refl refl

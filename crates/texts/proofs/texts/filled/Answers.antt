@@ -23,8 +23,8 @@ returns g c =
     let v = c.loop-i.invariant ∙ ap (paste (replicate g.row.N 0) 0 t) e ∙ pasted g.row.N t in
     record {
       value = v;
-      wide = ap length v ∙ length-padded g.row.N t c.requires.0;
-      text = ap isText v ∙ isText-padded g.row.N t c.requires.1;
-      said = ap said v ∙ said-padded g.row.N t c.requires.1;
-      named = λ h. ap named v ∙ named-padded g.row.N t c.requires.1 h;
+      wide = ap length v ∙ length-padded g.row.N t c.requires.text_len_bound;
+      text = ap isText v ∙ isText-padded g.row.N t c.requires.text_value;
+      said = ap said v ∙ said-padded g.row.N t c.requires.text_value;
+      named = λ h. ap named v ∙ named-padded g.row.N t c.requires.text_value h;
     }

@@ -1,4 +1,4 @@
-use Rattle.std.proofs.Common.{◌≡◌, ◌≤◌, length, replicate}
+use Rattle.std.proofs.Common.{◌≡◌, replicate}
 use lib.Seq.{paste}
 use Rattle.texts.proofs.texts.filled.Given as goal
 

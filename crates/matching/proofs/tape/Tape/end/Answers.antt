@@ -4,8 +4,8 @@ use Rattle.matching.specs.TapeRows.{all_apart, row_number, row-held}
 use Rattle.matching.specs.RowsLemmas.{removed-means, removed-apart}
 use Rattle.matching.proofs.tape.Tape.end.Goals as goal
 
-pub invariant-of-self : goal.invariant-of-self
-invariant-of-self c = (
+pub invariant_of-self : goal.invariant_of-self
+invariant_of-self c = (
   search rules,
   (
     search rules,

@@ -4,8 +4,8 @@ use Rattle.matching.specs.TapeRows.{row_number, row-held}
 use Rattle.matching.specs.RowsLemmas.{set-means, set_apart}
 use Rattle.matching.proofs.tape.Tape.resize.Goals as goal
 
-pub invariant-of-self : goal.invariant-of-self
-invariant-of-self c =
+pub invariant_of-self : goal.invariant_of-self
+invariant_of-self c =
     let x = c.index.result.now in
     let y : Row = record { number = c.args.number; instrument = x.instrument; quantity = c.args.quantity } in
     (search rules, (search rules, (set_apart row_number row-held 64 (λ _. true) c.args.self.now.rows.items c.args.i y (λ d lt. c.requires.2 d) c.args.self.now.apart, tt)))
