@@ -1,8 +1,7 @@
 -- One step of a tape's search for the line to play. Assumes nothing.
-use Rattle.std.proofs.Common.{◌≡◌, ℕ, ◌+◌, ◌<◌, ◌≤◌, Bool, true, false, cond, eqb, leb, List, [], ◌∷◌, length, get_or, drop, sym, refl, ap, ◌∙◌, arith}
+use Rattle.std.proofs.Common.{◌≡◌, ℕ, ◌+◌, ◌<◌, ◌≤◌, Bool, true, false, cond, eqb, leb, List, ◌∷◌, length, get_or, drop, sym, refl, ap, ◌∙◌, arith}
 use Rattle.std.proofs.lemmas.List.{drop_more, drop_all}
 use Rattle.std.proofs.lemmas.Bool.{cond-true, cond-false, eqb-false, leb-true, both_ways}
-use Rattle.matching.specs.declared.matcher.Event.{Event}
 use Rattle.matching.specs.declared.matcher.Event.TheVariants.{Nothing}
 use Rattle.matching.specs.declared.tape.Line.{Line}
 use Rattle.matching.specs.Meaning.{Allowed, Orders, open-quantity}

@@ -1,8 +1,8 @@
 -- What a change of the rows does to a look-up. Assumes nothing.
-use Rattle.std.specs.Prelude.{◌≡◌, ℕ, zero, suc, ◌+◌, ◌-◌, ◌<◌, ◌≤◌, Bool, true, false, cond, not, ◌⊎◌, List, [], ◌∷◌, ◌++◌, length, take, drop, is_some, Some, None, Option, ◌==◌, ◌≢◌, nat_eq, slice_index_or, slice_set, refl}
+use Rattle.std.specs.Prelude.{◌≡◌, ℕ, zero, suc, ◌<◌, Bool, true, false, cond, not, ◌⊎◌, List, [], ◌∷◌, ◌++◌, length, take, drop, is_some, Some, None, Option, ◌==◌, ◌≢◌, nat_eq, slice_index_or, slice_set, refl}
 use Rattle.std.proofs.Common.{sym, ap, ◌∙◌, subst, inl, inr, arith}
 use Rattle.std.proofs.Math.Path.{fun_ext}
-use Rattle.std.proofs.lemmas.Bool.{eq-eqb, ne_eqb, cond-true, cond-false, cases_eq, eqb-false, eqb-true, both_ways, and_parts, and_from}
+use Rattle.std.proofs.lemmas.Bool.{eq-eqb, ne_eqb, cond-true, cond-false, cases_eq, eqb-false, both_ways, and_parts, and_from}
 use Rattle.std.specs.Map.{update}
 use Rattle.matching.specs.Look as spec
 
@@ -38,8 +38,19 @@ module _ {X V : Type 0} (key : X → ℕ) (val : X → V) where
       let t : nat_eq m (key e) ≡ false = ne_eqb _ _ apart in
       cond-false _ _ _ t ∙ h ∙ ap (cond (m == n) s) (sym (cond-false _ _ _ t))
 
+  -- a map written at a number, with the number that is asked for tested first
+  abbrev written : (ℕ → Option V) → ℕ → Option V → ℕ → Option V
+  written f n w m = cond (m == n) w (f m)
+
+  pub written-update : (f : ℕ → Option V) (n : ℕ) (w : Option V) → written f n w ≡ update nat_eq f n w
+  written-update f n w = fun_ext (λ m. ap (λ b. cond b w (f m)) (either m n (cases_eq m n)))
+    where
+      either : (m n : ℕ) → (m ≡ n) ⊎ (m ≢ n) → nat_eq m n ≡ nat_eq n m
+      either m n (inl q) = eq-eqb m n q ∙ sym (eq-eqb n m (sym q))
+      either m n (inr ne) = ne_eqb m n ne ∙ sym (ne_eqb n m (λ q. ne (sym q)))
+
   -- one row more, under a key that none has
-  pub look-push : (xs : List X) (y : X) → look xs (key y) ≡ None → (m : ℕ) → look (xs ++ (y ∷ [])) m ≡ update nat_eq (look xs) (key y) (Some (val y)) m
+  pub look-push : (xs : List X) (y : X) → look xs (key y) ≡ None → (m : ℕ) → look (xs ++ (y ∷ [])) m ≡ written (look xs) (key y) (Some (val y)) m
   look-push [] y h m = refl
   look-push (x ∷ xs) y h m =
       let p = passes (key y == key x) (val x) (look xs (key y)) h in
@@ -54,7 +65,7 @@ module _ {X V : Type 0} (key : X → ℕ) (val : X → V) where
       cond-false _ _ _ p.0 ∙ look-more xs i n (omega arith) p.1 ne
 
   -- the first row that has the key, written over
-  pub look-set : (xs : List X) (i n : ℕ) (y : X) → i < length xs → look (take i xs) n ≡ None → ((d : X) → key (slice_index_or xs i d) ≡ n) → key y ≡ n → (m : ℕ) → look (slice_set xs i y) m ≡ update nat_eq (look xs) n (Some (val y)) m
+  pub look-set : (xs : List X) (i n : ℕ) (y : X) → i < length xs → look (take i xs) n ≡ None → ((d : X) → key (slice_index_or xs i d) ≡ n) → key y ≡ n → (m : ℕ) → look (slice_set xs i y) m ≡ written (look xs) n (Some (val y)) m
   look-set [] i n y h k at same m = absurd (let no : ⊥ = omega arith in no)
   look-set (x ∷ xs) zero n y h k at same m = ap (λ j. cond (m == j) (Some (val y)) (look xs m)) same ∙ here (cases_eq m n)
     where
@@ -77,7 +88,7 @@ module _ {X V : Type 0} (key : X → ℕ) (val : X → V) where
   without xs i = take i xs ++ drop (suc i) xs
 
   -- the row that has the key, taken out
-  pub look-without : (xs : List X) (i n : ℕ) → Distinct xs → i < length xs → look (take i xs) n ≡ None → ((d : X) → key (slice_index_or xs i d) ≡ n) → (m : ℕ) → look (without xs i) m ≡ update nat_eq (look xs) n None m
+  pub look-without : (xs : List X) (i n : ℕ) → Distinct xs → i < length xs → look (take i xs) n ≡ None → ((d : X) → key (slice_index_or xs i d) ≡ n) → (m : ℕ) → look (without xs i) m ≡ written (look xs) n None m
   look-without [] i n u h k at m = absurd (let no : ⊥ = omega arith in no)
   look-without (x ∷ xs) zero n (new, u) h k at m = here (cases_eq m n)
     where

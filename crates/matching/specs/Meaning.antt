@@ -1,5 +1,5 @@
 -- What a matching engine means, and what each call does to that meaning. Assumes nothing.
-use Rattle.std.specs.Prelude.{◌≡◌, ℕ, ◌+◌, ◌-◌, ◌≤◌, Bool, true, false, cond, List, [], ◌∷◌, length, ℤ, is_some, Some, None, Option, ◌==◌, ◌≢◌, nat_eq, nat_le, nat_lt}
+use Rattle.std.specs.Prelude.{◌≡◌, ℕ, ◌+◌, ◌-◌, ◌≤◌, Bool, true, false, cond, List, [], ◌∷◌, length, is_some, Some, None, Option, ◌==◌, ◌≢◌, nat_eq, nat_le, nat_lt}
 use Rattle.std.specs.Map.{update}
 use Rattle.matching.specs.declared.terms.Book.{Book}
 use Rattle.matching.specs.declared.matcher.Held.{Held}

@@ -1,6 +1,6 @@
 -- What a change of the rows does to the meaning. Assumes nothing.
-use Rattle.std.specs.Prelude.{◌≡◌, ℕ, zero, suc, ◌+◌, ◌-◌, ◌<◌, ◌≤◌, Bool, true, false, cond, List, [], ◌∷◌, ◌++◌, map, length, is_some, Some, None, Option, ◌==◌, slice_index_or, slice_set, refl}
-use Rattle.std.proofs.Common.{sym, ap, ◌∙◌, subst, arith}
+use Rattle.std.specs.Prelude.{◌≡◌, ℕ, ◌<◌, Bool, true, false, cond, List, [], ◌∷◌, ◌++◌, map, length, is_some, Some, None, Option, ◌==◌, slice_index_or, slice_set, refl}
+use Rattle.std.proofs.Common.{sym, ap, ◌∙◌, arith}
 use Rattle.std.proofs.Math.Path.{fun_ext}
 use Rattle.std.proofs.lemmas.List.{length-map, length_push, length-set}
 use Rattle.std.proofs.lemmas.List.Edits.{length-remove}
@@ -26,7 +26,7 @@ module _ {X : Type 0} (key : X → ℕ) (val : X → Held) (limit : ℕ) (books 
   none_is (Some x) h = absurd (let z : ◌≡◌ {A = ℕ} 0 1 = cc in let no : ⊥ = omega arith in no)
 
   pub pushed-means : (xs : List X) (y : X) → is_some (look key val xs (key y)) ≡ false → means (xs ++ y ∷ []) ≡ opened (means xs) (key y) (val y)
-  pushed-means xs y h = same _ _ _ _ (fun_ext (looks.look-push key val xs y (none_is _ h))) (length_push xs y)
+  pushed-means xs y h = same _ _ _ _ (fun_ext (looks.look-push key val xs y (none_is _ h)) ∙ looks.written-update key val _ _ _) (length_push xs y)
 
   pub pushed-apart : (xs : List X) (y : X) → distinct key val xs ≡ true → is_some (look key val xs (key y)) ≡ false → distinct key val (xs ++ y ∷ []) ≡ true
   pushed-apart xs y u h = looks.distinct-to key val _ (looks.distinct_push key val xs y (looks.distinct_from key val xs u) (none_is _ h))
@@ -34,7 +34,7 @@ module _ {X : Type 0} (key : X → ℕ) (val : X → Held) (limit : ℕ) (books 
   pub removed-means : (xs : List X) (i n : ℕ) → distinct key val xs ≡ true → Found key val xs n (Some i) → means (remove xs i) ≡ closed (means xs) n
   removed-means xs i n u (l, k, at) =
       let e = length-remove xs i l in
-      same _ _ _ _ (fun_ext (looks.look-without key val xs i n (looks.distinct_from key val xs u) l k at)) (omega arith)
+      same _ _ _ _ (fun_ext (looks.look-without key val xs i n (looks.distinct_from key val xs u) l k at) ∙ looks.written-update key val _ _ _) (omega arith)
 
   pub removed-apart : (xs : List X) (i : ℕ) → distinct key val xs ≡ true → distinct key val (remove xs i) ≡ true
   removed-apart xs i u = looks.distinct-to key val _ (looks.distinct_without key val xs i (looks.distinct_from key val xs u))
@@ -47,6 +47,7 @@ module _ {X : Type 0} (key : X → ℕ) (val : X → Held) (limit : ℕ) (books 
   set-means xs i n q x y f read same_key new =
       same _ _ _ _
       (fun_ext (looks.look-set key val xs i n y f.0 f.1 f.2 same_key)
+      ∙ looks.written-update key val _ _ _
       ∙ ap (put (look key val xs) n) (new ∙ ap (sized q) (sym (found-held xs i n x f ∙ ap (λ (z : X). Some (val z)) (sym read)))))
       (length-set xs i y)
 

@@ -1,21 +1,11 @@
-use Rattle.std.proofs.Common.{true, refl, ap, ◌∙◌, rules}
+use Rattle.std.proofs.Common.{true, refl, ap, ◌∙◌}
 use Rattle.matching.specs.Rows.{meant}
 use Rattle.matching.specs.TapeRows.{all_apart, row_number, row-held}
 use Rattle.matching.specs.RowsLemmas.{removed-means, removed-apart}
 use Rattle.matching.proofs.tape.Tape.end.Goals as goal
 
-pub invariant_of-self : goal.invariant_of-self
-invariant_of-self c = (
-  search rules,
-  (
-    search rules,
-    (
-      ap all_apart c.remove.ensures.items
-          ∙ removed-apart row_number row-held 64 (λ _. true) c.args.self.now.rows.items c.args.i c.args.self.now.apart,
-      tt,
-    ),
-  ),
-)
+pub invariant_of-self-clause-apart : goal.invariant_of-self-clause-apart
+invariant_of-self-clause-apart c = ap all_apart c.remove.ensures.items ∙ removed-apart row_number row-held 64 (λ _. true) c.args.self.now.rows.items c.args.i c.args.self.now.apart
 
 pub returns : goal.returns
 returns c = record {

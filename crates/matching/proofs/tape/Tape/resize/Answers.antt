@@ -1,14 +1,14 @@
-use Rattle.std.proofs.Common.{true, Some, sym, refl, ap, ◌∙◌, rules}
+use Rattle.std.proofs.Common.{true, refl}
 use Rattle.matching.specs.declared.tape.Row.{Row}
 use Rattle.matching.specs.TapeRows.{row_number, row-held}
 use Rattle.matching.specs.RowsLemmas.{set-means, set_apart}
 use Rattle.matching.proofs.tape.Tape.resize.Goals as goal
 
-pub invariant_of-self : goal.invariant_of-self
-invariant_of-self c =
+pub invariant_of-self-clause-apart : goal.invariant_of-self-clause-apart
+invariant_of-self-clause-apart c =
     let x = c.index.result.now in
     let y : Row = record { number = c.args.number; instrument = x.instrument; quantity = c.args.quantity } in
-    (search rules, (search rules, (set_apart row_number row-held 64 (λ _. true) c.args.self.now.rows.items c.args.i y (λ d lt. c.requires.2 d) c.args.self.now.apart, tt)))
+    set_apart row_number row-held 64 (λ _. true) c.args.self.now.rows.items c.args.i y (λ d lt. c.requires.2 d) c.args.self.now.apart
 
 pub returns : goal.returns
 returns c =
