@@ -1,18 +1,18 @@
 -- Every event leaves fewer orders open, so events come to an end. Assumes nothing.
-use Rattle.std.proofs.Common.{◌≡◌, ℕ, zero, suc, ◌+◌, ◌-◌, ◌<◌, ◌≤◌, min, Bool, true, false, cond, eqb, ltb, ◌⊎◌, List, [], ◌∷◌, ◌++◌, length, is_some, Some, None, Option, sym, refl, ap, ◌∙◌, subst, inl, inr, arith}
+use Rattle.std.proofs.Common.{◌≡◌, ℕ, zero, suc, ◌+◌, ◌-◌, ◌≤◌, Bool, true, false, cond, eqb, ltb, ◌⊎◌, List, [], ◌∷◌, ◌++◌, length, is_some, Some, None, Option, sym, refl, ap, ◌∙◌, subst, inl, inr, arith}
 use Rattle.std.proofs.lemmas.List.{length-append}
-use Rattle.std.proofs.lemmas.Bool.{both_ways, cases_Bool, cases_lt, cond-false, cond-true, eq-eqb, le-ltb, lt-ltb}
+use Rattle.std.proofs.lemmas.Bool.{both_ways, cases_lt, cond-false, cond-true, eq-eqb, le-ltb, lt-ltb}
 use Rattle.std.specs.List.{slice_get}
 use Rattle.matching.specs.Look.{look}
 use Rattle.matching.specs.declared.matcher.Event.{Event}
-use Rattle.matching.specs.declared.matcher.Event.TheVariants.{Nothing, Expired, Trade}
+use Rattle.matching.specs.declared.matcher.Event.TheVariants.{Nothing}
 use Rattle.lit_book.specs.declared.order.Order.{Order}
 use Rattle.lit_book.specs.Laws.{Enough, Idle, after-events, open-orders}
 use Rattle.lit_book.specs.Lists.{best, changed, order-held, order-number, remains}
 use Rattle.lit_book.specs.Rules.{Lit, altered, left-of, next, size_of, traded}
-use Rattle.lit_book.proofs.Bests.{Best, best-some}
+use Rattle.lit_book.proofs.Bests.{best-some}
 use Rattle.lit_book.proofs.Nexts.{next-idle}
-use Rattle.lit_book.proofs.Stops.{Ends, Stop, stop}
+use Rattle.lit_book.proofs.Stops.{Ends, stop}
 
 abbrev known : List Order → ℕ → Bool
 known xs n = is_some (look order-number order-held xs n)

@@ -1,6 +1,6 @@
 -- The laws on prices. Assumes nothing.
-use Rattle.std.proofs.Common.{◌≡◌, ℕ, zero, suc, ◌+◌, ◌<◌, ◌≤◌, Bool, true, false, cond, not, ◌&&◌, eqb, ◌⊎◌, List, [], ◌∷◌, ◌++◌, length, get_or, take, drop, ℤ, Some, None, Option, sym, refl, ap, ◌∙◌, subst, inl, inr, arith, MatchOption}
-use Rattle.std.proofs.lemmas.List.{append_assoc, drop_at, get_or_at, length-append, take_at}
+use Rattle.std.proofs.Common.{◌≡◌, ℕ, zero, suc, ◌<◌, Bool, true, false, cond, not, ◌&&◌, eqb, List, [], ◌∷◌, ◌++◌, length, get_or, ℤ, Some, None, Option, sym, refl, ap, ◌∙◌, subst, inl, inr, arith, MatchOption}
+use Rattle.std.proofs.lemmas.List.{append_assoc, get_or_at, length-append, take_at}
 use Rattle.std.proofs.lemmas.Int.{ints}
 use Rattle.std.proofs.lemmas.Bool.{and_cases, and_left, and_parts, and_right, both_ways, cases_Bool, cond-false, cond-true, eq-eqb, eqb-false, eqb-true, ne_eqb, not-true}
 use Rattle.matching.specs.declared.matcher.Event.{Event}
@@ -14,10 +14,10 @@ use Rattle.matching.specs.Looks.{distinct_from, passes}
 use Rattle.lit_book.specs.declared.order.Order.{Order}
 use Rattle.lit_book.specs.Orders.{accepts, better, crosses, lasting, limit, opposes, price, rests, takes}
 use Rattle.lit_book.specs.Laws.{AllWorse, Fair, InLine, NoneBetter, Served, Uncrossed, alike}
-use Rattle.lit_book.specs.Lists.{all_apart, best, changed, clear_of, order-held, order-in, order-number, remains, settled}
-use Rattle.lit_book.specs.Rules.{Lit, altered, left-of, next, order-under, size_of, trade-of, traded}
+use Rattle.lit_book.specs.Lists.{all_apart, changed, clear_of, order-held, order-in, order-number, remains, settled}
+use Rattle.lit_book.specs.Rules.{Lit, left-of, order-under, size_of}
 use Rattle.lit_book.proofs.Amends.{in-at}
-use Rattle.lit_book.proofs.Bests.{Best, NoBetter, Worse, best-some}
+use Rattle.lit_book.proofs.Bests.{NoBetter, Worse, best-some}
 use Rattle.lit_book.proofs.Changes.{absent}
 use Rattle.lit_book.proofs.Matches.{apart-found}
 use Rattle.lit_book.proofs.Stops.{Ends}

@@ -1,23 +1,22 @@
 -- Two orders that trade: both are open, they differ, and they are of one instrument. Assumes nothing.
-use Rattle.std.proofs.Common.{◌≡◌, ℕ, zero, suc, ◌+◌, ◌-◌, ◌<◌, ◌≤◌, min, Bool, true, false, cond, ◌&&◌, eqb, ltb, List, [], ◌∷◌, ◌++◌, length, get_or, take, drop, ℤ, is_some, Some, None, Option, sym, refl, ap, ◌∙◌, subst, arith}
-use Rattle.std.proofs.lemmas.List.{get_or_at, get_or_default, get_or-take, length-append, length-take-le, drop_more}
-use Rattle.std.proofs.lemmas.Bool.{and_parts, cond_both, cond-false, eqb-false, eqb-true, le-ltb, lt-ltb, ltb-true, ltb-false, ne_eqb}
+use Rattle.std.proofs.Common.{◌≡◌, ℕ, zero, suc, ◌+◌, ◌-◌, ◌<◌, ◌≤◌, true, false, cond, eqb, ltb, List, [], ◌∷◌, length, get_or, take, drop, ℤ, Some, None, Option, sym, refl, ap, ◌∙◌, subst, arith}
+use Rattle.std.proofs.lemmas.List.{get_or_at, get_or-take, length-append, length-take-le, drop_more}
+use Rattle.std.proofs.lemmas.Bool.{and_parts, cond_both, cond-false, eqb-false, eqb-true, ltb-true, ne_eqb}
 use Rattle.std.proofs.lemmas.Map.{update_apart}
 use Rattle.std.specs.List.{slice_get}
 use Rattle.matching.specs.Look.{look, Distinct}
-use Rattle.matching.specs.Meaning.{Allowed, Meaning, closed, filled, instrument-of, open-quantity, quantity-of, resized}
+use Rattle.matching.specs.Meaning.{Allowed, Meaning, filled, instrument-of, open-quantity, quantity-of}
 use Rattle.matching.specs.declared.matcher.Held.{Held}
 use Rattle.matching.specs.declared.matcher.Event.TheVariants.{Trade}
 use Rattle.matching.specs.Looks.{distinct_from, look_at, passes}
 use Rattle.lit_book.specs.declared.order.Order.{Order}
-use Rattle.lit_book.specs.Orders.{crosses, price}
+use Rattle.lit_book.specs.Orders.{price}
 use Rattle.lit_book.specs.Lists.{FoundOrder, all_apart, all-open, best, order-held, order-number}
 use Rattle.lit_book.specs.Rules.{Lit, altered, left-of, size_of, trade-of, traded}
 use Rattle.lit_book.specs.Books.{lit-means}
 use Rattle.lit_book.specs.Steps.{remaining}
-use Rattle.lit_book.proofs.Bests.{Best, best-some}
+use Rattle.lit_book.proofs.Bests.{best-some}
 use Rattle.lit_book.proofs.Changes.{rest-absent}
-use Rattle.lit_book.proofs.Searches.{first-at}
 
 abbrev at : List Order → ℕ → Option Held
 at os n = look order-number order-held os n

@@ -1,10 +1,10 @@
 -- The oldest waiting order, and one step of the search for the best. Assumes nothing.
-use Rattle.std.proofs.Common.{◌≡◌, ℕ, ◌+◌, ◌-◌, ◌<◌, ◌≤◌, Bool, true, false, List, [], ◌∷◌, map, length, get_or, take, drop, Some, None, Option, sym, refl, ap, ◌∙◌, arith}
+use Rattle.std.proofs.Common.{◌≡◌, ℕ, ◌+◌, ◌<◌, ◌≤◌, true, false, List, [], ◌∷◌, length, get_or, take, drop, Some, None, Option, sym, refl, ap, ◌∙◌, arith}
 use Rattle.std.proofs.lemmas.List.{at_drop_all, at_drop_more, drop_more, get_or-take, length-drop, length-take-le}
 use Rattle.std.proofs.lemmas.Bool.{both_ways}
 use Rattle.std.specs.List.{slice_get}
 use Rattle.lit_book.specs.declared.order.Order.{Order}
-use Rattle.lit_book.specs.Lists.{best, best-from, chosen, in-turn}
+use Rattle.lit_book.specs.Lists.{best-from, chosen, in-turn}
 
 some-waits : (ns : List ℕ) (os : List Order) (n : ℕ) → in-turn ns os ≡ true → Some n ≡ slice_get ns 0 → 0 < length os
 some-waits [] os n t e = absurd (let z : ◌≡◌ {A = ℕ} 0 1 = cc in let no : ⊥ = omega arith in no)

@@ -1,5 +1,5 @@
 -- Lists of the book's orders: who is found under a number, the best of those at rest, a change of one order. Assumes nothing.
-use Rattle.std.specs.Prelude.{◌≡◌, ℕ, Bool, true, false, cond, not, ◌&&◌, List, [], ◌∷◌, ◌++◌, Some, None, Option, ◌==◌, nat_lt}
+use Rattle.std.specs.Prelude.{ℕ, Bool, true, false, cond, not, ◌&&◌, List, [], ◌∷◌, ◌++◌, Some, None, Option, ◌==◌, nat_lt}
 use Rattle.matching.specs.Look.{look, distinct, Found}
 use Rattle.matching.specs.declared.matcher.Held.{Held}
 use Rattle.lit_book.specs.declared.order.Order.{Order}

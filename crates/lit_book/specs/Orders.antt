@@ -1,5 +1,5 @@
 -- When an order trades with another, and which it prefers. Assumes nothing.
-use Rattle.std.specs.Prelude.{◌≡◌, ℕ, Bool, true, false, cond, not, ◌&&◌, ◌||◌, List, [], ◌∷◌, ℤ, pos, Some, None, Option, ◌==◌, int_le, int_lt}
+use Rattle.std.specs.Prelude.{ℕ, Bool, true, false, ◌&&◌, ◌||◌, ℤ, pos, ◌==◌, int_le, int_lt}
 use Rattle.matching.specs.declared.terms.OrderType.{OrderType}
 use Rattle.matching.specs.declared.terms.OrderType.TheVariants.{Market, Limit}
 use Rattle.matching.specs.declared.terms.Side.{Side}

@@ -1,4 +1,4 @@
-use Rattle.std.proofs.Common.{sym, ap, ◌∙◌, rules}
+use Rattle.std.proofs.Common.{sym, ap, ◌∙◌}
 use Rattle.lit_book.specs.Books.{lit, lit-meaning}
 use Rattle.lit_book.specs.Rules.{altered}
 use Rattle.lit_book.specs.Steps.{remaining}

@@ -1,4 +1,4 @@
-use Rattle.std.proofs.Common.{◌+◌, List, take, drop, Option, sym, refl, ap, ◌∙◌, arith}
+use Rattle.std.proofs.Common.{◌+◌, take, drop, Option, sym, ap, ◌∙◌, arith}
 use Rattle.lit_book.specs.declared.order.Order.{Order}
 use Rattle.lit_book.specs.Lists.{best-from}
 use Rattle.lit_book.proofs.Searches.{best-all, best-more}

@@ -1,4 +1,4 @@
-use Rattle.std.proofs.Common.{◌≡◌, ◌<◌, ◌≤◌, length, take, is_some, Some, None, sym, refl, ap, ◌∙◌, add-one, arith, take_all}
+use Rattle.std.proofs.Common.{◌≡◌, ◌<◌, ◌≤◌, length, is_some, Some, None, sym, ap, ◌∙◌, add-one, arith, take_all}
 use Rattle.std.proofs.lemmas.List.{get_or_read}
 use Rattle.matching.specs.Looks.{look-more, look_at}
 use Rattle.lit_book.specs.declared.order.Order.{Order}

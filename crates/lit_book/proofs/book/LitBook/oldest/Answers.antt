@@ -1,4 +1,4 @@
-use Rattle.std.proofs.Common.{drop, sym, refl, arith, rules}
+use Rattle.std.proofs.Common.{drop, refl, arith}
 use Rattle.lit_book.specs.Turns.{queued}
 use Rattle.lit_book.proofs.Searches.{first-at, front-none, front-some}
 use Rattle.lit_book.proofs.book.LitBook.oldest.Goals as goal

@@ -1,4 +1,4 @@
-use Rattle.std.proofs.Common.{◌≡◌, ℕ, ◌-◌, ◌≤◌, List, length, take, drop, sym, ap, ◌∙◌, arith, rules}
+use Rattle.std.proofs.Common.{ℕ, ◌-◌, List, take, drop, ap, ◌∙◌, arith, rules}
 use Rattle.std.specs.List.{remove}
 use Rattle.matching.specs.RowsLemmas.{removed-apart, removed-means}
 use Rattle.lit_book.specs.declared.order.Order.{Order}
@@ -6,11 +6,11 @@ use Rattle.lit_book.specs.Books.{lit-means, lit-serves}
 use Rattle.lit_book.specs.Lists.{all_apart, all-open, in-turn, order-held, order-number, settled}
 use Rattle.lit_book.specs.Rules.{Lit}
 use Rattle.lit_book.specs.Turns.{queued}
-use Rattle.lit_book.proofs.Tables.{Parts, back-turn, front-turn, parts-lit, parts-settled, removed-back, removed-front, removed-open}
+use Rattle.lit_book.proofs.Tables.{back-turn, front-turn, parts-lit, parts-settled, removed-back, removed-front, removed-open}
 use Rattle.lit_book.proofs.book.LitBook.remove.Goals as goal
 
-pub invariant-of-self : goal.invariant-of-self
-invariant-of-self c =
+pub invariant_of-self : goal.invariant_of-self
+invariant_of-self c =
     let b = c.args.self.now in
     let xs = b.orders.items in
     let k = b.resting in
@@ -18,31 +18,10 @@ invariant-of-self c =
     let n = c.args.number in
     let e = c.remove.ensures.items in
     let lt = c.if-i-resting.true in
-    let p = removed-front xs i k n b.apart c.requires lt (omega arith) in (
-      search rules,
-      (
-        search rules,
-        (
-          search rules,
-          (
-            ap all_apart e ∙ removed-apart order-number order-held 256 lit-serves xs i b.apart,
-            (
-              ap all-open e ∙ removed-open xs i b.nonzero,
-              (
-                ap (λ (l : List Order). in-turn (queued b.turns) (drop (k - 1) l)) e ∙ front-turn xs (remove xs i) i k (k - 1) n (queued b.turns) b.apart c.requires lt p b.kept_in_turn,
-                (
-                  ap (λ (l : List Order). settled (take (k - 1) l)) e ∙ parts-settled xs (remove xs i) k (k - 1) n _ p b.uncrossed,
-                  tt,
-                ),
-              ),
-            ),
-          ),
-        ),
-      ),
-    )
+    let p = removed-front xs i k n b.apart c.requires lt (omega arith) in record { reserved = search rules; limited = search rules; within = search rules; apart = ap all_apart e ∙ removed-apart order-number order-held 256 lit-serves xs i b.apart; nonzero = ap all-open e ∙ removed-open xs i b.nonzero; kept_in_turn = ap (λ (l : List Order). in-turn (queued b.turns) (drop (k - 1) l)) e ∙ front-turn xs (remove xs i) i k (k - 1) n (queued b.turns) b.apart c.requires lt p b.kept_in_turn; uncrossed = ap (λ (l : List Order). settled (take (k - 1) l)) e ∙ parts-settled xs (remove xs i) k (k - 1) n _ p b.uncrossed }
 
-pub invariant-of-self-else-i-resting : goal.invariant-of-self-else-i-resting
-invariant-of-self-else-i-resting c =
+pub invariant_of-self-else-i-resting : goal.invariant_of-self-else-i-resting
+invariant_of-self-else-i-resting c =
     let b = c.args.self.now in
     let xs = b.orders.items in
     let k = b.resting in
@@ -50,30 +29,7 @@ invariant-of-self-else-i-resting c =
     let n = c.args.number in
     let e = c.remove.ensures.items in
     let ge = c.if-i-resting.false in
-    let p = removed-back xs i k n c.requires ge (omega arith) in (
-      search rules,
-      (
-        search rules,
-        (
-          search rules,
-          (
-            ap all_apart e ∙ removed-apart order-number order-held 256 lit-serves xs i b.apart,
-            (
-              ap all-open e ∙ removed-open xs i b.nonzero,
-              (
-                ap (λ (l : List ℕ). in-turn l (drop k c.remove.new.self.items)) c.leave.ensures
-                    ∙ ap (λ (l : List Order). in-turn (remove (queued b.turns) (i - k)) (drop k l)) e
-                    ∙ back-turn xs (remove xs i) i k n (queued b.turns) c.requires ge p b.kept_in_turn,
-                (
-                  ap (λ (l : List Order). settled (take k l)) e ∙ parts-settled xs (remove xs i) k k n _ p b.uncrossed,
-                  tt,
-                ),
-              ),
-            ),
-          ),
-        ),
-      ),
-    )
+    let p = removed-back xs i k n c.requires ge (omega arith) in record { reserved = search rules; limited = search rules; within = search rules; apart = ap all_apart e ∙ removed-apart order-number order-held 256 lit-serves xs i b.apart; nonzero = ap all-open e ∙ removed-open xs i b.nonzero; kept_in_turn = ap (λ (l : List ℕ). in-turn l (drop k c.remove.new.self.items)) c.leave.ensures ∙ ap (λ (l : List Order). in-turn (remove (queued b.turns) (i - k)) (drop k l)) e ∙ back-turn xs (remove xs i) i k n (queued b.turns) c.requires ge p b.kept_in_turn; uncrossed = ap (λ (l : List Order). settled (take k l)) e ∙ parts-settled xs (remove xs i) k k n _ p b.uncrossed }
 
 pub returns-then-i-resting : goal.returns-then-i-resting
 returns-then-i-resting c =

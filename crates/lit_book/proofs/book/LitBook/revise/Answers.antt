@@ -1,4 +1,4 @@
-use Rattle.std.proofs.Common.{◌≡◌, ℕ, ◌<◌, true, false, length, ℤ, is_some, Some, sym, refl, ap, ◌∙◌, subst, arith, w64, to_z, of_z, rules}
+use Rattle.std.proofs.Common.{◌≡◌, ℕ, ◌<◌, true, false, length, is_some, Some, sym, ap, ◌∙◌, arith, w64, to_z, of_z}
 use Rattle.std.proofs.lemmas.Int.{to_z-of_z}
 use Rattle.matching.specs.RowsLemmas.{found-held}
 use Rattle.matching.specs.Look.{look}
@@ -29,8 +29,8 @@ add-requires c =
       some = omega arith;
     }
 
-pub returns-then-goes-back : goal.returns-then-goes-back
-returns-then-goes-back c =
+pub returns-then-goes_back : goal.returns-then-goes_back
+returns-then-goes_back c =
     let b = c.args.self.now in
     let xs = b.orders.items in
     let x = c.index-order.result.now in
@@ -42,7 +42,7 @@ returns-then-goes-back c =
     c.repriced-revised.ensures
     ∙ ap (λ (o : Order). repriced o (to_z w64 (of_z w64 c.args.price))) c.sized.ensures
     ∙ ap (repriced (sized x c.args.quantity)) p in
-    let back : goes_back x c.args.quantity c.args.price ≡ true = ap (goes_back x c.args.quantity) (sym p) ∙ sym c.if-goes-back.ensures in
+    let back : goes_back x c.args.quantity c.args.price ≡ true = ap (goes_back x c.args.quantity) (sym p) ∙ sym c.if-goes_back.ensures in
     let some = c.requires.found.0 in
     let positive : 0 < length xs = omega arith in
     record {
@@ -56,14 +56,14 @@ returns-then-goes-back c =
           (c.add.ensures.after ∙ ap (λ (n : ℕ). opened (lit-meaning c.remove.new.self) n (order-held v)) number);
     }
 
-pub returns-else-goes-back : goal.returns-else-goes-back
-returns-else-goes-back c =
+pub returns-else-goes_back : goal.returns-else-goes_back
+returns-else-goes_back c =
     let b = c.args.self.now in
     let xs = b.orders.items in
     let x = c.index-order.result.now in
     let p = to_z-of_z w64 c.args.price c.ranges.price in
     let own : x.number ≡ c.args.number = ap order-number c.index-order.ensures ∙ c.requires.found.2 x in
-    let stays : goes_back x c.args.quantity c.args.price ≡ false = ap (goes_back x c.args.quantity) (sym p) ∙ sym c.if-goes-back.ensures in
+    let stays : goes_back x c.args.quantity c.args.price ≡ false = ap (goes_back x c.args.quantity) (sym p) ∙ sym c.if-goes_back.ensures in
     record {
       lists = amended-stays (lit b) (lit c.resize.new.self) x c.args.number c.args.quantity c.args.price
           (under_at xs b.resting c.args.i c.args.number x c.requires.found c.index-order.ensures) own stays c.resize.ensures.lists;

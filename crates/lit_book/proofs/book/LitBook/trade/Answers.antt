@@ -1,7 +1,7 @@
-use Rattle.std.proofs.Common.{is_some, refl, ap, ◌∙◌, arith, w64, SFits, to_z, of_z, rules}
+use Rattle.std.proofs.Common.{is_some, ap, ◌∙◌, arith, w64, SFits, to_z, of_z, rules}
 use Rattle.std.proofs.lemmas.Int.{to_z-of_z}
 use Rattle.lit_book.specs.Books.{lit, lit-meaning}
-use Rattle.lit_book.proofs.Matches.{Matched, event-is, matched, still_open, trade-allowed, trade-lists, trade-means}
+use Rattle.lit_book.proofs.Matches.{event-is, matched, still_open, trade-allowed, trade-lists, trade-means}
 use Rattle.lit_book.proofs.book.LitBook.trade.Goals as goal
 
 pub alter-requires : goal.alter-requires

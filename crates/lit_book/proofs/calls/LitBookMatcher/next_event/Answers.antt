@@ -1,13 +1,13 @@
-use Rattle.std.proofs.Common.{◌≡◌, true, List, ◌++◌, take, drop, sym, ap, ◌∙◌, subst}
+use Rattle.std.proofs.Common.{◌≡◌, true, ◌++◌, sym, ap, ◌∙◌, subst}
 use Rattle.std.proofs.lemmas.List.{take-append-drop}
 use Rattle.matching.specs.declared.matcher.Event.{Event}
 use Rattle.lit_book.specs.Books.{lit}
 use Rattle.lit_book.specs.Laws.{Fair, Idle, Served}
 use Rattle.lit_book.specs.Lists.{all_apart}
-use Rattle.lit_book.specs.Rules.{Lit, next}
+use Rattle.lit_book.specs.Rules.{next}
 use Rattle.lit_book.proofs.Ends.{idle-of}
 use Rattle.lit_book.proofs.Fairs.{fair-of, served-of, uncrossed}
-use Rattle.lit_book.proofs.Stops.{Stop, stop}
+use Rattle.lit_book.proofs.Stops.{stop}
 use Rattle.lit_book.proofs.calls.LitBookMatcher.next_event.Goals as goal
 
 pub returns : goal.returns
