@@ -1,5 +1,5 @@
 -- What the words of a call say: a command whose parts are those words, or the word that cannot be read. Assumes nothing.
-use Rattle.std.specs.Prelude.{◌≡◌, ℕ, ◌⊎◌, List, [], ◌∷◌, length, Some, None, Ok, Err, codes, Result, ◌≢◌, slice_index_or}
+use Rattle.std.specs.Prelude.{◌≡◌, ℕ, ◌⊎◌, List, [], length, Some, None, Ok, Err, codes, Result, ◌≢◌, slice_index_or}
 use Rattle.std.specs.Borrow.{Bor}
 use Rattle.matching.specs.declared.terms.Book.TheVariants.{Integrated}
 use Rattle.matching.specs.declared.terms.OrderType.{OrderType as Type-of-order}
