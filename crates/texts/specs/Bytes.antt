@@ -1,10 +1,9 @@
 -- Bytes as numbers and as text. Assumes nothing.
-use Rattle.std.specs.Prelude.{ℕ, zero, suc, ◌+◌, ◌-◌, ◌*◌, ◌/◌, ◌%◌, Bool, true, false, List, [], ◌∷◌, ◌++◌, length, take, drop, replicate, ◌==◌, nat_le, nat_lt}
-use Rattle.std.specs.List.{prefix_len}
+use Rattle.std.specs.Prelude.{ℕ, zero, suc, ◌+◌, ◌-◌, ◌*◌, ◌/◌, ◌%◌, Bool, ◌&&◌, List, [], ◌∷◌, ◌++◌, length, take, drop, replicate, ◌==◌, nat_le, nat_lt}
+use Rattle.std.specs.List.{list_all, prefix_len}
 
 abbrev pub both : Bool → Bool → Bool
-both true b = b
-both false b = false
+both a b = a && b
 
 -- the bytes of the field at a place, of a width
 abbrev pub part : ℕ → ℕ → List ℕ → List ℕ
@@ -21,15 +20,13 @@ toLe zero n = []
 toLe (suc w) n = n % 256 ∷ toLe w (n / 256)
 
 abbrev pub printable : ℕ → Bool
-printable b = both (nat_le 32 b) (nat_le b 126)
+printable b = nat_le 32 b && nat_le b 126
 
 abbrev pub allPrintable : List ℕ → Bool
-allPrintable [] = true
-allPrintable (b ∷ bs) = both (printable b) (allPrintable bs)
+allPrintable bs = list_all printable bs
 
 abbrev pub allNull : List ℕ → Bool
-allNull [] = true
-allNull (b ∷ bs) = both (b == 0) (allNull bs)
+allNull bs = list_all (λ b. b == 0) bs
 
 -- what a text field says: the printable bytes at its front
 abbrev pub said : List ℕ → List ℕ

@@ -1,6 +1,5 @@
 -- Identifiers: a letter, and a number in eleven digits of base 62. Assumes nothing.
-use Rattle.std.specs.Prelude.{◌≡◌, ℕ, zero, suc, ◌+◌, ◌-◌, ◌*◌, ◌/◌, ◌%◌, ◌^◌, ◌<◌, cond, List, [], ◌∷◌, ◌++◌, length, drop, Some, None, Option, ◌==◌, nat_le, nat_lt, slice_index}
-use Rattle.texts.specs.Bytes.{both}
+use Rattle.std.specs.Prelude.{◌≡◌, ℕ, zero, suc, ◌+◌, ◌-◌, ◌*◌, ◌/◌, ◌%◌, ◌^◌, ◌<◌, cond, ◌&&◌, List, [], ◌∷◌, ◌++◌, length, drop, Some, None, Option, ◌==◌, nat_le, nat_lt, slice_index}
 
 -- the digit that stands for a number below 62: 0 to 9, A to Z, a to z
 abbrev pub digit : ℕ → ℕ
@@ -9,8 +8,8 @@ digit d = cond (nat_lt d 10) (48 + d) (cond (nat_lt d 36) (55 + d) (61 + d))
 -- what a byte is worth as a digit; 62 where it is none
 abbrev pub worth : ℕ → ℕ
 worth c =
-    cond (both (nat_le 48 c) (nat_le c 57)) (c - 48) (cond (both (nat_le 65 c) (nat_le c 90)) (c - 55)
-    (cond (both (nat_le 97 c) (nat_le c 122)) (c - 61) 62))
+    cond (nat_le 48 c && nat_le c 57) (c - 48) (cond (nat_le 65 c && nat_le c 90) (c - 55)
+    (cond (nat_le 97 c && nat_le c 122) (c - 61) 62))
 
 -- a number in a count of digits
 unfoldable pub base62 : ℕ → ℕ → List ℕ

@@ -108,10 +108,7 @@ impl OrderId {
     pub fn read(bytes: &[u8]) -> Option<OrderId>
         ensures { option_map (λ i. i.number) result ≡ number_of 79 bytes.now }
     {
-        match read_id(b'O', bytes) {
-            Some(number) => Some(OrderId { number }),
-            None => None,
-        }
+        read_id(b'O', bytes).map(|number| OrderId { number })
     }
 }
 

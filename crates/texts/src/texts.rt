@@ -12,30 +12,18 @@ pub fn is_printable(byte: u8) -> bool
     byte >= 0x20 && byte <= 0x7e
 }
 
-// How many bytes at the front are printable.
-fn printable_front(field: &[u8]) -> usize
-    ensures value { result ≡ prefix_len printable field.now }
-    ensures bound { result ≤ length field.now }
-{
-    let mut n = 0;
-    while n < field.len() && is_printable(field[n]) {
-        n += 1;
-    }
-    n
-}
-
-// Where a field's text ends.
+// Where a field's text ends: at its first byte that is not printable.
 pub fn text_end(field: &[u8]) -> usize
     ensures value { result ≡ prefix_len printable field.now }
     ensures bound { result ≤ length field.now }
 {
-    printable_front(field)
+    field.iter().take_while(|b| is_printable(**b)).count()
 }
 
 fn all_printable(text: &[u8]) -> bool
     ensures { result ≡ allPrintable text.now }
 {
-    text_end(text) == text.len()
+    text.iter().all(|b| is_printable(*b))
 }
 
 // Text, and nulls up to the width.
@@ -49,9 +37,7 @@ fn filled<const N: usize>(text: &[u8]) -> [u8; N]
     ensures named { 0 < length text.now → named result ≡ true }
 {
     let mut bytes = [0; N];
-    for (i, b) in text.iter().enumerate() {
-        bytes[i] = *b;
-    }
+    bytes[..text.len()].copy_from_slice(text);
     bytes
 }
 
@@ -93,10 +79,8 @@ impl RequestId {
         if text.is_empty() {
             return None;
         }
-        match FixedText::new(text) {
-            Some(id) => Some(RequestId { id }),
-            None => None,
-        }
+        let id = FixedText::new(text)?;
+        Some(RequestId { id })
     }
 
     pub fn as_bytes(&self) -> &[u8]
