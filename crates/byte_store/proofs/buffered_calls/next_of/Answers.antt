@@ -1,5 +1,5 @@
 use Rattle.std.proofs.Common.{◌≡◌, suc, ◌+◌, true, false, Some, sym, ap, ◌∙◌, add-one, arith}
-use Rattle.byte_store.specs.Steps.{place-step, place_end}
+use Rattle.byte_store.proofs.Steps.{place-step, place_end}
 use Rattle.byte_store.proofs.buffered_calls.next_of.Goals as goal
 
 pub loop-i-preserved : goal.loop-i-preserved

@@ -1,6 +1,6 @@
 use Rattle.std.proofs.Common.{◌-◌, Some, refl, ap, ◌∙◌, inl, inr, arith}
 use Rattle.byte_store.proofs.Parts.{within-at}
-use Rattle.byte_store.specs.Steps.{read_none, read_some}
+use Rattle.byte_store.proofs.Steps.{read_none, read_some}
 use Rattle.byte_store.proofs.buffered.Buffered.entry_of.Goals as goal
 use Rattle.byte_store.proofs.buffered.Buffered.entry_of.Goals.{then-number-eq0-via-then-number-eq0, then-number-eq0-via-else-number-eq0+then-number-len}
 

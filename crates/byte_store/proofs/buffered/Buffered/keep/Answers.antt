@@ -4,7 +4,7 @@ use Rattle.store.specs.Kept.{grown}
 use Rattle.byte_store.specs.Places.{filed}
 use Rattle.byte_store.specs.Views.{kept_in}
 use Rattle.byte_store.proofs.Parts.{within_more, within-pushed, other-kept, own-kept}
-use Rattle.byte_store.specs.Steps.{free-same, kept_same}
+use Rattle.byte_store.proofs.Steps.{free-same, kept_same}
 use Rattle.byte_store.proofs.buffered.Buffered.keep.Goals as goal
 
 pub invariant_of-self : goal.invariant_of-self

@@ -1,5 +1,5 @@
 use Rattle.std.proofs.Common.{◌≡◌, length, sym, ap, ◌∙◌, arith}
-use Rattle.byte_store.specs.Steps.{long-in}
+use Rattle.byte_store.proofs.Steps.{long-in}
 use Rattle.byte_store.proofs.buffered.Buffered.last_of.Goals as goal
 
 pub returns : goal.returns

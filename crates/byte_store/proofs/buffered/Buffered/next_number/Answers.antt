@@ -1,7 +1,7 @@
 use Rattle.std.proofs.Common.{map, vec_items, sym, ap, ◌∙◌}
 use Rattle.store.specs.Kept.{next-after}
 use Rattle.byte_store.specs.Places.{entry_in}
-use Rattle.byte_store.specs.Steps.{entries-in}
+use Rattle.byte_store.proofs.Steps.{entries-in}
 use Rattle.byte_store.proofs.buffered.Buffered.next_number.Goals as goal
 
 pub returns : goal.returns
