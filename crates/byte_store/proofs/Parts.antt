@@ -1,10 +1,9 @@
 -- A buffer that grows keeps its parts. Assumes nothing.
-use Rattle.std.proofs.Common.{◌≡◌, ℕ, zero, suc, ◌+◌, ◌-◌, ◌<◌, ◌≤◌, Bool, true, false, ◌&&◌, leb, List, [], ◌∷◌, ◌++◌, map, length, get_or, take, drop, sym, refl, ap, ◌∙◌, subst, arith, length-drop, take_all}
+use Rattle.std.proofs.Common.{◌≡◌, ℕ, zero, suc, ◌+◌, ◌<◌, ◌≤◌, true, leb, List, [], ◌∷◌, ◌++◌, map, length, get_or, take, drop, sym, refl, ap, ◌∙◌, subst, arith, length-drop, take_all}
 use lib.Seq.{take-append-le, drop-append-le, drop-append_seam}
 use Rattle.std.proofs.lemmas.List.{map_push}
 use Rattle.std.proofs.lemmas.Bool.{and_parts, and_from, leb-true, le-leb}
 use Rattle.reports.specs.declared.report.Report.{Report}
-use Rattle.reports.specs.declared.report.Entry.{Entry}
 use Rattle.byte_store.specs.declared.place.Place.{Place}
 use Rattle.byte_store.specs.Places.{part, filed, entry_in, all-within}
 

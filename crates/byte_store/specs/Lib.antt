@@ -1,3 +1,3 @@
 pub mod Places
 pub mod Views
-pub mod Steps
+pub mod Room

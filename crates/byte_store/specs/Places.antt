@@ -1,5 +1,5 @@
 -- Entries as parts of a buffer. Assumes nothing.
-use Rattle.std.specs.Prelude.{ℕ, ◌+◌, ◌-◌, ◌/◌, min, Bool, true, false, ◌&&◌, List, [], ◌∷◌, map, take, drop, nat_le}
+use Rattle.std.specs.Prelude.{ℕ, ◌+◌, ◌-◌, ◌/◌, min, Bool, true, ◌&&◌, List, [], ◌∷◌, take, drop, nat_le}
 use Rattle.reports.specs.declared.report.Entry.{Entry}
 use Rattle.reports.specs.declared.report.Report.{Report}
 use Rattle.byte_store.specs.declared.place.Place.{Place}

@@ -1,13 +1,12 @@
 // The calls of the store of bytes.
 ghost use Rattle.std.specs.Prelude.{◌≡◌, ℕ, ◌+◌, ◌-◌, ◌<◌, ◌≤◌, true, false, List, [], map, length, IfOk, vec_len, vec_capacity, ◌==◌};
-ghost use Rattle.std.proofs.Common.{◌∙◌, arith};
 ghost use Rattle.std.specs.Option.{option_map};
 ghost use Rattle.reports.specs.Tally.{entry_at};
 ghost use Rattle.reports.specs.declared.report.Report.{Report as Told};
 ghost use Rattle.store.specs.Kept.{empty, reports-in, grown, next-after};
 ghost use Rattle.byte_store.specs.Places.{filed, entry_in, all-within, free-places};
 ghost use Rattle.byte_store.specs.Views.{kept_in, places-in, count-in, free_in};
-ghost use Rattle.byte_store.specs.Steps.{count_kept, room_of};
+ghost use Rattle.byte_store.specs.Room.{room_held};
 
 use crate::buffered::Buffered;
 use crate::codec::{Codec, LONGEST};
@@ -181,7 +180,7 @@ impl<C: Codec> Store for Buffered<C> {
 
     ghost free = { λ s. free_in s };
 
-    ghost room = { λ s. room_of _ (count-in s) _ (count_kept C.Codec.decoded s ∙ omega arith) s.few };
+    ghost room = { λ s. room_held C.Codec.decoded s };
 
     fn places(&self) -> usize {
         self.free_places()

@@ -1,5 +1,5 @@
 -- Orders as rows, and what a change answers. Assumes nothing.
-use Rattle.std.specs.Prelude.{◌≡◌, ℕ, ◌+◌, Bool, true, false, cond, ◌&&◌, Some, None, Ok, Err, Option, Result, nat_le, nat_lt}
+use Rattle.std.specs.Prelude.{◌≡◌, ℕ, Bool, true, false, cond, ◌&&◌, Some, None, Ok, Err, Option, Result, nat_le, nat_lt}
 use Rattle.orders.specs.declared.row.Row.{Row}
 use Rattle.orders.specs.declared.order.Order.{Order}
 use Rattle.orders.specs.declared.changes.ReplaceRefusal.{ReplaceRefusal}

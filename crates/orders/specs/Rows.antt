@@ -1,5 +1,5 @@
 -- An order's row, the five changes of an order, and its status. Assumes nothing.
-use Rattle.std.specs.Prelude.{◌≡◌, ℕ, ◌+◌, ◌-◌, Bool, true, false, cond, ◌&&◌, ◌||◌, Some, None, Option, ◌==◌, nat_le, nat_lt}
+use Rattle.std.specs.Prelude.{ℕ, ◌+◌, ◌-◌, Bool, true, false, cond, ◌&&◌, ◌||◌, Some, None, Option, ◌==◌, nat_le, nat_lt}
 use Rattle.codes.specs.declared.report.Status.{Status}
 use Rattle.codes.specs.declared.report.Status.TheVariants as status
 use Rattle.orders.specs.declared.row.Row.{Row}

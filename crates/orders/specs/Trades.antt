@@ -1,5 +1,5 @@
 -- The trades of a day, and what their table's calls answer. Assumes nothing.
-use Rattle.std.specs.Prelude.{◌≡◌, ℕ, ◌+◌, ◌<◌, ◌≤◌, Bool, true, false, cond, List, [], ◌∷◌, ◌++◌, length, Some, None, Ok, Err, vec_items, Option, Result}
+use Rattle.std.specs.Prelude.{◌≡◌, ℕ, ◌+◌, ◌<◌, ◌≤◌, true, cond, List, [], ◌∷◌, ◌++◌, length, Some, None, Ok, Err, vec_items, Option, Result}
 use Rattle.orders.specs.declared.trade.Trade.{Trade}
 use Rattle.orders.specs.declared.trade.Trades.{Trades}
 use Rattle.orders.specs.declared.trades_calls.TradeRefusal.{TradeRefusal}

@@ -1,5 +1,5 @@
 -- The laws of the fold. Assumes nothing.
-use Rattle.std.proofs.Common.{◌≡◌, ℕ, ◌+◌, ◌<◌, ◌≤◌, Bool, true, false, cond, ◌&&◌, eqb, ltb, leb, ℤ, pos, ◌-ℤ◌, Some, None, Ok, Err, Option, Result, sym, refl, ap, ◌∙◌, subst, arith}
+use Rattle.std.proofs.Common.{◌≡◌, ℕ, ◌+◌, ◌<◌, ◌≤◌, Bool, true, false, cond, ◌&&◌, eqb, ltb, leb, Some, None, Ok, Err, Option, Result, sym, refl, ap, ◌∙◌, arith}
 use Rattle.std.proofs.lemmas.Map.{update_apart}
 use Rattle.std.proofs.lemmas.Bool.{and_parts, ltb-true, eqb-true, leb-true}
 use Rattle.std.specs.Map.{update}
@@ -13,8 +13,8 @@ use Rattle.reports.specs.declared.standing.Effect.TheVariants.{Adds, Fills, Undo
 use Rattle.reports.specs.declared.fold.FoldRefusal.{FoldRefusal}
 use Rattle.reports.specs.declared.fold.FoldRefusal.TheVariants.{Unfit, Full}
 use Rattle.reports.specs.Effects.{effect_of}
-use Rattle.reports.specs.Fold.{Table, natural, stands, added, filled-to, executed-after, bounded, changed-to, changed, fold-known, fold-new, fold-order, fold-named, fold-by, fold}
-use Rattle.reports.specs.FoldLaws.{Keeps, FoldLaws}
+use Rattle.reports.specs.Fold.{Table, natural, stands, added, filled-to, executed-after, bounded, changed-to, changed, fold-known, fold-new, fold-order, fold-named, fold-by}
+use Rattle.reports.specs.FoldLaws.{FoldLaws}
 
 never : {A : Type 0} (e : FoldRefusal) (k : Table) → ◌≡◌ {A = Result Table FoldRefusal} (Err e) (Ok k) → A
 never e k h = absurd (let z : ◌≡◌ {A = ℕ} 0 1 = cc in let no : ⊥ = omega arith in no)

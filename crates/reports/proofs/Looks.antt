@@ -1,14 +1,13 @@
 -- What a change of the rows does to what is known. Assumes nothing.
-use Rattle.std.proofs.Common.{◌≡◌, ℕ, zero, suc, ◌+◌, ◌-◌, ◌<◌, ◌≤◌, Bool, true, false, cond, eqb, ◌⊎◌, List, [], ◌∷◌, ◌++◌, length, get_or, take, set, Some, None, Ok, Err, Option, Result, sym, refl, ap, ◌∙◌, subst, inl, inr, arith, length-append, length-set}
+use Rattle.std.proofs.Common.{◌≡◌, ℕ, zero, suc, ◌<◌, Bool, true, false, cond, eqb, ◌⊎◌, List, [], ◌∷◌, ◌++◌, length, get_or, take, set, Some, None, Ok, Err, Option, sym, refl, ap, ◌∙◌, inl, inr, arith, length-append, length-set}
 use mathlib.Core.Path.{fun_ext}
-use Rattle.std.proofs.lemmas.Bool.{eq-eqb, ne_eqb, cond-true, cond-false, cases_eq, eqb-false, lt-ltb, le-ltb}
+use Rattle.std.proofs.lemmas.Bool.{eq-eqb, ne_eqb, cond-true, cond-false, cases_eq, eqb-false, lt-ltb}
 use Rattle.std.specs.Map.{update}
 use Rattle.reports.specs.declared.standing.Standing.{Standing}
 use Rattle.reports.specs.declared.standings.Known.{Known}
 use Rattle.codes.specs.declared.session.Partition.{Partition}
 use Rattle.reports.specs.declared.standing.Told.{Told}
-use Rattle.reports.specs.declared.fold.FoldRefusal.{FoldRefusal}
-use Rattle.reports.specs.declared.fold.FoldRefusal.TheVariants.{Unfit, Full}
+use Rattle.reports.specs.declared.fold.FoldRefusal.TheVariants.{Unfit}
 use Rattle.reports.specs.Fold.{Table, nothing_known, added, changed, fold-known, fold-new, fold-order}
 use Rattle.reports.specs.Views.{standing-in, table-of, Found}
 
@@ -41,7 +40,7 @@ over e n m s x y f h (inr apart) =
     cond-false _ _ _ t ∙ h ∙ ap (cond (eqb m n) (Some s)) (sym (cond-false _ _ _ t))
 
 -- one row more, under a number that no row has
-pub look-push : (rs : List Known) (n : ℕ) (s : Standing) → standing-in rs n ≡ None → (m : ℕ) → standing-in (rs ++ (row n s ∷ [])) m ≡ update eqb (standing-in rs) n (Some s) m
+pub look-push : (rs : List Known) (n : ℕ) (s : Standing) → standing-in rs n ≡ None → (m : ℕ) → standing-in (rs ++ (row n s ∷ [])) m ≡ cond (eqb m n) (Some s) (standing-in rs m)
 unfolding standing-in
 look-push [] n s h m = refl
 look-push (e ∷ rs) n s h m =
@@ -58,7 +57,7 @@ look-more (e ∷ rs) (suc i) n x h read k ne =
     cond-false _ _ _ p.0 ∙ look-more rs i n x (omega arith) read p.1 ne
 
 -- the first row that has the number, written over
-pub look-set : (rs : List Known) (i n : ℕ) (s : Standing) → Found rs n (Some i) → (m : ℕ) → standing-in (set rs i (row n s)) m ≡ update eqb (standing-in rs) n (Some s) m
+pub look-set : (rs : List Known) (i n : ℕ) (s : Standing) → Found rs n (Some i) → (m : ℕ) → standing-in (set rs i (row n s)) m ≡ cond (eqb m n) (Some s) (standing-in rs m)
 unfolding standing-in
 look-set [] i n s (h, k, at) m = absurd (let no : ⊥ = omega arith in no)
 look-set (e ∷ rs) zero n s (h, k, at) m = here (cases_eq m n)
@@ -79,6 +78,14 @@ look_at (e ∷ rs) (suc i) n x (h, k, at) read =
     let p = past e (take i rs) n k in
     cond-false _ _ _ p.0 ∙ look_at rs i n x (omega arith, p.1, at) read
 
+-- an update, by a test of the number that is looked up
+updated : (f : ℕ → Option Standing) (n m : ℕ) (w : Option Standing) → cond (eqb m n) w (f m) ≡ update eqb f n w m
+updated f n m w = by-cases (cases_eq m n)
+  where
+    by-cases : (m ≡ n) ⊎ (m ≡ n → ⊥) → cond (eqb m n) w (f m) ≡ update eqb f n w m
+    by-cases (inl q) = cond-true _ _ _ (eq-eqb _ _ q) ∙ sym (cond-true _ _ _ (eq-eqb n m (sym q)))
+    by-cases (inr ne) = cond-false _ _ _ (ne_eqb _ _ ne) ∙ sym (cond-false _ _ _ (ne_eqb n m (λ q. ne (sym q))))
+
 same-table : (f g : ℕ → Option Standing) (m n : ℕ) → ((k : ℕ) → f k ≡ g k) → m ≡ n → ◌≡◌ {A = Table} (record { standing = f; count = m }) (record { standing = g; count = n })
 same-table f g m n h e = let same : f ≡ g = fun_ext h in cc
 
@@ -86,7 +93,7 @@ same-table f g m n h e = let same : f ≡ g = fun_ext h in cc
 pub known-folds : (rs : List Known) (i n : ℕ) (t : Told) (x : Known) (s : Standing) → Found rs n (Some i) → x ≡ get_or rs i x → Some s ≡ changed t x.standing → (p : Partition) → fold-order p t (table-of rs) n (standing-in rs n) ≡ Ok (table-of (set rs i (row n s)))
 known-folds rs i n t x s f read told p =
     ap (fold-order p t (table-of rs) n) (look_at rs i n x f read) ∙ ap (fold-known (table-of rs) n) (sym told)
-    ∙ ap Ok (same-table _ _ _ _ (λ m. sym (look-set rs i n s f m)) (sym (length-set rs i (row n s))))
+    ∙ ap Ok (same-table _ _ _ _ (λ m. sym (look-set rs i n s f m ∙ updated (standing-in rs) n m (Some s))) (sym (length-set rs i (row n s))))
 
 pub known-unfit : (rs : List Known) (i n : ℕ) (t : Told) (x : Known) → Found rs n (Some i) → x ≡ get_or rs i x → None ≡ changed t x.standing → (p : Partition) → fold-order p t (table-of rs) n (standing-in rs n) ≡ Err Unfit
 known-unfit rs i n t x f read told p = ap (fold-order p t (table-of rs) n) (look_at rs i n x f read) ∙ ap (fold-known (table-of rs) n) (sym told)
@@ -95,7 +102,7 @@ known-unfit rs i n t x f read told p = ap (fold-order p t (table-of rs) n) (look
 pub new-folds : (rs : List Known) (n : ℕ) (p : Partition) (t : Told) (s : Standing) → standing-in rs n ≡ None → length rs < 256 → Some s ≡ added p t → fold-order p t (table-of rs) n (standing-in rs n) ≡ Ok (table-of (rs ++ (row n s ∷ [])))
 new-folds rs n p t s none lt told =
     ap (fold-order p t (table-of rs) n) none ∙ ap (fold-new (table-of rs) n) (sym told) ∙ cond-true _ _ _ (lt-ltb (length rs) 256 lt)
-    ∙ ap Ok (same-table _ _ _ _ (λ m. sym (look-push rs n s none m)) (sym (length-append rs (row n s ∷ []))))
+    ∙ ap Ok (same-table _ _ _ _ (λ m. sym (look-push rs n s none m ∙ updated (standing-in rs) n m (Some s))) (sym (length-append rs (row n s ∷ []))))
 
 pub table_none : table-of [] ≡ nothing_known
 table_none = same-table _ _ _ _ look_none refl

@@ -1,11 +1,11 @@
 -- The laws of the tally. Assumes nothing.
-use Rattle.std.proofs.Common.{◌≡◌, ℕ, zero, suc, ◌+◌, ◌-◌, ◌<◌, ◌≤◌, Bool, true, false, cond, eqb, List, [], ◌∷◌, ◌++◌, length, take, Some, None, Option, sym, refl, ap, ◌∙◌, subst, add-one, arith}
+use Rattle.std.proofs.Common.{◌≡◌, ℕ, zero, suc, ◌<◌, ◌≤◌, Bool, true, false, cond, eqb, List, [], ◌∷◌, ◌++◌, take, Some, None, Option, sym, refl, ap, ◌∙◌, add-one, arith}
 use Rattle.std.proofs.lemmas.Bool.{eq-eqb, cond-true, cond-false}
 use Rattle.codes.specs.declared.session.Partition.{Partition}
 use Rattle.reports.specs.declared.report.Entry.{Entry}
 use Rattle.reports.specs.Told.{told_of}
 use Rattle.reports.specs.Fold.{Table, nothing_known, fold}
-use Rattle.reports.specs.Tally.{entry_at, is-of, kept, tally-one, tally-from, tally, tally-to, own}
+use Rattle.reports.specs.Tally.{entry_at, is-of, kept, tally-one, tally-from, tally-to, own}
 use Rattle.reports.specs.Laws.{Laws, TallyLaws}
 
 never : {A : Type 0} (e : Entry) → ◌≡◌ {A = Option Entry} None (Some e) → A

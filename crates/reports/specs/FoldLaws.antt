@@ -1,5 +1,5 @@
 -- What folding a report keeps, in words. Assumes nothing.
-use Rattle.std.specs.Prelude.{◌≡◌, ℕ, ◌+◌, ◌<◌, ◌≤◌, true, is_some, Some, Ok, ◌≢◌}
+use Rattle.std.specs.Prelude.{◌≡◌, ℕ, ◌+◌, ◌<◌, ◌≤◌, Some, Ok, ◌≢◌}
 use Rattle.codes.specs.declared.session.Partition.{Partition}
 use Rattle.codes.specs.declared.report.ExecType.TheVariants as exec
 use Rattle.texts.specs.declared.identifiers.OrderId.{OrderId}

@@ -1,5 +1,5 @@
 -- What a table of standings holds. Assumes nothing.
-use Rattle.std.specs.Prelude.{◌≡◌, ℕ, ◌<◌, Bool, true, false, cond, List, [], ◌∷◌, length, take, Some, None, vec_items, Option, ◌==◌, slice_index_or}
+use Rattle.std.specs.Prelude.{◌≡◌, ℕ, ◌<◌, cond, List, [], ◌∷◌, length, take, Some, None, vec_items, Option, ◌==◌, slice_index_or}
 use Rattle.reports.specs.declared.standing.Standing.{Standing}
 use Rattle.reports.specs.declared.standings.Known.{Known}
 use Rattle.reports.specs.declared.standings.Standings.{Standings}

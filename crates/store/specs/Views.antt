@@ -1,6 +1,5 @@
 -- What the store of records keeps. Assumes nothing.
-use Rattle.std.specs.Prelude.{ℕ, ◌+◌, ◌-◌, List, vec_items, vec_len}
-use Rattle.codes.specs.declared.session.Partition.{Partition}
+use Rattle.std.specs.Prelude.{ℕ, ◌+◌, ◌-◌, vec_items, vec_len}
 use Rattle.store.specs.declared.records.Records.{Records}
 use Rattle.store.specs.Kept.{Kept}
 

@@ -3,7 +3,7 @@ ghost use Rattle.std.specs.Prelude.{◌≡◌, ℕ, ◌+◌, ◌-◌, ◌<◌, �
 ghost use Rattle.reports.specs.Tally.{entry_at};
 ghost use Rattle.store.specs.Kept.{empty, reports-in, next-after};
 ghost use Rattle.store.specs.Views.{recorded, unused};
-ghost use Rattle.std.proofs.Common.{rules, arith};
+ghost use Rattle.std.proofs.Common.{rules};
 
 use crate::records::Records;
 use crate::{REPORTS, Store};
@@ -74,7 +74,7 @@ impl Store for Records {
 
     ghost free = { λ s. unused s };
 
-    ghost room = { first_of (Prim.search rules, Prim.grind (arith, Self.row.coded.inj)) };
+    ghost room = { Prim.search rules };
 
     fn places(&self) -> usize {
         self.places - (self.one.len() + self.two.len() + self.three.len())

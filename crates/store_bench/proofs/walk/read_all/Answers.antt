@@ -7,4 +7,4 @@ loop-owner-init g c = (sym (below_none _), omega arith)
 
 pub loop-owner-preserved : goal.loop-owner-preserved
 loop-owner-preserved g c =
-    (below-owner c.loop-owner.owner c.loop-owner.found c.read-own-found.result c.read-own-found-in-loop-owner.result c.read-own-found-in-loop-owner-2.result (g.S.Store.kept c.args.store.now) c.loop-owner.invariant.0 c.read-own-found.ensures.value c.read-own-found-in-loop-owner.ensures.value c.read-own-found-in-loop-owner-2.ensures.value, omega arith)
+    (below-owner c.loop-owner.owner c.loop-owner.found c.read_own-found.result c.read_own-found-in-loop-owner.result c.read_own-found-in-loop-owner-2.result (g.S.Store.kept c.args.store.now) c.loop-owner.invariant.0 c.read_own-found.ensures.value c.read_own-found-in-loop-owner.ensures.value c.read_own-found-in-loop-owner-2.ensures.value, omega arith)

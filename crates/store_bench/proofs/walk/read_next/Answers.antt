@@ -1,5 +1,5 @@
 use Rattle.std.proofs.Common.{sym, subst, arith}
-use Rattle.store.specs.Kept.{reports-in, next-after}
+use Rattle.store.specs.Kept.{reports-in}
 use Rattle.store_bench.specs.Counts.{Counts}
 use Rattle.store_bench.proofs.Counting.{next-counts, entry-there}
 use Rattle.store_bench.proofs.walk.read_next.Goals as goal

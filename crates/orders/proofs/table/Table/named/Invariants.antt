@@ -1,5 +1,4 @@
 use Rattle.std.proofs.Common.{◌≡◌, ◌≤◌, drop, None, vec_items, vec_len}
-use Rattle.texts.specs.Bytes.{said}
 use Rattle.orders.specs.Places.{latest}
 use Rattle.orders.proofs.table.Table.named.Given as goal
 

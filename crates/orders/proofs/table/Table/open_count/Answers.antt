@@ -1,8 +1,8 @@
-use Rattle.std.proofs.Common.{◌≡◌, ◌<◌, ◌≤◌, true, false, length, take, sym, ap, ◌∙◌, arith, take_all}
+use Rattle.std.proofs.Common.{◌<◌, ◌≤◌, true, false, length, sym, ap, ◌∙◌, arith, take_all}
 use Rattle.orders.specs.Places.{open-count}
 use Rattle.orders.proofs.Counts.{count_none, count-more, open-tested}
 use Rattle.orders.proofs.table.Table.open_count.Goals as goal
-use Rattle.orders.proofs.table.Table.open_count.Goals.{then-is-open, else-is-open}
+use Rattle.orders.proofs.table.Table.open_count.Goals.{then-is_open, else-is_open}
 
 pub loop-i-init : goal.loop-i-init
 loop-i-init c = (sym count_none, omega arith)
@@ -13,9 +13,9 @@ loop-i-preserved c =
     let x = c.index.result.now in
     let lt : c.loop-i.i < length rs = omega arith in
     let more = count-more rs c.loop-i.i x lt c.index.ensures in
-    elim c.if-is-open.branch [
-      | then-is-open w ↦ (let a = open-tested x true w.if-is-open.ensures in (omega (arith, w.n-is), omega (arith, w.n-is)))
-      | else-is-open w ↦ (let a = open-tested x false w.if-is-open.ensures in (omega (arith, w.n-is), omega (arith, w.n-is)))
+    elim c.if-is_open.branch [
+      | then-is_open w ↦ (let a = open-tested x true w.if-is_open.ensures in (omega (arith, w.n-is), omega (arith, w.n-is)))
+      | else-is_open w ↦ (let a = open-tested x false w.if-is_open.ensures in (omega (arith, w.n-is), omega (arith, w.n-is)))
     ]
 
 pub returns : goal.returns

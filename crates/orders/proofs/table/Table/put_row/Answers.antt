@@ -6,10 +6,10 @@ use Rattle.orders.proofs.Kept.{kept_set}
 use Rattle.orders.proofs.Numbered.{at-put-other}
 use Rattle.orders.proofs.table.Table.put_row.Goals as goal
 
-pub invariant-of-self : goal.invariant-of-self
-invariant-of-self c =
+pub invariant_of-self : goal.invariant_of-self
+invariant_of-self c =
     let number : c.row.result.number ≡ c.args.index + 1 = ap (λ (r : Row). r.number) c.row.ensures.is ∙ c.requires.0 in
-    (search rules, (search rules, (kept_set 1 _ c.args.index c.row.result c.args.self.now.kept number c.row.ensures.orderly, tt)))
+    record { reserved = search rules; limited = search rules; kept = kept_set 1 _ c.args.index c.row.result c.args.self.now.kept number c.row.ensures.orderly }
 
 pub returns : goal.returns
 returns c =

@@ -1,4 +1,4 @@
-use Rattle.std.proofs.Common.{◌≡◌, ◌<◌, ◌≤◌, [], ◌∷◌, ◌++◌, length, take, sym, ap, ◌∙◌, arith, take_all}
+use Rattle.std.proofs.Common.{◌<◌, ◌≤◌, [], ◌∷◌, ◌++◌, length, take, sym, ap, ◌∙◌, arith, take_all}
 use Rattle.std.proofs.lemmas.List.{take_more}
 use Rattle.reports.specs.declared.standings.Known.{Known}
 use Rattle.reports.specs.Views.{table-of}
@@ -10,7 +10,7 @@ loop-i-preserved c =
     let x = c.index.result.now in
     let lt : c.loop-i.i < length rs = omega arith in
     let more = take_more rs c.loop-i.i x lt in
-    (c.push-reserved.ensures.items ∙ ap (λ l. l ++ (x ∷ [])) c.loop-i.invariant.0 ∙ sym (more ∙ ap (λ (y : Known). take c.loop-i.i rs ++ (y ∷ [])) (sym c.index.ensures)), omega arith)
+    (c.push_reserved.ensures.items ∙ ap (λ l. l ++ (x ∷ [])) c.loop-i.invariant.0 ∙ sym (more ∙ ap (λ (y : Known). take c.loop-i.i rs ++ (y ∷ [])) (sym c.index.ensures)), omega arith)
 
 pub returns : goal.returns
 returns c =

@@ -1,4 +1,4 @@
-use Rattle.std.proofs.Common.{◌≡◌, ◌<◌, ◌≤◌, length, take, sym, refl, ap, ◌∙◌, add-one, arith, take_all}
+use Rattle.std.proofs.Common.{◌<◌, ◌≤◌, length, sym, ap, ◌∙◌, add-one, arith, take_all}
 use Rattle.std.proofs.lemmas.List.{get_or_read}
 use Rattle.std.proofs.lemmas.Bool.{eqb-true}
 use Rattle.reports.specs.declared.standings.Known.{Known}
@@ -13,13 +13,13 @@ pub loop-i-preserved : goal.loop-i-preserved
 loop-i-preserved c =
     let rs = c.args.self.now.rows.items in
     let lt : c.loop-i.i < length rs = omega arith in
-    rw add-one (look-more rs c.loop-i.i c.args.number c.index.result.now lt c.index.ensures c.loop-i.invariant (sym c.if-is-of.ensures))
+    rw add-one (look-more rs c.loop-i.i c.args.number c.index.result.now lt c.index.ensures c.loop-i.invariant (sym c.if-is_of.ensures))
 
-pub returns-then-is-of : goal.returns-then-is-of
-returns-then-is-of c =
+pub returns-then-is_of : goal.returns-then-is_of
+returns-then-is_of c =
     let rs = c.args.self.now.rows.items in
     let lt : c.loop-i.i < length rs = omega arith in
-    (lt, c.loop-i.invariant, λ d. sym (ap (λ (y : Known). y.number) (get_or_read rs _ _ lt c.index.ensures d)) ∙ sym (eqb-true _ _ (sym c.if-is-of.ensures)))
+    (lt, c.loop-i.invariant, λ d. sym (ap (λ (y : Known). y.number) (get_or_read rs _ _ lt c.index.ensures d)) ∙ sym (eqb-true _ _ (sym c.if-is_of.ensures)))
 
 pub returns : goal.returns
 returns c =

@@ -1,11 +1,10 @@
 -- Looking at places is looking at the entries that they hold. Assumes nothing.
-use Rattle.std.specs.Prelude.{◌≡◌, ℕ, zero, suc, ◌+◌, ◌-◌, ◌*◌, ◌/◌, ◌<◌, ◌≤◌, min, Bool, true, false, cond, ◌⊎◌, List, [], ◌∷◌, map, length, drop, Some, None, vec_items, Option, ◌==◌, slice_index_or, refl}
-use Rattle.std.proofs.Common.{sym, ap, ◌∙◌, subst, inl, inr, arith, rules}
+use Rattle.std.proofs.Common.{◌≡◌, ℕ, suc, ◌+◌, ◌<◌, ◌≤◌, Bool, cond, eqb, ◌⊎◌, List, map, length, get_or, drop, Some, None, vec_items, refl, sym, ap, ◌∙◌, arith}
 use Rattle.std.proofs.lemmas.List.{get_or-map, length-map}
 use Rattle.reports.specs.declared.report.Entry.{Entry}
 use Rattle.reports.specs.declared.report.Report.{Report}
 use Rattle.reports.specs.Tally.{entry_at}
-use Rattle.store.specs.Kept.{Kept, reports-in, total, next-from}
+use Rattle.store.specs.Kept.{Kept, reports-in, next-from}
 use Rattle.codes.specs.declared.session.Partition.{Partition}
 use Rattle.codes.specs.declared.session.Partition.TheVariants.{One, Two, Three}
 use Rattle.byte_store.specs.declared.buffered.Buffered.{Buffered}
@@ -18,10 +17,10 @@ module _ (d : List ℕ → Report) (b : List ℕ) where
   abbrev entries : List Place → List Entry
   entries ps = map (entry_in d b) ps
 
-  read-map : (ps : List Place) (i : ℕ) (p : Place) → i < length ps → p ≡ slice_index_or ps i p → entry_in d b p ≡ slice_index_or (entries ps) i (entry_in d b p)
+  read-map : (ps : List Place) (i : ℕ) (p : Place) → i < length ps → p ≡ get_or ps i p → entry_in d b p ≡ get_or (entries ps) i (entry_in d b p)
   read-map ps i p lt read = sym (get_or-map (entry_in d b) ps i p (entry_in d b p) lt ∙ ap (entry_in d b) (sym read))
 
-  pub place-step : (o i m : ℕ) (ps : List Place) (p : Place) (t : Bool) → i < length ps → p ≡ slice_index_or ps i p → t ≡ (p.owner == o) → next-from o m (drop i (entries ps)) ≡ cond t (Some m) (next-from o (suc m) (drop (suc i) (entries ps)))
+  pub place-step : (o i m : ℕ) (ps : List Place) (p : Place) (t : Bool) → i < length ps → p ≡ get_or ps i p → t ≡ eqb p.owner o → next-from o m (drop i (entries ps)) ≡ cond t (Some m) (next-from o (suc m) (drop (suc i) (entries ps)))
   place-step o i m ps p t lt read e =
       let long = length-map ps (entry_in d b) in
       next-step o i m (entries ps) (entry_in d b p) t (omega arith) (read-map ps i p lt read) e
@@ -32,21 +31,8 @@ module _ (d : List ℕ → Report) (b : List ℕ) where
   pub place_none : (ps : List Place) (n len : ℕ) → len ≡ length ps → (n ≡ 0) ⊎ (len < n) → None ≡ entry_at (entries ps) n
   place_none ps n len e h = let long = length-map ps (entry_in d b) in at_none (entries ps) n len (omega arith) h
 
-  pub place_read : (ps : List Place) (n i : ℕ) (p : Place) → n ≡ i + 1 → i < length ps → p ≡ slice_index_or ps i p → Some (entry_in d b p) ≡ entry_at (entries ps) n
+  pub place_read : (ps : List Place) (n i : ℕ) (p : Place) → n ≡ i + 1 → i < length ps → p ≡ get_or ps i p → Some (entry_in d b p) ≡ entry_at (entries ps) n
   place_read ps n i p e lt read = let long = length-map ps (entry_in d b) in at_read (entries ps) n i (entry_in d b p) e (omega arith) (read-map ps i p lt read)
-
--- a place takes at most as many bytes as the longest report
-pub free-less : (size used count n : ℕ) → n ≤ 145 → free-places size (used + n) (count + 1) ≤ free-places size used count
-free-less size used count n h = grind arith
-
-pub free_one : (size used count n : ℕ) → n ≤ 145 → free-places size used count ≤ free-places size (used + n) (count + 1) + 1
-free_one size used count n h = grind arith
-
-pub free-room : (size used count n : ℕ) → 0 < free-places size used count → n ≤ 145 → used ≤ size → used + n ≤ size
-free-room size used count n some h le = grind arith
-
-pub free-few : (size used count : ℕ) → 0 < free-places size used count → count < 16384
-free-few size used count some = grind arith
 
 pub free-same : (size u u' n n' : ℕ) → u ≡ u' → n ≡ n' → free-places size u n ≡ free-places size u' n'
 free-same size u u' n n' e f = ap (λ k. free-places size k n) e ∙ ap (free-places size u') f
@@ -64,15 +50,8 @@ module _ {C : Type 0} (d : List ℕ → Report) (s : Buffered C) where
   pub long-in : (p : Partition) → length (reports-in (kept_in d s) p) ≡ length (places-in s p)
   long-in p = ap length (entries-in p) ∙ length-map (places-in s p) (entry_in d (vec_items s.buffer))
 
-  pub count_kept : total (kept_in d s) ≡ length (places-in s One) + length (places-in s Two) + length (places-in s Three)
-  count_kept = let a = long-in One in let b = long-in Two in let c = long-in Three in omega arith
-
   pub read_none : (p : Partition) (ps : List Place) (n len : ℕ) → ps ≡ places-in s p → len ≡ length ps → (n ≡ 0) ⊎ (len < n) → None ≡ entry_at (reports-in (kept_in d s) p) n
   read_none p ps n len e l h = place_none d (vec_items s.buffer) ps n len l h ∙ ap (λ t. entry_at t n) (ap (map (entry_in d (vec_items s.buffer))) e ∙ sym (entries-in p))
 
-  pub read_some : (p : Partition) (ps : List Place) (n i : ℕ) (x : Place) → ps ≡ places-in s p → n ≡ i + 1 → i < length ps → x ≡ slice_index_or ps i x → Some (entry_in d (vec_items s.buffer) x) ≡ entry_at (reports-in (kept_in d s) p) n
+  pub read_some : (p : Partition) (ps : List Place) (n i : ℕ) (x : Place) → ps ≡ places-in s p → n ≡ i + 1 → i < length ps → x ≡ get_or ps i x → Some (entry_in d (vec_items s.buffer) x) ≡ entry_at (reports-in (kept_in d s) p) n
   read_some p ps n i x e f lt read = place_read d (vec_items s.buffer) ps n i x f lt read ∙ ap (λ t. entry_at t n) (ap (map (entry_in d (vec_items s.buffer))) e ∙ sym (entries-in p))
-
--- reports and free places are never more than 16,384
-pub room_of : (t c f : ℕ) → t ≡ c → c ≤ 16384 → t + min f (16384 - c) ≤ 16384
-room_of t c f e h = grind arith
