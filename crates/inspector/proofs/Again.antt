@@ -1,5 +1,5 @@
 -- Messages written again, and their values in order. Assumes nothing.
-use Rattle.std.proofs.Common.{◌≡◌, ℕ, ◌+◌, ◌-◌, ◌<◌, ◌≤◌, List, [], ◌∷◌, ◌++◌, map, length, get_or, take, drop, sym, refl, ap, ◌∙◌, arith, lit≤, length-append, length-drop}
+use Rattle.std.proofs.Common.{◌≡◌, ℕ, ◌+◌, ◌-◌, ◌<◌, ◌≤◌, List, [], ◌∷◌, ◌++◌, map, length, get_or, take, drop, sym, ap, ◌∙◌, arith, lit≤, length-append, length-drop}
 use Rattle.std.proofs.lemmas.List.{take_more, take_all, take_at, map-append}
 use Rattle.layout.specs.declared.value.Value.{Value}
 use Rattle.layout.specs.Layout.{Content}

@@ -1,5 +1,5 @@
 -- Text that grows at its end. Assumes nothing.
-use Rattle.std.proofs.Common.{◌≡◌, ℕ, ◌+◌, ◌<◌, true, false, List, [], ◌∷◌, ◌++◌, length, get_or, take, ℤ, pos, negsuc, nat_abs, IfOk, Ok, Err, Result, sym, refl, ap, ◌∙◌, append_assoc, append-nil, arith}
+use Rattle.std.proofs.Common.{◌≡◌, ℕ, ◌+◌, ◌<◌, true, false, List, [], ◌∷◌, ◌++◌, length, get_or, take, ℤ, pos, negsuc, nat_abs, IfOk, Ok, Err, Result, refl, ap, ◌∙◌, append_assoc, append-nil, arith}
 use lib.Utf8.{encodes, encode}
 use lib.Signed.{lt_z}
 use Rattle.std.proofs.lemmas.Int.{ints}

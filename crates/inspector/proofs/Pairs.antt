@@ -1,5 +1,5 @@
 -- Pairs of hex digits, one after the other. Assumes nothing.
-use Rattle.std.proofs.Common.{◌≡◌, ℕ, suc, ◌+◌, ◌*◌, ◌<◌, ◌≤◌, List, [], ◌∷◌, ◌++◌, length, get_or, drop, sym, refl, ap, ◌∙◌, append_assoc, append-nil, add-one, arith, length-drop, drop-cons}
+use Rattle.std.proofs.Common.{◌≡◌, ℕ, suc, ◌+◌, ◌*◌, ◌<◌, ◌≤◌, List, [], ◌∷◌, ◌++◌, length, get_or, drop, sym, refl, ap, ◌∙◌, append_assoc, append-nil, arith, length-drop, drop-cons}
 use Rattle.inspector.specs.Hex.{worth, hexBytes}
 
 step : (ds : List ℕ) (i : ℕ) → i + 1 < length ds → hexBytes (drop i ds) ≡ (worth (get_or ds i 0) * 16 + worth (get_or ds (i + 1) 0)) ∷ hexBytes (drop (i + 2) ds)

@@ -1,5 +1,5 @@
 -- The bytes of a line, by what they are for, and its words. Assumes nothing.
-use Rattle.std.specs.Prelude.{ℕ, Bool, true, false, cond, not, List, take, drop, ◌==◌, nat_le}
+use Rattle.std.specs.Prelude.{ℕ, Bool, true, cond, not, List, take, drop, ◌==◌, nat_le}
 use Rattle.std.specs.List.{prefix_len}
 use Rattle.texts.specs.Bytes.{both}
 use Rattle.inspector.specs.declared.classes.Class.{Class}

@@ -1,5 +1,5 @@
 -- What a line of input says: who reads, and the bytes of one message. Assumes nothing.
-use Rattle.std.specs.Prelude.{ℕ, ◌%◌, Bool, true, false, cond, List, [], length, Some, None, vec_items, codes, Option, ◌==◌, nat_lt, slice_index}
+use Rattle.std.specs.Prelude.{ℕ, ◌%◌, Bool, true, cond, List, [], length, Some, None, vec_items, codes, Option, ◌==◌, nat_lt, slice_index}
 use Rattle.std.specs.List.{prefix_len}
 use Rattle.std.specs.Str.{bytes_eq}
 use Rattle.wire.specs.declared.kinds.Channel.{Channel}

@@ -3,8 +3,7 @@ ghost use Rattle.std.specs.Prelude.{◌≡◌, ◌++◌, IfOk, string_bytes, OnO
 ghost use Rattle.inspector.specs.Account.{more, isRead, isSame, is_refused, isRefusedBy, isUnclear, nothing, counted, totalsText, firstRulesText, lastRulesText, summaryText};
 
 use crate::failure::Failure;
-use std::alloc::Global;
-use std::fmt;
+use std::alloc::{AllocError, Global};
 
 // What became of a line that is not skipped.
 #[derive(Clone, Copy)]
@@ -121,7 +120,7 @@ impl Account {
         }
     }
 
-    fn show_totals(&self, out: &mut String) -> fmt::Result
+    fn show_totals(&self, out: &mut String) -> Result<(), AllocError>
         ensures { OnOk result (string_bytes out.new ≡ string_bytes out.old ++ totalsText self.now) }
     {
         let lines = self.lines;
@@ -133,7 +132,7 @@ impl Account {
         )
     }
 
-    fn show_first_rules(&self, out: &mut String) -> fmt::Result
+    fn show_first_rules(&self, out: &mut String) -> Result<(), AllocError>
         ensures { OnOk result (string_bytes out.new ≡ string_bytes out.old ++ firstRulesText self.now) }
     {
         let refused = self.refused;
@@ -145,7 +144,7 @@ impl Account {
         )
     }
 
-    fn show_last_rules(&self, out: &mut String) -> fmt::Result
+    fn show_last_rules(&self, out: &mut String) -> Result<(), AllocError>
         ensures { OnOk result (string_bytes out.new ≡ string_bytes out.old ++ lastRulesText self.now) }
     {
         let third = self.rule_3;
@@ -154,7 +153,7 @@ impl Account {
         write!(out, "rule 3: {third}, rule 4: {fourth}, rule 5: {fifth}), ")
     }
 
-    fn show_all(&self, out: &mut String) -> fmt::Result
+    fn show_all(&self, out: &mut String) -> Result<(), AllocError>
         ensures { OnOk result (string_bytes out.new ≡ string_bytes out.old ++ summaryText self.now) }
     {
         self.show_totals(out)?;

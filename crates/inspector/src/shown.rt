@@ -6,11 +6,10 @@ ghost use Rattle.inspector.specs.Shown.{fieldsText, lineText};
 use crate::labels::{names, title};
 use crate::values::show_field;
 use layout::value::Value;
-use std::alloc::Global;
-use std::fmt;
+use std::alloc::{AllocError, Global};
 use wire::kinds::Kind;
 
-fn show_fields(out: &mut String, names: &[&str], values: &[Value<'_>]) -> fmt::Result
+fn show_fields(out: &mut String, names: &[&str], values: &[Value<'_>]) -> Result<(), AllocError>
     ensures { OnOk result (string_bytes out.new ≡ string_bytes out.old ++ fieldsText (spelt names.now) values.now) }
 {
     let mut i = 0;
@@ -21,7 +20,11 @@ fn show_fields(out: &mut String, names: &[&str], values: &[Value<'_>]) -> fmt::R
     Ok(())
 }
 
-pub(crate) fn show_line(out: &mut String, kind: Kind, values: &[Value<'_>]) -> fmt::Result
+pub(crate) fn show_line(
+    out: &mut String,
+    kind: Kind,
+    values: &[Value<'_>],
+) -> Result<(), AllocError>
     ensures { OnOk result (string_bytes out.new ≡ string_bytes out.old ++ lineText kind values.now) }
 {
     let title = title(kind);

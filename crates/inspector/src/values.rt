@@ -5,12 +5,12 @@ ghost use Rattle.std.specs.Option.{option_map};
 ghost use Rattle.inspector.specs.Shown.{hexGlyph, quoted, four, amount, priceText, alphaText, orderText, valueText, isReserved, fieldText};
 
 use layout::value::Value;
-use std::fmt;
+use std::alloc::AllocError;
 use texts::identifiers::OrderId;
 use texts::values::{Price, Time};
 
 // Each byte as the character of its number.
-fn show_bytes(out: &mut String, bytes: &[u8]) -> fmt::Result
+fn show_bytes(out: &mut String, bytes: &[u8]) -> Result<(), AllocError>
     ensures { OnOk result (string_bytes out.new ≡ string_bytes out.old ++ encodes bytes.now) }
 {
     for b in bytes {
@@ -20,7 +20,7 @@ fn show_bytes(out: &mut String, bytes: &[u8]) -> fmt::Result
     Ok(())
 }
 
-fn show_text(out: &mut String, text: &[u8]) -> fmt::Result
+fn show_text(out: &mut String, text: &[u8]) -> Result<(), AllocError>
     ensures { OnOk result (string_bytes out.new ≡ string_bytes out.old ++ quoted text.now) }
 {
     write!(out, "\"")?;
@@ -28,7 +28,7 @@ fn show_text(out: &mut String, text: &[u8]) -> fmt::Result
     write!(out, "\"")
 }
 
-fn show_order(out: &mut String, order: Option<OrderId>) -> fmt::Result
+fn show_order(out: &mut String, order: Option<OrderId>) -> Result<(), AllocError>
     ensures { OnOk result (string_bytes out.new ≡ string_bytes out.old ++ orderText (option_map (λ i. i.number) order)) }
 {
     match order {
@@ -40,7 +40,7 @@ fn show_order(out: &mut String, order: Option<OrderId>) -> fmt::Result
     }
 }
 
-fn show_four(out: &mut String, n: u64) -> fmt::Result
+fn show_four(out: &mut String, n: u64) -> Result<(), AllocError>
     ensures { OnOk result (string_bytes out.new ≡ string_bytes out.old ++ four n) }
 {
     let thousands = n / 1000 % 10;
@@ -51,7 +51,7 @@ fn show_four(out: &mut String, n: u64) -> fmt::Result
 }
 
 // A number of hundred-millionths, with its eight decimals.
-fn show_amount(out: &mut String, n: u64) -> fmt::Result
+fn show_amount(out: &mut String, n: u64) -> Result<(), AllocError>
     ensures { OnOk result (string_bytes out.new ≡ string_bytes out.old ++ amount n) }
 {
     let whole = n / 100_000_000;
@@ -60,7 +60,7 @@ fn show_amount(out: &mut String, n: u64) -> fmt::Result
     show_four(out, n % 10_000)
 }
 
-fn show_price(out: &mut String, price: Price) -> fmt::Result
+fn show_price(out: &mut String, price: Price) -> Result<(), AllocError>
     ensures { OnOk result (string_bytes out.new ≡ string_bytes out.old ++ priceText price.raw) }
 {
     let n = price.raw.unsigned_abs();
@@ -84,7 +84,7 @@ fn hex_digit(d: u8) -> char
     }
 }
 
-fn show_alpha(out: &mut String, byte: u8) -> fmt::Result
+fn show_alpha(out: &mut String, byte: u8) -> Result<(), AllocError>
     ensures { OnOk result (string_bytes out.new ≡ string_bytes out.old ++ alphaText byte) }
 {
     match byte {
@@ -102,20 +102,20 @@ fn show_alpha(out: &mut String, byte: u8) -> fmt::Result
 }
 
 // A time as the one number that its eight bytes write.
-fn show_time(out: &mut String, time: Time) -> fmt::Result
+fn show_time(out: &mut String, time: Time) -> Result<(), AllocError>
     ensures { OnOk result (string_bytes out.new ≡ string_bytes out.old ++ decimal (time.seconds + 4294967296 * time.microseconds)) }
 {
     let n = u64::from(time.seconds) + 4294967296 * u64::from(time.microseconds);
     write!(out, "{n}")
 }
 
-fn show_word(out: &mut String, word: &str) -> fmt::Result
+fn show_word(out: &mut String, word: &str) -> Result<(), AllocError>
     ensures { OnOk result (string_bytes out.new ≡ string_bytes out.old ++ word.now) }
 {
     write!(out, "{word}")
 }
 
-fn show_value(out: &mut String, value: &Value<'_>) -> fmt::Result
+fn show_value(out: &mut String, value: &Value<'_>) -> Result<(), AllocError>
     ensures { OnOk result (string_bytes out.new ≡ string_bytes out.old ++ valueText value.now) }
 {
     match *value {
@@ -143,7 +143,7 @@ fn is_reserved(value: &Value<'_>) -> bool
 }
 
 // A space, the field's name and its value; nothing where the field is reserved.
-pub(crate) fn show_field(out: &mut String, name: &str, value: &Value<'_>) -> fmt::Result
+pub(crate) fn show_field(out: &mut String, name: &str, value: &Value<'_>) -> Result<(), AllocError>
     ensures { OnOk result (string_bytes out.new ≡ string_bytes out.old ++ fieldText name.now value.now) }
 {
     if is_reserved(value) {

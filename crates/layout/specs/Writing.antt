@@ -1,5 +1,5 @@
 -- A message's bytes, from its table and what its fields hold. Assumes nothing.
-use Rattle.std.specs.Prelude.{◌≡◌, ℕ, ◌+◌, ◌-◌, ◌≤◌, Bool, true, cond, List, [], ◌∷◌, ◌++◌, length, take, drop, replicate, Some, None, Option, ◌==◌, nat_le}
+use Rattle.std.specs.Prelude.{◌≡◌, ℕ, ◌+◌, ◌-◌, Bool, true, cond, List, [], ◌∷◌, ◌++◌, length, take, drop, replicate, Some, None, Option, ◌==◌, nat_le}
 use Rattle.std.proofs.Common.{of_z}
 use Rattle.std.specs.Int.{w8, w32, w64}
 use Rattle.texts.specs.Bytes.{toLe, both, padded}
@@ -7,8 +7,7 @@ use Rattle.texts.specs.Identifiers.{orderId}
 use Rattle.layout.specs.declared.field.Form.{Form}
 use Rattle.layout.specs.declared.field.Form.TheVariants.{Text, Name, Order, Number, Sequence, Int8, Int32, Price, Time, Code, Reserved}
 use Rattle.layout.specs.declared.field.Field.{Field}
-use Rattle.layout.specs.declared.field.Field.TheVariants.{Always, When}
-use Rattle.layout.specs.Layout.{Content, place, width, form_of, wide, isWords, words_of, order_of, figureOf, int8Of, int32Of, priceOf, secondsOf, microsOf, absent}
+use Rattle.layout.specs.Layout.{Content, place, width, form_of, isWords, words_of, order_of, figureOf, int8Of, int32Of, priceOf, secondsOf, microsOf, absent}
 
 -- an order's identifier, or nulls
 abbrev pub orderBytes : Option ℕ → List ℕ

@@ -66,8 +66,8 @@ impl Field {
 
 // Refuses the first field that the bytes break.
 pub fn check(fields: &[Field], total: usize, r: &Reader<'_>) -> Result<(), Fault>
-    requires fields_value { within total fields.now ≡ true }
-    requires total_in_bounds { total ≤ length r.now.src.now }
+    requires table { within total fields.now ≡ true }
+    requires room { total ≤ length r.now.src.now }
     ensures { Checked fields.now r.now.src.now result }
 {
     for field in fields {

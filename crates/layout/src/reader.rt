@@ -162,9 +162,9 @@ impl<'a> Reader<'a> {
 
     // The value that a code stands for, where the code is one of its list.
     pub fn code<C: Code>(&self, at: usize) -> C
-        requires at_in_bounds { at + 1 ≤ length self.now.src.now }
-        requires codes_value { taken (le (part at 1 self.now.src.now)) codes ≡ true }
-        ensures { coded result ≡ le (part at 1 self.now.src.now) }
+        requires inside { at + 1 ≤ length self.now.src.now }
+        requires listed { taken (le (part at 1 self.now.src.now)) C.codes ≡ true }
+        ensures { C.coded result ≡ le (part at 1 self.now.src.now) }
     {
         match C::of(self.u8(at)) {
             Some(x) => x,

@@ -28,8 +28,8 @@ fn put_blank(out: &mut [u8], at: usize, width: usize)
 }
 
 fn put_text(out: &mut [u8], at: usize, width: usize, text: &[u8])
-    requires width_in_bounds { at + width ≤ length out.old }
-    requires text_len_bound { length text.now ≤ width }
+    requires room { at + width ≤ length out.old }
+    requires short { length text.now ≤ width }
     ensures { out.new ≡ over out.old at (padded width text.now) }
 {
     let n = text.len();
@@ -63,8 +63,8 @@ fn put_order(out: &mut [u8], at: usize, order: Option<OrderId>)
 }
 
 fn put_form(out: &mut [u8], at: usize, form: Form, value: &Value<'_>)
-    requires form_in_bounds { at + wide form ≤ length out.old }
-    requires value_value { fits (Field.Always at form) (meant value.now) ≡ true }
+    requires room { at + wide form ≤ length out.old }
+    requires fitting { fits (Field.Always at form) (meant value.now) ≡ true }
     ensures { out.new ≡ over out.old at (bytes_of form (meant value.now)) }
 {
     match form {
@@ -87,8 +87,8 @@ fn put_form(out: &mut [u8], at: usize, form: Form, value: &Value<'_>)
 
 // A field that holds nothing is written null.
 fn put_field(out: &mut [u8], field: Field, value: &Value<'_>)
-    requires field_in_bounds { place field + width field ≤ length out.old }
-    requires value_value { fits field (meant value.now) ≡ true }
+    requires room { place field + width field ≤ length out.old }
+    requires fitting { fits field (meant value.now) ≡ true }
     ensures { out.new ≡ over out.old (place field) (fieldBytes field (meant value.now)) }
 {
     let at = field.at();
@@ -102,8 +102,8 @@ fn put_field(out: &mut [u8], field: Field, value: &Value<'_>)
 
 // The start byte, the length from the type on, and the type.
 pub fn put_header(out: &mut [u8], letter: u8, total: u16)
-    requires in_bounds { 4 ≤ length out.old }
-    requires le_total { 3 ≤ total }
+    requires room { 4 ≤ length out.old }
+    requires headed { 3 ≤ total }
     ensures { out.new ≡ over out.old 0 (header letter total) }
 {
     let len = (total - 3).to_le_bytes();

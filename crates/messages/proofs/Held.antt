@@ -1,5 +1,5 @@
 -- What a message of its own can hold, its fields can. Assumes nothing.
-use Rattle.std.proofs.Common.{ℕ, refl, SFits}
+use Rattle.std.proofs.Common.{refl}
 use Rattle.texts.specs.declared.fixed.FixedText.{FixedText}
 use Rattle.texts.specs.declared.fixed.RequestId.{RequestId}
 use Rattle.texts.proofs.Padding.{printable-said}
@@ -17,7 +17,6 @@ use Rattle.messages.specs.declared.session.Reject.{Reject}
 use Rattle.messages.specs.declared.requests.NewOrder.{NewOrder}
 use Rattle.messages.specs.declared.requests.OrderCancelRequest.{OrderCancelRequest}
 use Rattle.messages.specs.declared.requests.OrderCancelReplaceRequest.{OrderCancelReplaceRequest}
-use Rattle.messages.specs.declared.requests.OrderMassCancelRequest.{OrderMassCancelRequest}
 use Rattle.messages.specs.declared.reports.ExecutionReport.{ExecutionReport}
 use Rattle.messages.specs.declared.reports.OrderCancelReject.{OrderCancelReject}
 use Rattle.messages.specs.declared.reports.OrderMassCancelReport.{OrderMassCancelReport}

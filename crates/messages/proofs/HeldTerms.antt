@@ -1,9 +1,8 @@
 -- What the fields that hang together hold. Assumes nothing.
-use Rattle.std.proofs.Common.{◌≡◌, ℕ, true, List, [], ◌∷◌, refl}
+use Rattle.std.proofs.Common.{◌≡◌, true, refl}
 use Rattle.codes.specs.declared.lists.Codes.TheVariants as list
 use Rattle.codes.specs.Lists.{listed}
 use Rattle.texts.specs.declared.fixed.FixedText.{FixedText}
-use Rattle.texts.specs.Bytes.{said}
 use Rattle.texts.proofs.Padding.{printable-said}
 use Rattle.texts.proofs.Kept.{said-short}
 use Rattle.layout.specs.declared.field.Form.TheVariants as form

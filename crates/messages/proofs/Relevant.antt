@@ -1,5 +1,5 @@
 -- A field that matters only where another one says so. Assumes nothing.
-use Rattle.std.proofs.Common.{◌≡◌, ℕ, true, false, cond, List, sym, refl, ap, ◌∙◌}
+use Rattle.std.proofs.Common.{◌≡◌, ℕ, true, false, List, sym, ap, ◌∙◌}
 use Rattle.codes.specs.declared.lists.Codes.{Codes}
 use Rattle.codes.specs.Lists.{listed}
 use Rattle.texts.specs.Bytes.{le}

@@ -1,5 +1,5 @@
 -- Where the texts of a mass cancel stand. Assumes nothing.
-use Rattle.std.proofs.Common.{◌≡◌, ℕ, true, false, cond, List, [], ◌∷◌, sym, refl, ap, ◌∙◌}
+use Rattle.std.proofs.Common.{◌≡◌, ℕ, true, false, List, [], ◌∷◌, sym, refl, ap, ◌∙◌}
 use Rattle.codes.specs.declared.lists.Codes.TheVariants.{ByInstrument, BySegment}
 use Rattle.codes.specs.Lists.{listed}
 use Rattle.texts.specs.Bytes.{le}

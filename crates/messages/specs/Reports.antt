@@ -1,7 +1,6 @@
 -- What a venue reports: the order messages that the server sends. Each message as its table of fields, what it says, and what its fields hold. Assumes nothing.
 use Rattle.std.specs.Prelude.{ℕ, ◌<◌, List, [], ◌∷◌, FitsSigned}
-use Rattle.std.specs.Int.{w8, w32, w64}
-use Rattle.layout.specs.Holding.{Below}
+use Rattle.std.specs.Int.{w32, w64}
 use Rattle.codes.specs.declared.lists.Codes.TheVariants as c
 use Rattle.codes.specs.Order.{bookCode, sideCode}
 use Rattle.codes.specs.Report.{capacityCode, massResponseCode, priceDifferentialCode, statusCode}
@@ -16,7 +15,7 @@ use Rattle.messages.specs.declared.reports.ExecutionReport.{ExecutionReport}
 use Rattle.messages.specs.declared.reports.OrderCancelReject.{OrderCancelReject}
 use Rattle.messages.specs.declared.reports.OrderMassCancelReport.{OrderMassCancelReport}
 use Rattle.layout.specs.Layout.{Content}
-use Rattle.layout.specs.Layout.Content.{words, order, figure, int8, int32, price, clock, nothing}
+use Rattle.layout.specs.Layout.Content.{words, figure, int32, price, clock, nothing}
 use Rattle.messages.specs.Terms.{executionTyped, executionCode, executionReject, executionLiquidity, executionTrade}
 
 -- what became of an order

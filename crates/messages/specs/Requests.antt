@@ -1,6 +1,6 @@
 -- What a desk asks for: the order messages that a client sends. Each message as its table of fields, what it says, and what its fields hold. Assumes nothing.
 use Rattle.std.specs.Prelude.{ℕ, ◌<◌, List, [], ◌∷◌, FitsSigned}
-use Rattle.std.specs.Int.{w8, w32, w64}
+use Rattle.std.specs.Int.{w32, w64}
 use Rattle.layout.specs.Holding.{Below}
 use Rattle.std.specs.Option.{option_map}
 use Rattle.codes.specs.declared.lists.Codes.TheVariants as c
@@ -19,7 +19,7 @@ use Rattle.messages.specs.declared.requests.OrderMassCancelRequest.{OrderMassCan
 use Rattle.messages.specs.declared.requests.OwnedMassCancelRequest.{OwnedMassCancelRequest}
 use Rattle.messages.specs.declared.terms.Scope.{Scope}
 use Rattle.layout.specs.Layout.{Content}
-use Rattle.layout.specs.Layout.Content.{words, order, figure, int8, int32, price, clock, nothing}
+use Rattle.layout.specs.Layout.Content.{words, order, figure, int32, price, nothing}
 use Rattle.messages.specs.Terms.{pricingCode, pricingPrice, pricingTyped, targetCode, targetInstruction, scopeHeard, scopeKept, scopeCode, scopeSymbol, scopeSegment, scopeBook, scopePlaces}
 
 -- a new order

@@ -1,7 +1,6 @@
 -- The messages of a session: logging on and off, downloads and rejects. Each message as its table of fields, what it says, and what its fields hold. Assumes nothing.
 use Rattle.std.specs.Prelude.{ℕ, ◌<◌, List, [], ◌∷◌, FitsSigned}
-use Rattle.std.specs.Int.{w8, w32, w64}
-use Rattle.layout.specs.Holding.{Below}
+use Rattle.std.specs.Int.{w8, w32}
 use Rattle.codes.specs.declared.lists.Codes.TheVariants as c
 use Rattle.codes.specs.Session.{ackResponseCode, reportResponseCode, versionCode}
 use Rattle.texts.specs.Bytes.{said}
@@ -10,7 +9,7 @@ use Rattle.texts.specs.declared.fixed.FixedText.{FixedText}
 use Rattle.layout.specs.declared.sequence.LastSequence.{LastSequence}
 use Rattle.layout.specs.declared.field.Form.TheVariants as f
 use Rattle.layout.specs.declared.field.Field.{Field}
-use Rattle.layout.specs.declared.field.Field.TheVariants.{Always, When}
+use Rattle.layout.specs.declared.field.Field.TheVariants.{Always}
 use Rattle.messages.specs.declared.session.Logon.{Logon}
 use Rattle.messages.specs.declared.session.LogonReply.{LogonReply}
 use Rattle.messages.specs.declared.session.Logout.{Logout}
@@ -19,7 +18,7 @@ use Rattle.messages.specs.declared.session.MissedMessageRequestAck.{MissedMessag
 use Rattle.messages.specs.declared.session.MissedMessageReport.{MissedMessageReport}
 use Rattle.messages.specs.declared.session.Reject.{Reject}
 use Rattle.layout.specs.Layout.{Content}
-use Rattle.layout.specs.Layout.Content.{words, order, figure, int8, int32, price, clock, nothing}
+use Rattle.layout.specs.Layout.Content.{words, figure, int8, int32}
 
 -- a logon
 abbrev pub logon : List Field

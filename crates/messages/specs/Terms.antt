@@ -1,5 +1,5 @@
 -- Parts of a message whose fields hang together: what each of the fields holds. Assumes nothing.
-use Rattle.std.specs.Prelude.{ℕ, cond, List, [], ◌∷◌, FitsSigned}
+use Rattle.std.specs.Prelude.{ℕ, List, [], ◌∷◌, FitsSigned}
 use Rattle.std.specs.Int.{w32, w64}
 use Rattle.codes.specs.declared.lists.Codes.TheVariants as list
 use Rattle.codes.specs.Order.{bookCode, execInstructionCode}
@@ -17,7 +17,7 @@ use Rattle.messages.specs.declared.terms.Scope.{Scope}
 use Rattle.messages.specs.declared.terms.Scope.TheVariants as scope
 use Rattle.messages.specs.declared.terms.Execution.{Execution}
 use Rattle.messages.specs.declared.terms.Execution.TheVariants as execution
-use Rattle.layout.specs.Layout.{Content, matters, textPlaces}
+use Rattle.layout.specs.Layout.{Content, textPlaces}
 use Rattle.layout.specs.Layout.Content.{words, figure, int32, price, nothing}
 
 -- Order Type, and LimitPrice

@@ -20,6 +20,7 @@ use texts::names::{ClientOrderId, Counterparty, Identifier, Symbol};
 use texts::values::{Price, Text, Time};
 
 // What became of an order.
+#[derive(Clone, Copy)]
 pub struct ExecutionReport<I, C, S, F> {
     pub partition: Partition,
     pub sequence: i32,
@@ -44,14 +45,11 @@ pub struct ExecutionReport<I, C, S, F> {
     pub price_differential: PriceDifferential,
 }
 
-impl<I: Copy, C: Copy, S: Copy, F: Copy> Copy for ExecutionReport<I, C, S, F> {}
-
 // An ExecutionReport as it was read.
+#[derive(Clone, Copy)]
 pub struct ReadExecutionReport<'a> {
     pub fields: ExecutionReport<Text<'a>, Text<'a>, Text<'a>, Text<'a>>,
 }
-
-impl Copy for ReadExecutionReport<'_> {}
 
 const EXECUTION_REPORT: [Field; 26] = [
     Field::Always(4, Form::Code(Codes::Partitions)),
@@ -91,7 +89,7 @@ pub fn read_execution_report<'a>(
     r: &Reader<'a>,
 ) -> Result<ExecutionReport<Text<'a>, Text<'a>, Text<'a>, Text<'a>>, Fault>
     requires { length r.now.src.now ≡ 145 }
-    ensures* { λ m. ⌜ Body executionReport (λ m. executionReportContents (executionReportHeard m)) executionReportPlaces r.now.src.now m ⌝ }
+    ensures { Body executionReport (λ m. executionReportContents (executionReportHeard m)) executionReportPlaces r.now.src.now result }
 {
     check(&EXECUTION_REPORT, 145, r)?;
     Ok(ExecutionReport {
@@ -156,6 +154,7 @@ pub fn execution_report_values(
 }
 
 // A cancel or a replacement that was refused.
+#[derive(Clone, Copy)]
 pub struct OrderCancelReject<C, I> {
     pub partition: Partition,
     pub sequence: i32,
@@ -165,14 +164,11 @@ pub struct OrderCancelReject<C, I> {
     pub transact_time: Time,
 }
 
-impl<C: Copy, I: Copy> Copy for OrderCancelReject<C, I> {}
-
 // An OrderCancelReject as it was read.
+#[derive(Clone, Copy)]
 pub struct ReadOrderCancelReject<'a> {
     pub fields: OrderCancelReject<Text<'a>, Text<'a>>,
 }
-
-impl Copy for ReadOrderCancelReject<'_> {}
 
 const ORDER_CANCEL_REJECT: [Field; 7] = [
     Field::Always(4, Form::Code(Codes::Partitions)),
@@ -188,7 +184,7 @@ pub fn read_order_cancel_reject<'a>(
     r: &Reader<'a>,
 ) -> Result<OrderCancelReject<Text<'a>, Text<'a>>, Fault>
     requires { length r.now.src.now ≡ 63 }
-    ensures* { λ m. ⌜ Body orderCancelReject (λ m. orderCancelRejectContents (orderCancelRejectHeard m)) orderCancelRejectPlaces r.now.src.now m ⌝ }
+    ensures { Body orderCancelReject (λ m. orderCancelRejectContents (orderCancelRejectHeard m)) orderCancelRejectPlaces r.now.src.now result }
 {
     check(&ORDER_CANCEL_REJECT, 63, r)?;
     Ok(OrderCancelReject {
@@ -219,6 +215,7 @@ pub fn order_cancel_reject_values(
 }
 
 // Whether a mass cancel was accepted.
+#[derive(Clone, Copy)]
 pub struct OrderMassCancelReport<C> {
     pub partition: Partition,
     pub sequence: i32,
@@ -227,8 +224,6 @@ pub struct OrderMassCancelReport<C> {
     pub reason: i32,
     pub transact_time: Time,
 }
-
-impl<C: Copy> Copy for OrderMassCancelReport<C> {}
 
 const ORDER_MASS_CANCEL_REPORT: [Field; 8] = [
     Field::Always(4, Form::Code(Codes::Partitions)),
@@ -245,7 +240,7 @@ pub fn read_order_mass_cancel_report<'a>(
     r: &Reader<'a>,
 ) -> Result<OrderMassCancelReport<Text<'a>>, Fault>
     requires { length r.now.src.now ≡ 56 }
-    ensures* { λ m. ⌜ Body orderMassCancelReport (λ m. orderMassCancelReportContents (orderMassCancelReportHeard m)) orderMassCancelReportPlaces r.now.src.now m ⌝ }
+    ensures { Body orderMassCancelReport (λ m. orderMassCancelReportContents (orderMassCancelReportHeard m)) orderMassCancelReportPlaces r.now.src.now result }
 {
     check(&ORDER_MASS_CANCEL_REPORT, 56, r)?;
     Ok(OrderMassCancelReport {

@@ -22,6 +22,7 @@ use texts::names::{Account, ClientOrderId, Segment, Symbol, TraderId};
 use texts::values::{Price, Text};
 
 // A new order.
+#[derive(Clone, Copy)]
 pub struct NewOrder<C, T, A, S> {
     pub client_order_id: C,
     pub trader_id: T,
@@ -42,14 +43,11 @@ pub struct NewOrder<C, T, A, S> {
     pub passive_only: PassiveOnly,
 }
 
-impl<C: Copy, T: Copy, A: Copy, S: Copy> Copy for NewOrder<C, T, A, S> {}
-
 // A NewOrder as it was read.
+#[derive(Clone, Copy)]
 pub struct ReadNewOrder<'a> {
     pub fields: NewOrder<Text<'a>, Text<'a>, Text<'a>, Text<'a>>,
 }
-
-impl Copy for ReadNewOrder<'_> {}
 
 const NEW_ORDER: [Field; 21] = [
     Field::Always(4, Form::Name(20)),
@@ -79,7 +77,7 @@ pub fn read_new_order<'a>(
     r: &Reader<'a>,
 ) -> Result<NewOrder<Text<'a>, Text<'a>, Text<'a>, Text<'a>>, Fault>
     requires { length r.now.src.now ≡ 97 }
-    ensures* { λ m. ⌜ Body newOrder (λ m. newOrderContents (newOrderHeard m)) newOrderPlaces r.now.src.now m ⌝ }
+    ensures { Body newOrder (λ m. newOrderContents (newOrderHeard m)) newOrderPlaces r.now.src.now result }
 {
     check(&NEW_ORDER, 97, r)?;
     Ok(NewOrder {
@@ -133,6 +131,7 @@ pub fn new_order_values(m: &NewOrder<RequestId, TraderId, Account, Symbol>) -> [
 }
 
 // Cancels an order, named by its Order ID or its current Client Order ID.
+#[derive(Clone, Copy)]
 pub struct OrderCancelRequest<C, O, S> {
     pub client_order_id: C,
     pub original_id: O,
@@ -142,14 +141,11 @@ pub struct OrderCancelRequest<C, O, S> {
     pub book: Book,
 }
 
-impl<C: Copy, O: Copy, S: Copy> Copy for OrderCancelRequest<C, O, S> {}
-
 // An OrderCancelRequest as it was read.
+#[derive(Clone, Copy)]
 pub struct ReadOrderCancelRequest<'a> {
     pub fields: OrderCancelRequest<Text<'a>, Text<'a>, Text<'a>>,
 }
-
-impl Copy for ReadOrderCancelRequest<'_> {}
 
 const ORDER_CANCEL_REQUEST: [Field; 7] = [
     Field::Always(4, Form::Name(20)),
@@ -165,7 +161,7 @@ pub fn read_order_cancel_request<'a>(
     r: &Reader<'a>,
 ) -> Result<OrderCancelRequest<Text<'a>, Text<'a>, Text<'a>>, Fault>
     requires { length r.now.src.now ≡ 73 }
-    ensures* { λ m. ⌜ Body orderCancelRequest (λ m. orderCancelRequestContents (orderCancelRequestHeard m)) orderCancelRequestPlaces r.now.src.now m ⌝ }
+    ensures { Body orderCancelRequest (λ m. orderCancelRequestContents (orderCancelRequestHeard m)) orderCancelRequestPlaces r.now.src.now result }
 {
     check(&ORDER_CANCEL_REQUEST, 73, r)?;
     Ok(OrderCancelRequest {
@@ -196,6 +192,7 @@ pub fn order_cancel_request_values(
 }
 
 // Changes an order's quantity and price.
+#[derive(Clone, Copy)]
 pub struct OrderCancelReplaceRequest<C, O, S, A> {
     pub client_order_id: C,
     pub original_id: O,
@@ -213,14 +210,11 @@ pub struct OrderCancelReplaceRequest<C, O, S, A> {
     pub passive_only: PassiveOnly,
 }
 
-impl<C: Copy, O: Copy, S: Copy, A: Copy> Copy for OrderCancelReplaceRequest<C, O, S, A> {}
-
 // An OrderCancelReplaceRequest as it was read.
+#[derive(Clone, Copy)]
 pub struct ReadOrderCancelReplaceRequest<'a> {
     pub fields: OrderCancelReplaceRequest<Text<'a>, Text<'a>, Text<'a>, Text<'a>>,
 }
-
-impl Copy for ReadOrderCancelReplaceRequest<'_> {}
 
 const ORDER_CANCEL_REPLACE_REQUEST: [Field; 17] = [
     Field::Always(4, Form::Name(20)),
@@ -251,7 +245,7 @@ pub fn read_order_cancel_replace_request<'a>(
     r: &Reader<'a>,
 ) -> Result<OrderCancelReplaceRequest<Text<'a>, Text<'a>, Text<'a>, Text<'a>>, Fault>
     requires { length r.now.src.now ≡ 112 }
-    ensures* { λ m. ⌜ Body orderCancelReplaceRequest (λ m. orderCancelReplaceRequestContents (orderCancelReplaceRequestHeard m)) orderCancelReplaceRequestPlaces r.now.src.now m ⌝ }
+    ensures { Body orderCancelReplaceRequest (λ m. orderCancelReplaceRequestContents (orderCancelReplaceRequestHeard m)) orderCancelReplaceRequestPlaces r.now.src.now result }
 {
     check(&ORDER_CANCEL_REPLACE_REQUEST, 112, r)?;
     Ok(OrderCancelReplaceRequest {
@@ -300,20 +294,18 @@ pub fn order_cancel_replace_request_values(
 }
 
 // Cancels all orders of a firm or a CompID, or those of an instrument or a segment.
+#[derive(Clone, Copy)]
 pub struct OrderMassCancelRequest<'a> {
     pub client_order_id: Text<'a>,
     pub scope: Scope<Text<'a>, Text<'a>>,
 }
 
-impl Copy for OrderMassCancelRequest<'_> {}
-
 // The same, owned: a struct of its own, since its scope holds text.
+#[derive(Clone, Copy)]
 pub struct OwnedMassCancelRequest {
     pub client_order_id: RequestId,
     pub scope: Scope<Symbol, Segment>,
 }
-
-impl Copy for OwnedMassCancelRequest {}
 
 const ORDER_MASS_CANCEL_REQUEST: [Field; 7] = [
     Field::Always(4, Form::Name(20)),
@@ -329,7 +321,7 @@ pub fn read_order_mass_cancel_request<'a>(
     r: &Reader<'a>,
 ) -> Result<OrderMassCancelRequest<'a>, Fault>
     requires { length r.now.src.now ≡ 46 }
-    ensures* { λ m. ⌜ Body orderMassCancelRequest (λ m. orderMassCancelRequestContents (orderMassCancelRequestHeard m)) orderMassCancelRequestPlaces r.now.src.now m ⌝ }
+    ensures { Body orderMassCancelRequest (λ m. orderMassCancelRequestContents (orderMassCancelRequestHeard m)) orderMassCancelRequestPlaces r.now.src.now result }
 {
     check(&ORDER_MASS_CANCEL_REQUEST, 46, r)?;
     Ok(OrderMassCancelRequest {

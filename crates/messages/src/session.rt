@@ -18,14 +18,13 @@ use texts::names::{ClientOrderId, CompId, LogoutReason, Reason};
 use texts::values::Text;
 
 // A Logon.
+#[derive(Clone, Copy)]
 pub struct Logon<T> {
     pub comp_id: T,
     pub password: T,
     pub new_password: T,
     pub version: Version,
 }
-
-impl<T: Copy> Copy for Logon<T> {}
 
 const LOGON: [Field; 4] = [
     Field::Always(4, Form::Text(25)),
@@ -36,7 +35,7 @@ const LOGON: [Field; 4] = [
 
 pub fn read_logon<'a>(r: &Reader<'a>) -> Result<Logon<Text<'a>>, Fault>
     requires { length r.now.src.now ≡ 80 }
-    ensures* { λ m. ⌜ Body logon (λ m. logonContents (logonHeard m)) logonPlaces r.now.src.now m ⌝ }
+    ensures { Body logon (λ m. logonContents (logonHeard m)) logonPlaces r.now.src.now result }
 {
     check(&LOGON, 80, r)?;
     Ok(Logon {
@@ -59,12 +58,11 @@ pub fn logon_values(m: &Logon<CompId>) -> [Value<'_>; 4]
 }
 
 // The answer to a Logon: 0, or why it was refused.
+#[derive(Clone, Copy)]
 pub struct LogonReply<T> {
     pub reject_code: i32,
     pub expiry_days: T,
 }
-
-impl<T: Copy> Copy for LogonReply<T> {}
 
 const LOGON_REPLY: [Field; 2] = [
     Field::Always(4, Form::Int32),
@@ -73,7 +71,7 @@ const LOGON_REPLY: [Field; 2] = [
 
 pub fn read_logon_reply<'a>(r: &Reader<'a>) -> Result<LogonReply<Text<'a>>, Fault>
     requires { length r.now.src.now ≡ 38 }
-    ensures* { λ m. ⌜ Body logonReply (λ m. logonReplyContents (logonReplyHeard m)) logonReplyPlaces r.now.src.now m ⌝ }
+    ensures { Body logonReply (λ m. logonReplyContents (logonReplyHeard m)) logonReplyPlaces r.now.src.now result }
 {
     check(&LOGON_REPLY, 38, r)?;
     Ok(LogonReply {
@@ -93,17 +91,16 @@ pub fn logon_reply_values(m: &LogonReply<Reason>) -> [Value<'_>; 2]
 }
 
 // A Logout.
+#[derive(Clone, Copy)]
 pub struct Logout<T> {
     pub reason: T,
 }
-
-impl<T: Copy> Copy for Logout<T> {}
 
 const LOGOUT: [Field; 1] = [Field::Always(4, Form::Text(20))];
 
 pub fn read_logout<'a>(r: &Reader<'a>) -> Result<Logout<Text<'a>>, Fault>
     requires { length r.now.src.now ≡ 24 }
-    ensures* { λ m. ⌜ Body logout (λ m. logoutContents (logoutHeard m)) logoutPlaces r.now.src.now m ⌝ }
+    ensures { Body logout (λ m. logoutContents (logoutHeard m)) logoutPlaces r.now.src.now result }
 {
     check(&LOGOUT, 24, r)?;
     Ok(Logout {
@@ -118,12 +115,11 @@ pub fn logout_values(m: &Logout<LogoutReason>) -> [Value<'_>; 1]
 }
 
 // Asks for a download of the reports behind the last one seen. Any partition may be named.
+#[derive(Clone, Copy)]
 pub struct MissedMessageRequest<N> {
     pub partition: i8,
     pub last: N,
 }
-
-impl<N: Copy> Copy for MissedMessageRequest<N> {}
 
 const MISSED_MESSAGE_REQUEST: [Field; 2] = [
     Field::Always(4, Form::Int8),
@@ -132,7 +128,7 @@ const MISSED_MESSAGE_REQUEST: [Field; 2] = [
 
 pub fn read_missed_message_request(r: &Reader<'_>) -> Result<MissedMessageRequest<u32>, Fault>
     requires { length r.now.src.now ≡ 9 }
-    ensures* { λ m. ⌜ Body missedMessageRequest (λ m. missedMessageRequestContents (missedMessageRequestHeard m)) missedMessageRequestPlaces r.now.src.now m ⌝ }
+    ensures { Body missedMessageRequest (λ m. missedMessageRequestContents (missedMessageRequestHeard m)) missedMessageRequestPlaces r.now.src.now result }
 {
     check(&MISSED_MESSAGE_REQUEST, 9, r)?;
     Ok(MissedMessageRequest {
@@ -161,7 +157,7 @@ const MISSED_MESSAGE_REQUEST_ACK: [Field; 1] = [Field::Always(4, Form::Code(Code
 
 pub fn read_missed_message_request_ack(r: &Reader<'_>) -> Result<MissedMessageRequestAck, Fault>
     requires { length r.now.src.now ≡ 5 }
-    ensures* { λ m. ⌜ Body missedMessageRequestAck (λ m. missedMessageRequestAckContents (missedMessageRequestAckHeard m)) missedMessageRequestAckPlaces r.now.src.now m ⌝ }
+    ensures { Body missedMessageRequestAck (λ m. missedMessageRequestAckContents (missedMessageRequestAckHeard m)) missedMessageRequestAckPlaces r.now.src.now result }
 {
     check(&MISSED_MESSAGE_REQUEST_ACK, 5, r)?;
     Ok(MissedMessageRequestAck {
@@ -185,7 +181,7 @@ const MISSED_MESSAGE_REPORT: [Field; 1] = [Field::Always(4, Form::Code(Codes::Re
 
 pub fn read_missed_message_report(r: &Reader<'_>) -> Result<MissedMessageReport, Fault>
     requires { length r.now.src.now ≡ 5 }
-    ensures* { λ m. ⌜ Body missedMessageReport (λ m. missedMessageReportContents (missedMessageReportHeard m)) missedMessageReportPlaces r.now.src.now m ⌝ }
+    ensures { Body missedMessageReport (λ m. missedMessageReportContents (missedMessageReportHeard m)) missedMessageReportPlaces r.now.src.now result }
 {
     check(&MISSED_MESSAGE_REPORT, 5, r)?;
     Ok(MissedMessageReport {
@@ -200,6 +196,7 @@ pub fn missed_message_report_values(m: &MissedMessageReport) -> [Value<'_>; 1]
 }
 
 // A message that was not taken, by its type and its Client Order ID where they are known.
+#[derive(Clone, Copy)]
 pub struct Reject<R, C> {
     pub code: i32,
     pub reason: R,
@@ -207,14 +204,11 @@ pub struct Reject<R, C> {
     pub client_order_id: C,
 }
 
-impl<R: Copy, C: Copy> Copy for Reject<R, C> {}
-
 // A Reject as it was read.
+#[derive(Clone, Copy)]
 pub struct ReadReject<'a> {
     pub fields: Reject<Text<'a>, Text<'a>>,
 }
-
-impl Copy for ReadReject<'_> {}
 
 const REJECT: [Field; 4] = [
     Field::Always(4, Form::Int32),
@@ -225,7 +219,7 @@ const REJECT: [Field; 4] = [
 
 pub fn read_reject<'a>(r: &Reader<'a>) -> Result<Reject<Text<'a>, Text<'a>>, Fault>
     requires { length r.now.src.now ≡ 59 }
-    ensures* { λ m. ⌜ Body reject (λ m. rejectContents (rejectHeard m)) rejectPlaces r.now.src.now m ⌝ }
+    ensures { Body reject (λ m. rejectContents (rejectHeard m)) rejectPlaces r.now.src.now result }
 {
     check(&REJECT, 59, r)?;
     Ok(Reject {

@@ -31,6 +31,7 @@ pub enum Target {
 }
 
 // Whose orders a mass cancel takes, and of what: S is a symbol, G a segment.
+#[derive(Clone, Copy)]
 pub enum Scope<S, G> {
     FirmInstrument(S, Book),
     FirmSegment(G),
@@ -39,8 +40,6 @@ pub enum Scope<S, G> {
     CompIdInstrument(S, Book),
     CompIdSegment(G),
 }
-
-impl<S: Copy, G: Copy> Copy for Scope<S, G> {}
 
 // Why an Execution Report is sent, with what only such a report tells.
 #[derive(Clone, Copy, Debug, PartialEq)]
@@ -79,8 +78,8 @@ impl Pricing {
 }
 
 pub(crate) fn read_pricing(r: &Reader<'_>) -> Pricing
-    requires in_bounds { 75 ≤ length r.now.src.now }
-    requires order_types_value { ok r.now.src.now (field.Always 52 (form.Code list.OrderTypes)) ≡ true }
+    requires room { 75 ≤ length r.now.src.now }
+    requires type_taken { ok r.now.src.now (field.Always 52 (form.Code list.OrderTypes)) ≡ true }
     ensures code { figure (pricingCode result) ≡ got r.now.src.now (field.Always 52 (form.Code list.OrderTypes)) }
     ensures price { pricingPrice result ≡ got r.now.src.now (field.When 67 form.Price 52 list.LimitOnly) }
 {
@@ -113,9 +112,9 @@ impl Target {
 
 // The book at a place, and the instruction right behind it.
 pub(crate) fn read_target(r: &Reader<'_>, at: usize) -> Target
-    requires at_in_bounds { at + 2 ≤ length r.now.src.now }
-    requires books_value { ok r.now.src.now (field.Always at (form.Code list.Books)) ≡ true }
-    requires dark_only_value { ok r.now.src.now (field.When (at + 1) (form.Code list.ExecInstructions) at list.DarkOnly) ≡ true }
+    requires room { at + 2 ≤ length r.now.src.now }
+    requires book_taken { ok r.now.src.now (field.Always at (form.Code list.Books)) ≡ true }
+    requires instruction_taken { ok r.now.src.now (field.When (at + 1) (form.Code list.ExecInstructions) at list.DarkOnly) ≡ true }
     ensures code { figure (targetCode result) ≡ got r.now.src.now (field.Always at (form.Code list.Books)) }
     ensures instruction { targetInstruction result ≡ got r.now.src.now (field.When (at + 1) (form.Code list.ExecInstructions) at list.DarkOnly) }
 {
@@ -175,9 +174,9 @@ impl Scope<Symbol, Segment> {
 }
 
 pub(crate) fn read_scope<'a>(r: &Reader<'a>) -> Scope<Text<'a>, Text<'a>>
-    requires in_bounds { 46 ≤ length r.now.src.now }
-    requires mass_cancel_types_value { ok r.now.src.now (field.Always 24 (form.Code list.MassCancelTypes)) ≡ true }
-    requires by_instrument_value { ok r.now.src.now (field.When 36 (form.Code list.Books) 24 list.ByInstrument) ≡ true }
+    requires room { 46 ≤ length r.now.src.now }
+    requires kind_taken { ok r.now.src.now (field.Always 24 (form.Code list.MassCancelTypes)) ≡ true }
+    requires book_taken { ok r.now.src.now (field.When 36 (form.Code list.Books) 24 list.ByInstrument) ≡ true }
     ensures code { figure (scopeCode (scopeHeard result)) ≡ got r.now.src.now (field.Always 24 (form.Code list.MassCancelTypes)) }
     ensures symbol { scopeSymbol (scopeHeard result) ≡ got r.now.src.now (field.When 25 (form.Text 6) 24 list.ByInstrument) }
     ensures segment { scopeSegment (scopeHeard result) ≡ got r.now.src.now (field.When 31 (form.Text 4) 24 list.BySegment) }
@@ -244,10 +243,10 @@ impl Execution {
 }
 
 pub(crate) fn read_execution(r: &Reader<'_>) -> Execution
-    requires in_bounds { 145 ≤ length r.now.src.now }
-    requires exec_types_value { ok r.now.src.now (field.Always 53 (form.Code list.ExecTypes)) ≡ true }
-    requires trade_or_cancel_value { ok r.now.src.now (field.When 118 (form.Code list.Liquidities) 53 list.TradeOrCancel) ≡ true }
-    requires trade_only_value { ok r.now.src.now (field.When 136 (form.Code list.TradeTypes) 53 list.TradeOnly) ≡ true }
+    requires room { 145 ≤ length r.now.src.now }
+    requires type_taken { ok r.now.src.now (field.Always 53 (form.Code list.ExecTypes)) ≡ true }
+    requires liquidity_taken { ok r.now.src.now (field.When 118 (form.Code list.Liquidities) 53 list.TradeOrCancel) ≡ true }
+    requires trade_taken { ok r.now.src.now (field.When 136 (form.Code list.TradeTypes) 53 list.TradeOnly) ≡ true }
     ensures code { figure (executionCode result) ≡ got r.now.src.now (field.Always 53 (form.Code list.ExecTypes)) }
     ensures reject { executionReject result ≡ got r.now.src.now (field.When 67 form.Int32 53 list.RejectedOnly) }
     ensures liquidity { executionLiquidity result ≡ got r.now.src.now (field.When 118 (form.Code list.Liquidities) 53 list.TradeOrCancel) }

@@ -1,18 +1,17 @@
 -- Writing undoes reading, but for reserved and irrelevant fields. Assumes nothing.
-use Rattle.std.proofs.Common.{◌≡◌, ℕ, zero, suc, ◌+◌, ◌-◌, ◌*◌, ◌/◌, ◌%◌, ◌^◌, ◌<◌, ◌≤◌, Bool, true, false, cond, eqb, ltb, leb, List, [], ◌∷◌, ◌++◌, length, get_or, take, drop, replicate, is_some, Some, None, Ok, Err, Option, Result, sym, refl, ap, ◌∙◌, subst, pow-suc, arith, length-drop, take-append-drop, w8, w32, w64, Fits, to_z, of_z, eqb-true, leb-true}
+use Rattle.std.proofs.Common.{◌≡◌, ℕ, zero, suc, ◌+◌, ◌-◌, ◌*◌, ◌/◌, ◌%◌, ◌^◌, ◌<◌, ◌≤◌, Bool, true, false, cond, eqb, ltb, leb, List, [], ◌∷◌, ◌++◌, length, get_or, take, drop, replicate, is_some, Some, None, Ok, Err, Option, Result, sym, refl, ap, ◌∙◌, pow-suc, arith, length-drop, take-append-drop, w8, w32, w64, Fits, eqb-true, leb-true}
 use native.Mathlib.Nat.{le-max_left}
 use Rattle.std.proofs.lemmas.List.{length-take-le, take_all}
 use Rattle.std.proofs.lemmas.Nat.{mod-mul-add, div-mul-add}
 use Rattle.std.proofs.lemmas.Int.{of_z-to_z}
-use Rattle.codes.specs.Lists.{listed}
-use Rattle.texts.specs.Bytes.{le, toLe, both, allNull, said, isText, named, padded}
-use Rattle.texts.specs.Identifiers.{orderId, number_of}
+use Rattle.texts.specs.Bytes.{le, toLe, allNull, said, isText, named, padded}
+use Rattle.texts.specs.Identifiers.{number_of}
 use Rattle.texts.proofs.Padding.{both_true, padded-said, null_is}
 use Rattle.layout.specs.declared.field.Form.{Form}
 use Rattle.layout.specs.declared.field.Form.TheVariants.{Text, Name, Order, Number, Sequence, Int8, Int32, Price, Time, Code, Reserved}
 use Rattle.layout.specs.declared.field.Field.{Field}
 use Rattle.layout.specs.declared.field.Field.TheVariants.{Always, When}
-use Rattle.layout.specs.Layout.{Content, part, taken, place, width, wide, span, form_of, matters, ok, got, okForm, content, firstBad, within, AllOk, Says, order_at, is_order, absent}
+use Rattle.layout.specs.Layout.{Content, part, place, width, wide, span, form_of, matters, ok, got, okForm, content, firstBad, within, AllOk, Says, order_at, is_order, absent}
 use Rattle.layout.specs.Layout.Content.{nothing}
 use Rattle.layout.specs.Writing.{orderBytes, bytes_of, fieldBytes, encode, header}
 use Rattle.layout.proofs.Tables.{allOk}
@@ -21,8 +20,8 @@ use Rattle.wire.specs.declared.kinds.Channel.TheVariants as channel
 use Rattle.wire.specs.declared.kinds.Kind.{Kind}
 use Rattle.wire.specs.declared.kinds.Kind.TheVariants as kind
 use Rattle.wire.specs.declared.message.Message.{Message}
-use Rattle.wire.specs.Kinds.{letters, letterOf, total_of, totals, takes}
-use Rattle.wire.specs.Messages.{Said, heardOf, kind_of, contentsOf, table_of, sized, opening, verdict, atField, written, Reads, reserved, blanked, Again}
+use Rattle.wire.specs.Kinds.{letters, total_of, totals, takes}
+use Rattle.wire.specs.Messages.{heardOf, kind_of, contentsOf, table_of, sized, opening, atField, Reads, reserved, blanked, Again}
 use Rattle.wire.proofs.Totals.{letter-is, total-is}
 use Rattle.wire.proofs.Unique.{unique}
 

@@ -1,5 +1,5 @@
 -- From the numbers that fields hold back to the values that they stand for. Assumes nothing.
-use Rattle.std.proofs.Common.{◌≡◌, ℕ, cond, eqb, List, ℤ, Some, None, Option, refl}
+use Rattle.std.proofs.Common.{◌≡◌, ℕ, cond, eqb, List, Some, None, Option, refl}
 use Rattle.std.specs.Option.{option_map}
 use Rattle.texts.specs.declared.identifiers.OrderId.{OrderId}
 use Rattle.codes.specs.Order.{sideCode, orderTypeCode, timeInForceCode, clearingAccountCode, orderCapacityCode, autoCancelCode, orderSubTypeCode, bookCode, execInstructionCode, passiveOnlyCode, massCancelTypeCode}

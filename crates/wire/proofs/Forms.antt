@@ -1,23 +1,20 @@
 -- A field of any form: reading undoes writing, and writing undoes reading. Assumes nothing.
-use Rattle.std.proofs.Common.{◌≡◌, ℕ, zero, suc, ◌+◌, ◌-◌, ◌*◌, ◌/◌, ◌%◌, ◌^◌, ◌<◌, ◌≤◌, Bool, true, false, cond, eqb, ltb, leb, List, [], ◌∷◌, ◌++◌, length, take, drop, replicate, ℤ, pos, negsuc, is_some, Some, None, Option, sym, refl, ap, ◌∙◌, append_assoc, arith, length-append, length-drop, take-append-drop, w8, w32, w64, SFits, to_z, of_z, ltb-true, lt-ltb, eqb-true}
-use lib.ListN.{length-replicate}
+use Rattle.std.proofs.Common.{◌≡◌, ℕ, ◌^◌, ◌<◌, Bool, true, false, cond, eqb, ltb, List, [], ◌∷◌, replicate, ℤ, is_some, Some, None, Option, sym, refl, ap, ◌∙◌, arith, w8, w32, w64, SFits, to_z, of_z, ltb-true, lt-ltb, eqb-true}
 use mir.Val.{bits}
 use mir.Facts.{Fits-of_z}
 use mir.Syntax.{Width}
-use Rattle.std.proofs.lemmas.List.{take_at, drop_at, length-take-le}
-use Rattle.std.proofs.lemmas.Int.{to_z-of_z, of_z-to_z}
+use Rattle.std.proofs.lemmas.Int.{to_z-of_z}
 use Rattle.codes.specs.declared.lists.Codes.{Codes}
 use Rattle.codes.specs.declared.lists.Codes.TheVariants as list
 use Rattle.codes.specs.Member.{member}
 use Rattle.codes.specs.Lists.{listed}
-use Rattle.texts.specs.Bytes.{le, toLe, both, printable, allPrintable, allNull, said, isText, named, padded}
-use Rattle.texts.specs.Identifiers.{orderId, number_of, id_of}
+use Rattle.texts.specs.Bytes.{le, toLe, both}
 use Rattle.texts.proofs.Padding.{both_true, said-padded, isText-padded, named-padded, le-toLe}
 use Rattle.texts.proofs.Digits.{returns_of}
 use Rattle.layout.specs.declared.field.Form.{Form}
 use Rattle.layout.specs.declared.field.Form.TheVariants.{Text, Name, Order, Number, Sequence, Int8, Int32, Price, Time, Code, Reserved}
 use Rattle.layout.specs.Layout.{Content, taken, wide, order_at, is_order, okForm, content, words_of, order_of, figureOf, int8Of, int32Of, priceOf, secondsOf, microsOf, absent}
-use Rattle.layout.specs.Layout.Content.{words, order, figure, int8, int32, price, clock, nothing}
+use Rattle.layout.specs.Layout.Content.{words, order, figure, int8, int32, price, clock}
 use Rattle.layout.specs.Writing.{orderBytes, bytes_of}
 use Rattle.layout.specs.Holding.{Below, HoldsForm}
 

@@ -1,5 +1,5 @@
 -- A value out of a message's list. Assumes nothing.
-use Rattle.std.proofs.Common.{◌≡◌, ℕ, zero, suc, ◌<◌, ◌≤◌, List, [], ◌∷◌, map, length, get_or, Option, sym, refl, ap, ◌∙◌, subst, arith}
+use Rattle.std.proofs.Common.{◌≡◌, ℕ, zero, suc, ◌<◌, List, [], ◌∷◌, map, length, get_or, Option, sym, refl, ap, ◌∙◌, subst, arith}
 use Rattle.layout.specs.declared.value.Value.{Value}
 use Rattle.layout.specs.Layout.{Content}
 use Rattle.layout.specs.Layout.Content.{nothing}

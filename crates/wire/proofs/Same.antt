@@ -1,5 +1,5 @@
 -- A message is what its fields hold: two that hold the same are the same. Assumes nothing.
-use Rattle.std.proofs.Common.{◌≡◌, ℕ, List, [], ◌∷◌, get_or, sym, refl, ap, ◌∙◌}
+use Rattle.std.proofs.Common.{◌≡◌, ℕ, List, get_or, sym, refl, ap, ◌∙◌}
 use Rattle.layout.specs.Layout.{Content, words_of, order_of, figureOf, int8Of, int32Of, priceOf, secondsOf, microsOf}
 use Rattle.layout.specs.Layout.Content.{nothing}
 use Rattle.wire.specs.declared.kinds.Kind.{Kind}
@@ -22,7 +22,7 @@ use Rattle.messages.specs.Requests.{newOrderContents, orderCancelRequestContents
 use Rattle.messages.specs.Reports.{executionReportContents, orderCancelRejectContents, orderMassCancelReportContents}
 use Rattle.wire.specs.Messages.{Said, kind_of, contentsOf}
 use Rattle.wire.specs.Messages.Said.{theLogon, theLogonReply, theLogout, theHeartbeat, theMissedMessageRequest, theMissedMessageRequestAck, theMissedMessageReport, theReject, theNewOrder, theOrderCancelRequest, theOrderCancelReplaceRequest, theOrderMassCancelRequest, theExecutionReport, theOrderCancelReject, theOrderMassCancelReport}
-use Rattle.wire.proofs.Backs.{sideBack, side-back, orderTypeBack, orderType-back, timeInForceBack, timeInForce-back, clearingAccountBack, clearingAccount-back, orderCapacityBack, orderCapacity-back, autoCancelBack, autoCancel-back, orderSubTypeBack, orderSubType-back, bookBack, book-back, execInstructionBack, execInstruction-back, passiveOnlyBack, passiveOnly-back, massCancelTypeBack, massCancelType-back, versionBack, version-back, partitionBack, partition-back, ackResponseBack, ackResponse-back, reportResponseBack, reportResponse-back, execTypeBack, execType-back, statusBack, status-back, liquidityBack, liquidity-back, tradeTypeBack, tradeType-back, capacityBack, capacity-back, priceDifferentialBack, priceDifferential-back, massResponseBack, massResponse-back, orderBack, order-back, pricingBack, pricing-back, targetBack, target-back, scopeBack, scope-back, executionBack, execution-back}
+use Rattle.wire.proofs.Backs.{sideBack, side-back, timeInForceBack, timeInForce-back, clearingAccountBack, clearingAccount-back, orderCapacityBack, orderCapacity-back, autoCancelBack, autoCancel-back, orderSubTypeBack, orderSubType-back, bookBack, book-back, passiveOnlyBack, passiveOnly-back, versionBack, version-back, partitionBack, partition-back, ackResponseBack, ackResponse-back, reportResponseBack, reportResponse-back, statusBack, status-back, capacityBack, capacity-back, priceDifferentialBack, priceDifferential-back, massResponseBack, massResponse-back, orderBack, order-back, pricingBack, pricing-back, targetBack, target-back, scopeBack, scope-back, executionBack, execution-back}
 
 -- the content at a place of the list
 abbrev nth : ℕ → List Content → Content

@@ -1,5 +1,5 @@
 -- The length and the type byte of a kind, and a message written by its kind. Assumes nothing.
-use Rattle.std.proofs.Common.{◌≡◌, ℕ, ◌≤◌, List, ◌++◌, length, drop, sym, refl, ap, ◌∙◌, subst, append_assoc}
+use Rattle.std.proofs.Common.{◌≡◌, ℕ, ◌≤◌, List, ◌++◌, drop, sym, refl, ◌∙◌, subst, append_assoc}
 use Rattle.layout.specs.Writing.{encode, header}
 use Rattle.wire.specs.declared.kinds.Kind.{Kind}
 use Rattle.wire.specs.Kinds.{letters, letterOf, totals, total_of}

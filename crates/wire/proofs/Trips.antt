@@ -1,28 +1,25 @@
 -- Reading undoes writing, and no two messages are written alike. Assumes nothing.
-use Rattle.std.proofs.Common.{◌≡◌, ℕ, zero, suc, ◌+◌, ◌-◌, ◌<◌, ◌≤◌, Bool, true, false, cond, eqb, ltb, leb, List, [], ◌∷◌, ◌++◌, length, take, drop, replicate, Some, None, Ok, Err, Option, Result, sym, refl, ap, ◌∙◌, subst, append_assoc, append-nil, arith, length-append, eq-eqb, eqb-true}
-use lib.ListN.{length-replicate}
+use Rattle.std.proofs.Common.{◌≡◌, ℕ, ◌+◌, Bool, true, false, cond, eqb, List, [], ◌∷◌, ◌++◌, length, replicate, Some, None, Ok, Result, sym, refl, ap, ◌∙◌, subst, append_assoc, append-nil, arith, length-append, eqb-true}
 use Rattle.std.proofs.lemmas.List.{take_at, drop_at}
-use Rattle.codes.specs.declared.lists.Codes.{Codes}
 use Rattle.codes.specs.Lists.{listed}
-use Rattle.texts.specs.Bytes.{le, toLe, both}
+use Rattle.texts.specs.Bytes.{le, both}
 use Rattle.texts.proofs.Padding.{both_true, le-toLe}
 use Rattle.layout.specs.declared.field.Form.{Form}
 use Rattle.layout.specs.declared.field.Form.TheVariants.{Text, Name, Order, Number, Sequence, Int8, Int32, Price, Time, Code, Reserved}
 use Rattle.layout.specs.declared.field.Field.{Field}
 use Rattle.layout.specs.declared.field.Field.TheVariants.{Always, When}
-use Rattle.layout.specs.Layout.{Content, part, taken, place, width, wide, form_of, matters, ok, got, okForm, content, firstBad, Says, figureOf, absent}
+use Rattle.layout.specs.Layout.{Content, part, taken, place, width, wide, ok, got, okForm, content, firstBad, Says, figureOf, absent}
 use Rattle.layout.specs.Layout.Content.{nothing}
 use Rattle.layout.specs.Writing.{bytes_of, fieldBytes, encode, header, tiled, fits, fitsAll}
-use Rattle.layout.specs.Holding.{HoldsForm, If, Holds, HoldsAll, figureAt, HoldsIn}
+use Rattle.layout.specs.Holding.{HoldsForm, If, Holds, HoldsAll, figureAt}
 use Rattle.layout.proofs.Overs.{field-wide}
 use Rattle.layout.proofs.Turns.{fits_all}
 use Rattle.wire.specs.declared.kinds.Channel.{Channel}
 use Rattle.wire.specs.declared.kinds.Channel.TheVariants as channel
 use Rattle.wire.specs.declared.kinds.Kind.{Kind}
 use Rattle.wire.specs.declared.kinds.Kind.TheVariants as kind
-use Rattle.wire.specs.declared.message.Message.{Message}
 use Rattle.wire.specs.Kinds.{letters, letterOf, total_of, totals, takes}
-use Rattle.wire.specs.Messages.{Said, heardOf, kind_of, contentsOf, table_of, opening, verdict, written, Holdable, Reads, GivenBack, Apart}
+use Rattle.wire.specs.Messages.{Said, heardOf, kind_of, contentsOf, table_of, opening, verdict, written, Holdable, GivenBack, Apart}
 use Rattle.wire.proofs.Forms.{code-small, form-read, form-bytes}
 use Rattle.wire.proofs.Same.{same}
 use Rattle.wire.proofs.Totals.{total-is}

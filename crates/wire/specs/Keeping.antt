@@ -12,8 +12,6 @@ use Rattle.messages.specs.declared.session.Logon.{Logon}
 use Rattle.messages.specs.declared.session.LogonReply.{LogonReply}
 use Rattle.messages.specs.declared.session.Logout.{Logout}
 use Rattle.messages.specs.declared.session.MissedMessageRequest.{MissedMessageRequest}
-use Rattle.messages.specs.declared.session.MissedMessageRequestAck.{MissedMessageRequestAck}
-use Rattle.messages.specs.declared.session.MissedMessageReport.{MissedMessageReport}
 use Rattle.messages.specs.declared.session.Reject.{Reject}
 use Rattle.messages.specs.declared.requests.NewOrder.{NewOrder}
 use Rattle.messages.specs.declared.requests.OrderCancelRequest.{OrderCancelRequest}

@@ -23,7 +23,6 @@ use Rattle.messages.specs.declared.session.Reject.{Reject}
 use Rattle.messages.specs.declared.requests.NewOrder.{NewOrder}
 use Rattle.messages.specs.declared.requests.OrderCancelRequest.{OrderCancelRequest}
 use Rattle.messages.specs.declared.requests.OrderCancelReplaceRequest.{OrderCancelReplaceRequest}
-use Rattle.messages.specs.declared.requests.OrderMassCancelRequest.{OrderMassCancelRequest}
 use Rattle.messages.specs.declared.reports.ExecutionReport.{ExecutionReport}
 use Rattle.messages.specs.declared.reports.OrderCancelReject.{OrderCancelReject}
 use Rattle.messages.specs.declared.reports.OrderMassCancelReport.{OrderMassCancelReport}

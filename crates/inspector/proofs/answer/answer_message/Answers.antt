@@ -3,7 +3,7 @@ use Rattle.wire.specs.Messages.{keptOf}
 use Rattle.inspector.proofs.Verdicts.{answers-read}
 use Rattle.inspector.proofs.answer.answer_message.Goals as goal
 
-pub returns-in-ok-render : goal.returns-in-ok-render
-returns-in-ok-render c =
-    answers-read c.args.channel c.args.bytes.now _ c.in-Ok.message (keptOf c.in-Some.kept) c.is-same-again.result
-    c.in-Ok.ensures.checks c.in-Some.ensures.1 c.in-ok-render.ensures refl c.is-same-again.ensures
+pub returns-in_ok-render-in-Ok : goal.returns-in_ok-render-in-Ok
+returns-in_ok-render-in-Ok c =
+    answers-read c.args.channel c.args.bytes.now _ c.in-Ok.message (keptOf c.in-Some.kept) c.is_same_again.result
+    c.in-Ok.ensures.checks c.in-Some.ensures.1 c.in_ok-render-in-Ok.ensures refl c.is_same_again.ensures

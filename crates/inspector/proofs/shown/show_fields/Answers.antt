@@ -6,8 +6,8 @@ pub loop-i-preserved : goal.loop-i-preserved
 loop-i-preserved c = (
   omega arith,
   omega arith,
-  field-more (string_bytes c.args.out.now) (string_bytes c.loop-i.out) (string_bytes c.show-field.new.out) c.args.names.now c.args.values.now c.loop-i.i _ _
-      c.loop-i-test.true c.if-i-values.true c.in-ok-show-field.ensures c.loop-i.invariant.2,
+  field-more (string_bytes c.args.out.now) (string_bytes c.loop-i.out) (string_bytes c.show_field.new.out) c.args.names.now c.args.values.now c.loop-i.i _ _
+      c.loop-i-test.true c.if-i-values.true c.in_ok-show_field.ensures c.loop-i.invariant.2,
 )
 
 pub returns-else-i-values : goal.returns-else-i-values

@@ -6,7 +6,7 @@ use Rattle.inspector.proofs.shown.show_line.Goals as goal
 
 pub returns : goal.returns
 returns c =
-    then-made c.show-fields.result (string_bytes c.args.out.now) _ (string_bytes c.show-fields.new.out) (titleOf c.args.kind) (fieldsText (names_of c.args.kind) c.args.values.now) (lineText c.args.kind c.args.values.now)
-    (c.in-ok-write.ensures.bytes ∙ ap (λ t. string_bytes c.args.out.now ++ t) c.title-title.ensures)
+    then-made c.show_fields.result (string_bytes c.args.out.now) _ (string_bytes c.show_fields.new.out) (titleOf c.args.kind) (fieldsText (names_of c.args.kind) c.args.values.now) (lineText c.args.kind c.args.values.now)
+    (c.in_ok-write.ensures.bytes ∙ ap (λ t. string_bytes c.args.out.now ++ t) c.title-title.ensures)
     refl
-    (made-same c.show-fields.result _ _ _ _ (ap (λ ns. fieldsText ns c.args.values.now) c.names.ensures) c.show-fields.ensures)
+    (made-same c.show_fields.result _ _ _ _ (ap (λ ns. fieldsText ns c.args.values.now) c.names.ensures) c.show_fields.ensures)

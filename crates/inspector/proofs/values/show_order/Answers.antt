@@ -8,7 +8,7 @@ use Rattle.inspector.proofs.values.show_order.Goals as goal
 
 pub returns-in-Some : goal.returns-in-Some
 returns-in-Some c =
-    let t = c.as-bytes.ensures.value ∙ ap said c.text-text.ensures.text ∙ said-idOf 79 c.in-Some.id.number (omega arith) (omega arith) in
-    made-same c.show-text_in-Some.result (string_bytes c.args.out.now) (string_bytes c.show-text_in-Some.new.out) _ _
+    let t = c.as_bytes.ensures.value ∙ ap said c.text-text.ensures.text ∙ said-idOf 79 c.in-Some.id.number (omega arith) (omega arith) in
+    made-same c.show_text-in-Some.result (string_bytes c.args.out.now) (string_bytes c.show_text-in-Some.new.out) _ _
     (ap quoted t ∙ ap (λ o. orderText (option_map (λ i. i.number) o)) (sym c.in-Some.is))
-    c.show-text_in-Some.ensures
+    c.show_text-in-Some.ensures

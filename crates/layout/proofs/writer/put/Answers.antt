@@ -5,4 +5,4 @@ use Rattle.layout.proofs.writer.put.Goals as goal
 pub returns : goal.returns
 returns c =
     let h : length c.args.bytes.now ≡ c.args.at + length c.args.bytes.now - c.args.at = omega arith in
-    put-over c.args.out.now c.args.at _ _ c.args.bytes.now c.copy-from-slice.ensures.after h
+    put-over c.args.out.now c.args.at _ _ c.args.bytes.now c.copy_from_slice.ensures.after h

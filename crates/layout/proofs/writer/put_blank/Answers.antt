@@ -1,4 +1,4 @@
-use Rattle.std.proofs.Common.{◌≡◌, replicate, sym, refl, ◌∙◌, append-nil, add-zero, arith, take-append-drop, rules}
+use Rattle.std.proofs.Common.{◌≡◌, replicate, sym, ◌∙◌, append-nil, add-zero, arith, take-append-drop, rules}
 use lib.ListN.{length-replicate}
 use Rattle.std.proofs.lemmas.List.Edits.{fill_from_more}
 use Rattle.layout.proofs.Overs.{paste-over}

@@ -1,17 +1,17 @@
-use Rattle.std.proofs.Common.{◌≡◌, true, false, cond, sym, ap, ◌∙◌, arith, rules}
+use Rattle.std.proofs.Common.{◌≡◌, true, false, arith, rules}
 use Rattle.layout.specs.Layout.{absent}
 use Rattle.layout.specs.Values.{meant}
-use Rattle.layout.specs.Writing.{over, fieldBytes}
+use Rattle.layout.specs.Writing.{fieldBytes}
 use Rattle.layout.proofs.writer.put_field.Goals as goal
 
-pub returns-then-is-absent : goal.returns-then-is-absent
+pub returns-then-is_absent : goal.returns-then-is_absent
 unfolding fieldBytes
-returns-then-is-absent c =
+returns-then-is_absent c =
     let a : absent (meant c.args.value.now) ≡ true = search rules in
     grind arith
 
-pub returns-else-is-absent : goal.returns-else-is-absent
+pub returns-else-is_absent : goal.returns-else-is_absent
 unfolding fieldBytes
-returns-else-is-absent c =
+returns-else-is_absent c =
     let a : absent (meant c.args.value.now) ≡ false = search rules in
     grind arith

@@ -1,6 +1,5 @@
-use Rattle.std.proofs.Common.{◌≡◌, ◌+◌, ◌≤◌, length, sym, ap, ◌∙◌, arith, rules}
+use Rattle.std.proofs.Common.{◌≤◌, length, rules}
 use Rattle.texts.specs.Bytes.{toLe}
-use Rattle.layout.specs.Writing.{over}
 use Rattle.layout.proofs.Overs.{over-over}
 use Rattle.layout.proofs.writer.put_form.Goals as goal
 

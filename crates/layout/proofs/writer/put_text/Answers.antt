@@ -1,4 +1,4 @@
-use Rattle.std.proofs.Common.{arith, rules}
+use Rattle.std.proofs.Common.{rules}
 use Rattle.layout.proofs.Overs.{over-over}
 use Rattle.layout.proofs.writer.put_text.Goals as goal
 

@@ -1,4 +1,4 @@
-use Rattle.std.proofs.Common.{◌≡◌, ◌≤◌, true, map, length, drop}
+use Rattle.std.proofs.Common.{◌≡◌, true, map, drop}
 use Rattle.layout.specs.Layout.{within}
 use Rattle.layout.specs.Values.{meant}
 use Rattle.layout.specs.Writing.{overAll, fitsAll}

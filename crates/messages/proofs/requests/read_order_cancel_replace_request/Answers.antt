@@ -1,25 +1,28 @@
-use Rattle.std.proofs.Common.{refl, ap, w8, w32, w64, to_z, rules}
-use Rattle.layout.specs.Layout.Content.{words, order, figure, int8, int32, price}
-use Rattle.messages.proofs.Pair.{◌⊹◌, blank, clocked, consed}
+use Rattle.std.proofs.Common.{refl, ap, w32, to_z}
+use Rattle.layout.specs.Layout.Content.{words, order, figure, int32, price}
+use Rattle.messages.proofs.Pair.{◌⊹◌, blank, consed}
 use Rattle.messages.specs.Requests.{orderCancelReplaceRequest, orderCancelReplaceRequestContents, orderCancelReplaceRequestHeard, orderCancelReplaceRequestPlaces}
 use Rattle.layout.proofs.Tables.{broken}
 use Rattle.messages.proofs.requests.read_order_cancel_replace_request.Goals as goal
 
-pub code-requires : goal.code-requires
-code-requires c = (search rules, c.in-ok-check.ensures.1.1.1.1.1.1.1.1.1.1.0)
+pub code-requires-clause-listed : goal.code-requires-clause-listed
+code-requires-clause-listed c = c.in_ok-check.ensures.1.1.1.1.1.1.1.1.1.1.0
 
-pub code-requires-2 : goal.code-requires-2
-code-requires-2 c = (search rules, c.in-ok-check.ensures.1.1.1.1.1.1.1.1.1.1.1.0)
+pub code-requires-2-clause-listed : goal.code-requires-2-clause-listed
+code-requires-2-clause-listed c = c.in_ok-check.ensures.1.1.1.1.1.1.1.1.1.1.1.0
 
-pub code-requires-3 : goal.code-requires-3
-code-requires-3 c = (search rules, c.in-ok-check.ensures.1.1.1.1.1.1.1.1.1.1.1.1.1.1.1.1.0)
+pub code-requires-3-clause-listed : goal.code-requires-3-clause-listed
+code-requires-3-clause-listed c = c.in_ok-check.ensures.1.1.1.1.1.1.1.1.1.1.1.1.1.1.1.1.0
 
-pub read-target-requires : goal.read-target-requires
-read-target-requires c = (search rules, c.in-ok-check.ensures.1.1.1.1.1.1.1.1.1.1.1.1.1.0, c.in-ok-check.ensures.1.1.1.1.1.1.1.1.1.1.1.1.1.1.0)
+pub read_target-requires-clause-book_taken : goal.read_target-requires-clause-book_taken
+read_target-requires-clause-book_taken c = c.in_ok-check.ensures.1.1.1.1.1.1.1.1.1.1.1.1.1.0
+
+pub read_target-requires-clause-instruction_taken : goal.read_target-requires-clause-instruction_taken
+read_target-requires-clause-instruction_taken c = c.in_ok-check.ensures.1.1.1.1.1.1.1.1.1.1.1.1.1.1.0
 
 pub returns : goal.returns
 returns c = (
-  c.in-ok-check.ensures.0,
+  c.in_ok-check.ensures.0,
   ap words c.text.ensures.bytes
       ⊹ ap words c.text-2.ensures.bytes
       ⊹ ap order c.order.ensures
@@ -32,8 +35,8 @@ returns c = (
       ⊹ ap figure c.code.ensures
       ⊹ ap figure c.code-2.ensures
       ⊹ blank
-      ⊹ c.read-target.ensures.code
-      ⊹ c.read-target.ensures.instruction
+      ⊹ c.read_target.ensures.code
+      ⊹ c.read_target.ensures.instruction
       ⊹ ap (λ n. int32 (to_z w32 n)) c.i32-3.ensures.bits
       ⊹ ap figure c.code-3.ensures
       ⊹ blank
@@ -41,5 +44,5 @@ returns c = (
   consed c.text.ensures.offset (consed c.text-2.ensures.offset (consed c.text-3.ensures.offset (consed c.text-4.ensures.offset refl))),
 )
 
-pub returns-in-err-check : goal.returns-in-err-check
-returns-in-err-check c = broken orderCancelReplaceRequest (λ m. orderCancelReplaceRequestContents (orderCancelReplaceRequestHeard m)) orderCancelReplaceRequestPlaces c.args.r.now.src.now c.from-residual.result c.in-err-check.field-0.0 c.from-residual.ensures.1 c.in-err-check.ensures
+pub returns-in_err-check : goal.returns-in_err-check
+returns-in_err-check c = broken orderCancelReplaceRequest (λ m. orderCancelReplaceRequestContents (orderCancelReplaceRequestHeard m)) orderCancelReplaceRequestPlaces c.args.r.now.src.now c.from_residual.result c.in_err-check.field-0.0 c.from_residual.ensures.1 c.in_err-check.ensures

@@ -1,17 +1,17 @@
-use Rattle.std.proofs.Common.{refl, ap, w8, w32, w64, to_z, rules}
-use Rattle.layout.specs.Layout.Content.{words, order, figure, int8, int32, price}
-use Rattle.messages.proofs.Pair.{◌⊹◌, blank, clocked, consed}
+use Rattle.std.proofs.Common.{refl, ap}
+use Rattle.layout.specs.Layout.Content.{words, order, figure}
+use Rattle.messages.proofs.Pair.{◌⊹◌, blank, consed}
 use Rattle.messages.proofs.requests.read_order_cancel_request.Goals as goal
 
-pub code-requires : goal.code-requires
-code-requires c = (search rules, c.in-ok-check.ensures.1.1.1.1.1.0)
+pub code-requires-clause-listed : goal.code-requires-clause-listed
+code-requires-clause-listed c = c.in_ok-check.ensures.1.1.1.1.1.0
 
-pub code-requires-2 : goal.code-requires-2
-code-requires-2 c = (search rules, c.in-ok-check.ensures.1.1.1.1.1.1.0)
+pub code-requires-2-clause-listed : goal.code-requires-2-clause-listed
+code-requires-2-clause-listed c = c.in_ok-check.ensures.1.1.1.1.1.1.0
 
 pub returns : goal.returns
 returns c = (
-  c.in-ok-check.ensures.0,
+  c.in_ok-check.ensures.0,
   ap words c.text.ensures.bytes
       ⊹ ap words c.text-2.ensures.bytes
       ⊹ ap order c.order.ensures

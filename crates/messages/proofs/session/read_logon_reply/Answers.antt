@@ -1,11 +1,11 @@
-use Rattle.std.proofs.Common.{refl, ap, w8, w32, w64, to_z, rules}
-use Rattle.layout.specs.Layout.Content.{words, order, figure, int8, int32, price}
-use Rattle.messages.proofs.Pair.{◌⊹◌, blank, clocked, consed}
+use Rattle.std.proofs.Common.{refl, ap, w32, to_z}
+use Rattle.layout.specs.Layout.Content.{words, int32}
+use Rattle.messages.proofs.Pair.{◌⊹◌, consed}
 use Rattle.messages.proofs.session.read_logon_reply.Goals as goal
 
 pub returns : goal.returns
 returns c = (
-  c.in-ok-check.ensures.0,
+  c.in_ok-check.ensures.0,
   ap (λ n. int32 (to_z w32 n)) c.i32.ensures.bits
       ⊹ ap words c.text.ensures.bytes
       ⊹ tt,

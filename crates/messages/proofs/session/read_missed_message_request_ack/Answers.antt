@@ -1,14 +1,14 @@
-use Rattle.std.proofs.Common.{refl, ap, w8, w32, w64, to_z, rules}
-use Rattle.layout.specs.Layout.Content.{words, order, figure, int8, int32, price}
-use Rattle.messages.proofs.Pair.{◌⊹◌, blank, clocked, consed}
+use Rattle.std.proofs.Common.{refl, ap}
+use Rattle.layout.specs.Layout.Content.{figure}
+use Rattle.messages.proofs.Pair.{◌⊹◌}
 use Rattle.messages.proofs.session.read_missed_message_request_ack.Goals as goal
 
-pub code-requires : goal.code-requires
-code-requires c = (search rules, c.in-ok-check.ensures.1.0)
+pub code-requires-clause-listed : goal.code-requires-clause-listed
+code-requires-clause-listed c = c.in_ok-check.ensures.1.0
 
 pub returns : goal.returns
 returns c = (
-  c.in-ok-check.ensures.0,
+  c.in_ok-check.ensures.0,
   ap figure c.code.ensures
       ⊹ tt,
   refl,

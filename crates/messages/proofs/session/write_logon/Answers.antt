@@ -1,22 +1,21 @@
-use Rattle.std.proofs.Common.{◌≡◌, sym, refl, ap, ◌∙◌, arith}
-use Rattle.layout.specs.Writing.{encode, header}
+use Rattle.std.proofs.Common.{refl, arith}
 use Rattle.messages.specs.Session.{logon, logonContents, logonKept}
-use Rattle.layout.proofs.Turns.{means_is, means-long, fits-means, wrote-means}
+use Rattle.layout.proofs.Turns.{means-long, fits-means, wrote-means}
 use Rattle.messages.proofs.Held.{logon-holds}
 use Rattle.messages.proofs.session.write_logon.Goals as goal
 
-pub write-fields-requires : goal.write-fields-requires
-write-fields-requires c =
+pub write_fields-requires : goal.write_fields-requires
+write_fields-requires c =
     let h = logon-holds c.args.m.now in
     record {
       room = (c.requires, omega arith);
       table = (refl, refl);
-      each = (means-long c.logon-values.result (logonContents (logonKept c.args.m.now)) c.logon-values.ensures, fits-means logon c.logon-values.result (logonContents (logonKept c.args.m.now)) c.logon-values.ensures h);
+      each = (means-long c.logon_values.result (logonContents (logonKept c.args.m.now)) c.logon_values.ensures, fits-means logon c.logon_values.result (logonContents (logonKept c.args.m.now)) c.logon_values.ensures h);
     }
 
 pub returns : goal.returns
 returns c =
     record {
-      wrote = wrote-means 65 80 logon c.logon-values.result (logonContents (logonKept c.args.m.now)) c.args.out.now c.logon-values.ensures c.write-fields.ensures;
+      wrote = wrote-means 65 80 logon c.logon_values.result (logonContents (logonKept c.args.m.now)) c.args.out.now c.logon_values.ensures c.write_fields.ensures;
       holds = logon-holds c.args.m.now;
     }

@@ -1,22 +1,21 @@
-use Rattle.std.proofs.Common.{◌≡◌, sym, refl, ap, ◌∙◌, arith}
-use Rattle.layout.specs.Writing.{encode, header}
+use Rattle.std.proofs.Common.{refl, arith}
 use Rattle.messages.specs.Session.{missedMessageRequest, missedMessageRequestContents, missedMessageRequestKept}
-use Rattle.layout.proofs.Turns.{means_is, means-long, fits-means, wrote-means}
+use Rattle.layout.proofs.Turns.{means-long, fits-means, wrote-means}
 use Rattle.messages.proofs.Held.{missedMessageRequest-holds}
 use Rattle.messages.proofs.session.write_missed_message_request.Goals as goal
 
-pub write-fields-requires : goal.write-fields-requires
-write-fields-requires c =
-    let h = missedMessageRequest-holds c.args.m.now c.missed-message-request-values.ensures.typed in
+pub write_fields-requires : goal.write_fields-requires
+write_fields-requires c =
+    let h = missedMessageRequest-holds c.args.m.now c.missed_message_request_values.ensures.typed in
     record {
       room = (c.requires, omega arith);
       table = (refl, refl);
-      each = (means-long c.missed-message-request-values.result (missedMessageRequestContents (missedMessageRequestKept c.args.m.now)) c.missed-message-request-values.ensures.means, fits-means missedMessageRequest c.missed-message-request-values.result (missedMessageRequestContents (missedMessageRequestKept c.args.m.now)) c.missed-message-request-values.ensures.means h);
+      each = (means-long c.missed_message_request_values.result (missedMessageRequestContents (missedMessageRequestKept c.args.m.now)) c.missed_message_request_values.ensures.means, fits-means missedMessageRequest c.missed_message_request_values.result (missedMessageRequestContents (missedMessageRequestKept c.args.m.now)) c.missed_message_request_values.ensures.means h);
     }
 
 pub returns : goal.returns
 returns c =
     record {
-      wrote = wrote-means 77 9 missedMessageRequest c.missed-message-request-values.result (missedMessageRequestContents (missedMessageRequestKept c.args.m.now)) c.args.out.now c.missed-message-request-values.ensures.means c.write-fields.ensures;
-      holds = missedMessageRequest-holds c.args.m.now c.missed-message-request-values.ensures.typed;
+      wrote = wrote-means 77 9 missedMessageRequest c.missed_message_request_values.result (missedMessageRequestContents (missedMessageRequestKept c.args.m.now)) c.args.out.now c.missed_message_request_values.ensures.means c.write_fields.ensures;
+      holds = missedMessageRequest-holds c.args.m.now c.missed_message_request_values.ensures.typed;
     }

@@ -1,26 +1,22 @@
-use Rattle.std.proofs.Common.{refl, ap, w32, w64, to_z, rules}
+use Rattle.std.proofs.Common.{refl, ap, w32, to_z}
 use Rattle.codes.specs.declared.lists.Codes.TheVariants as codes
 use Rattle.layout.specs.declared.field.Form.TheVariants as f
 use Rattle.layout.specs.Layout.{taken}
-use Rattle.layout.specs.Layout.Content.{words, figure, int32, price}
-use Rattle.messages.proofs.Pair.{consed}
+use Rattle.layout.specs.Layout.Content.{figure, int32}
 use Rattle.messages.proofs.Relevant.{unheld, held, ok-held}
 use Rattle.messages.proofs.terms.read_execution.Goals as goal
 
-pub code-requires : goal.code-requires
+pub code-requires-clause-listed : goal.code-requires-clause-listed
 unfolding taken
-code-requires c =
-    (search rules, ok-held c.args.r.now.src.now 118 (f.Code codes.Liquidities) 53 codes.TradeOrCancel 70 c.in-Trade.ensures refl c.requires.2)
+code-requires-clause-listed c = ok-held c.args.r.now.src.now 118 (f.Code codes.Liquidities) 53 codes.TradeOrCancel 70 c.in-Trade.ensures refl c.requires.liquidity_taken
 
-pub code-requires-in-Trade : goal.code-requires-in-Trade
+pub code-requires-in-Trade-clause-listed : goal.code-requires-in-Trade-clause-listed
 unfolding taken
-code-requires-in-Trade c =
-    (search rules, ok-held c.args.r.now.src.now 136 (f.Code codes.TradeTypes) 53 codes.TradeOnly 70 c.in-Trade.ensures refl c.requires.3)
+code-requires-in-Trade-clause-listed c = ok-held c.args.r.now.src.now 136 (f.Code codes.TradeTypes) 53 codes.TradeOnly 70 c.in-Trade.ensures refl c.requires.trade_taken
 
-pub code-requires-in-TradeCancel : goal.code-requires-in-TradeCancel
+pub code-requires-in-TradeCancel-clause-listed : goal.code-requires-in-TradeCancel-clause-listed
 unfolding taken
-code-requires-in-TradeCancel c =
-    (search rules, ok-held c.args.r.now.src.now 118 (f.Code codes.Liquidities) 53 codes.TradeOrCancel 72 c.in-TradeCancel.ensures refl c.requires.2)
+code-requires-in-TradeCancel-clause-listed c = ok-held c.args.r.now.src.now 118 (f.Code codes.Liquidities) 53 codes.TradeOrCancel 72 c.in-TradeCancel.ensures refl c.requires.liquidity_taken
 
 pub returns-in-Unspecified : goal.returns-in-Unspecified
 unfolding taken

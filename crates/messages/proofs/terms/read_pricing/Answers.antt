@@ -1,10 +1,9 @@
-use Rattle.std.proofs.Common.{refl, ap, w32, w64, to_z, rules}
+use Rattle.std.proofs.Common.{refl, ap}
 use Rattle.codes.specs.declared.lists.Codes.TheVariants as codes
 use Rattle.layout.specs.declared.field.Form.TheVariants as f
 use Rattle.layout.specs.Layout.{taken}
-use Rattle.layout.specs.Layout.Content.{words, figure, int32, price}
-use Rattle.messages.proofs.Pair.{consed}
-use Rattle.messages.proofs.Relevant.{unheld, held, ok-held}
+use Rattle.layout.specs.Layout.Content.{figure, price}
+use Rattle.messages.proofs.Relevant.{unheld, held}
 use Rattle.messages.proofs.terms.read_pricing.Goals as goal
 
 pub returns-in-Market : goal.returns-in-Market

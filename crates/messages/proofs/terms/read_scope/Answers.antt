@@ -1,17 +1,15 @@
-use Rattle.std.proofs.Common.{refl, ap, w32, w64, to_z, rules}
+use Rattle.std.proofs.Common.{refl, ap}
 use Rattle.codes.specs.declared.lists.Codes.TheVariants as codes
 use Rattle.layout.specs.declared.field.Form.TheVariants as f
 use Rattle.layout.specs.Layout.{taken}
-use Rattle.layout.specs.Layout.Content.{words, figure, int32, price}
-use Rattle.messages.proofs.Pair.{consed}
+use Rattle.layout.specs.Layout.Content.{words, figure}
 use Rattle.messages.proofs.Relevant.{unheld, held, ok-held}
 use Rattle.messages.proofs.Scopes.{placed_first, placed-second, placed-none}
 use Rattle.messages.proofs.terms.read_scope.Goals as goal
 
-pub code-requires : goal.code-requires
+pub code-requires-clause-listed : goal.code-requires-clause-listed
 unfolding taken
-code-requires c =
-    (search rules, ok-held c.args.r.now.src.now 36 (f.Code codes.Books) 24 codes.ByInstrument 3 c.in-FirmInstrument.ensures refl c.requires.2)
+code-requires-clause-listed c = ok-held c.args.r.now.src.now 36 (f.Code codes.Books) 24 codes.ByInstrument 3 c.in-FirmInstrument.ensures refl c.requires.book_taken
 
 pub returns-in-FirmInstrument : goal.returns-in-FirmInstrument
 unfolding taken
@@ -30,9 +28,9 @@ returns-in-FirmSegment c =
     record {
       code = ap figure c.in-FirmSegment.ensures;
       symbol = unheld c.args.r.now.src.now 25 (f.Text 6) 24 codes.ByInstrument 4 c.in-FirmSegment.ensures refl;
-      segment = held c.args.r.now.src.now 31 (f.Text 4) 24 codes.BySegment 4 _ c.in-FirmSegment.ensures refl (ap words c.text_in-FirmSegment.ensures.bytes);
+      segment = held c.args.r.now.src.now 31 (f.Text 4) 24 codes.BySegment 4 _ c.in-FirmSegment.ensures refl (ap words c.text-in-FirmSegment.ensures.bytes);
       book = unheld c.args.r.now.src.now 36 (f.Code codes.Books) 24 codes.ByInstrument 4 c.in-FirmSegment.ensures refl;
-      places = placed-second c.args.r.now.src.now 4 c.in-FirmSegment.ensures refl refl c.text_in-FirmSegment.ensures.offset;
+      places = placed-second c.args.r.now.src.now 4 c.in-FirmSegment.ensures refl refl c.text-in-FirmSegment.ensures.offset;
     }
 
 pub returns-in-CompId : goal.returns-in-CompId
@@ -57,20 +55,19 @@ returns-in-Firm c =
       places = placed-none c.args.r.now.src.now 8 c.in-Firm.ensures refl refl;
     }
 
-pub code-requires-in-CompIdInstrument : goal.code-requires-in-CompIdInstrument
+pub code-requires-in-CompIdInstrument-clause-listed : goal.code-requires-in-CompIdInstrument-clause-listed
 unfolding taken
-code-requires-in-CompIdInstrument c =
-    (search rules, ok-held c.args.r.now.src.now 36 (f.Code codes.Books) 24 codes.ByInstrument 9 c.in-CompIdInstrument.ensures refl c.requires.2)
+code-requires-in-CompIdInstrument-clause-listed c = ok-held c.args.r.now.src.now 36 (f.Code codes.Books) 24 codes.ByInstrument 9 c.in-CompIdInstrument.ensures refl c.requires.book_taken
 
 pub returns-in-CompIdInstrument : goal.returns-in-CompIdInstrument
 unfolding taken
 returns-in-CompIdInstrument c =
     record {
       code = ap figure c.in-CompIdInstrument.ensures;
-      symbol = held c.args.r.now.src.now 25 (f.Text 6) 24 codes.ByInstrument 9 _ c.in-CompIdInstrument.ensures refl (ap words c.text_in-CompIdInstrument.ensures.bytes);
+      symbol = held c.args.r.now.src.now 25 (f.Text 6) 24 codes.ByInstrument 9 _ c.in-CompIdInstrument.ensures refl (ap words c.text-in-CompIdInstrument.ensures.bytes);
       segment = unheld c.args.r.now.src.now 31 (f.Text 4) 24 codes.BySegment 9 c.in-CompIdInstrument.ensures refl;
       book = held c.args.r.now.src.now 36 (f.Code codes.Books) 24 codes.ByInstrument 9 _ c.in-CompIdInstrument.ensures refl (ap figure c.code-in-CompIdInstrument.ensures);
-      places = placed_first c.args.r.now.src.now 9 c.in-CompIdInstrument.ensures refl refl c.text_in-CompIdInstrument.ensures.offset;
+      places = placed_first c.args.r.now.src.now 9 c.in-CompIdInstrument.ensures refl refl c.text-in-CompIdInstrument.ensures.offset;
     }
 
 pub returns-in-CompIdSegment : goal.returns-in-CompIdSegment
@@ -79,7 +76,7 @@ returns-in-CompIdSegment c =
     record {
       code = ap figure c.in-CompIdSegment.ensures;
       symbol = unheld c.args.r.now.src.now 25 (f.Text 6) 24 codes.ByInstrument 15 c.in-CompIdSegment.ensures refl;
-      segment = held c.args.r.now.src.now 31 (f.Text 4) 24 codes.BySegment 15 _ c.in-CompIdSegment.ensures refl (ap words c.text_in-CompIdSegment.ensures.bytes);
+      segment = held c.args.r.now.src.now 31 (f.Text 4) 24 codes.BySegment 15 _ c.in-CompIdSegment.ensures refl (ap words c.text-in-CompIdSegment.ensures.bytes);
       book = unheld c.args.r.now.src.now 36 (f.Code codes.Books) 24 codes.ByInstrument 15 c.in-CompIdSegment.ensures refl;
-      places = placed-second c.args.r.now.src.now 15 c.in-CompIdSegment.ensures refl refl c.text_in-CompIdSegment.ensures.offset;
+      places = placed-second c.args.r.now.src.now 15 c.in-CompIdSegment.ensures refl refl c.text-in-CompIdSegment.ensures.offset;
     }

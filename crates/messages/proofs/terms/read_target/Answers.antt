@@ -1,16 +1,14 @@
-use Rattle.std.proofs.Common.{◌+◌, refl, ap, w32, w64, to_z, rules}
+use Rattle.std.proofs.Common.{◌+◌, refl, ap}
 use Rattle.codes.specs.declared.lists.Codes.TheVariants as codes
 use Rattle.layout.specs.declared.field.Form.TheVariants as f
 use Rattle.layout.specs.Layout.{taken}
-use Rattle.layout.specs.Layout.Content.{words, figure, int32, price}
-use Rattle.messages.proofs.Pair.{consed}
+use Rattle.layout.specs.Layout.Content.{figure}
 use Rattle.messages.proofs.Relevant.{unheld, held, ok-held}
 use Rattle.messages.proofs.terms.read_target.Goals as goal
 
-pub code-requires : goal.code-requires
+pub code-requires-clause-listed : goal.code-requires-clause-listed
 unfolding taken
-code-requires c =
-    (search rules, ok-held c.args.r.now.src.now (c.args.at + 1) (f.Code codes.ExecInstructions) c.args.at codes.DarkOnly 0 c.in-DarkMidpoint.ensures refl c.requires.2)
+code-requires-clause-listed c = ok-held c.args.r.now.src.now (c.args.at + 1) (f.Code codes.ExecInstructions) c.args.at codes.DarkOnly 0 c.in-DarkMidpoint.ensures refl c.requires.instruction_taken
 
 pub returns-in-DarkMidpoint : goal.returns-in-DarkMidpoint
 unfolding taken

@@ -1,4 +1,4 @@
-use Rattle.std.proofs.Common.{◌≡◌, ◌<◌, ◌≤◌, [], map, length, sym, ap, ◌∙◌, arith, rules}
+use Rattle.std.proofs.Common.{◌<◌, ◌≤◌, [], length, rules}
 use Rattle.std.proofs.lemmas.List.{length-map}
 use Rattle.layout.specs.declared.value.Value.TheVariants as value
 use Rattle.layout.specs.Values.{meant}

@@ -16,9 +16,9 @@ pub returns-then-u8-ne2 : goal.returns-then-u8-ne2
 unfolding opening
 returns-then-u8-ne2 c = search rules
 
-pub returns-in-default : goal.returns-in-default
+pub returns-in_default : goal.returns-in_default
 unfolding opening
-returns-in-default c = search rules
+returns-in_default c = search rules
 
 pub returns-then-total : goal.returns-then-total
 unfolding opening

@@ -6,4 +6,4 @@ use Rattle.inspector.proofs.account.Account.show_all.Goals as goal
 pub returns : goal.returns
 returns c =
     four-parts (string_bytes c.args.out.now) _ _ _ _ (totalsText c.args.self.now) (firstRulesText c.args.self.now) (lastRulesText c.args.self.now) _
-    c.in-ok-show-totals.ensures c.in-ok-show-first-rules.ensures c.in-ok-show-last-rules.ensures c.in-ok-write.ensures.bytes
+    c.in_ok-show_totals.ensures c.in_ok-show_first_rules.ensures c.in_ok-show_last_rules.ensures c.in_ok-write.ensures.bytes

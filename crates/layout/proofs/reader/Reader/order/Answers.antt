@@ -1,4 +1,4 @@
-use Rattle.std.proofs.Common.{◌≡◌, ap, ◌∙◌}
+use Rattle.std.proofs.Common.{ap, ◌∙◌}
 use Rattle.texts.specs.Identifiers.{number_of}
 use Rattle.layout.specs.Layout.{order_at}
 use Rattle.layout.proofs.Parts.{cut}
