@@ -2,9 +2,9 @@
 #![tactic(auto)]
 
 use auction_script::account::Account;
+use auction_script::command;
 use auction_script::command::Command;
 use auction_script::ladder::ladder;
-use auction_script::{command, text};
 use lit_book::book::LitBook;
 use matching::matcher::{Event, Matcher, Refusal};
 use std::io;
@@ -19,10 +19,7 @@ fn answer(
     account.call(res);
     match res {
         Ok(()) => println!(rt; "{done}"),
-        Err(reason) => {
-            let why = text::refusal(reason);
-            println!(rt; "refused: {why}")
-        }
+        Err(reason) => println!(rt; "refused: {reason}"),
     }
 }
 
@@ -31,7 +28,7 @@ fn run(rt: &HostRuntime, account: &mut Account, book: &mut LitBook) -> io::Resul
     for _ in 0..=book.most_events() {
         let event = book.next_event();
         account.event(event);
-        rt.println(text::event(rt.alloc(), event)?)?;
+        rt.println(event)?;
         if let Event::Nothing = event {
             break;
         }
@@ -42,7 +39,7 @@ fn run(rt: &HostRuntime, account: &mut Account, book: &mut LitBook) -> io::Resul
 fn show(rt: &HostRuntime, book: &LitBook) -> io::Result<()> {
     let shown = ladder(rt.alloc(), book.resting())?;
     for order in shown.iter() {
-        rt.println(text::order(rt.alloc(), *order)?)?;
+        rt.println(*order)?;
     }
     let waiting = book.waiting().len();
     println!(rt; "waiting: {waiting}")
@@ -79,10 +76,7 @@ fn line(rt: &HostRuntime, account: &mut Account, book: &mut LitBook, text: &str)
     }
     match command::read(&words) {
         Ok(order) => obey(rt, account, book, order),
-        Err(word) => {
-            let what = text::misread(word);
-            println!(rt; "not read: {what}")
-        }
+        Err(word) => println!(rt; "not read: {word}"),
     }
 }
 

@@ -1,10 +1,12 @@
 // One line of a script as a command.
-ghost use Rattle.std.specs.Prelude.{◌≡◌, length, codes};
+ghost use Rattle.std.specs.Prelude.{◌≡◌, length, codes, Some};
+ghost use Rattle.auction_script.specs.Texts.{misread_text};
 ghost use Rattle.auction_script.specs.Commands.{AmendRead, BareRead, CancelRead, EnterLine, EnterRead, LineRead, Named, word};
 
 use crate::words;
 use crate::words::Kind;
 use matching::terms::{Book, OrderType, Terms};
+use std::fmt;
 
 #[derive(Clone, Copy)]
 pub enum Command {
@@ -31,6 +33,23 @@ pub enum Misread {
     Quantity,
 }
 
+impl fmt::Display for Misread {
+    ghost output = { λ word. Some (misread_text word) };
+
+    fn fmt<W: fmt::Write>(&self, f: &mut fmt::Formatter<W>) -> fmt::Result {
+        f.write_str(match self {
+            Misread::Call => "call",
+            Misread::Number => "number",
+            Misread::Instrument => "instrument",
+            Misread::Side => "side",
+            Misread::OrderType => "order type",
+            Misread::TimeInForce => "force",
+            Misread::Price => "price",
+            Misread::Quantity => "quantity",
+        })
+    }
+}
+
 // The words after `enter`: NUMBER INSTRUMENT buy|sell market|limit day|ioc PRICE QTY. A market order's price is read and
 // not kept.
 fn enter(
@@ -44,27 +63,13 @@ fn enter(
 ) -> Result<Command, Misread>
     ensures { EnterRead number.now instrument.now side.now kind.now force.now price.now quantity.now result }
 {
-    let Some(number) = words::number(number) else {
-        return Err(Misread::Number);
-    };
-    let Some(instrument) = words::instrument(instrument) else {
-        return Err(Misread::Instrument);
-    };
-    let Some(side) = words::side(side) else {
-        return Err(Misread::Side);
-    };
-    let Some(kind) = words::kind_of(kind) else {
-        return Err(Misread::OrderType);
-    };
-    let Some(time_in_force) = words::force(force) else {
-        return Err(Misread::TimeInForce);
-    };
-    let Some(price) = words::price(price) else {
-        return Err(Misread::Price);
-    };
-    let Some(quantity) = words::quantity(quantity) else {
-        return Err(Misread::Quantity);
-    };
+    let number = words::number(number).ok_or(Misread::Number)?;
+    let instrument = words::instrument(instrument).ok_or(Misread::Instrument)?;
+    let side = words::side(side).ok_or(Misread::Side)?;
+    let kind = words::kind_of(kind).ok_or(Misread::OrderType)?;
+    let time_in_force = words::force(force).ok_or(Misread::TimeInForce)?;
+    let price = words::price(price).ok_or(Misread::Price)?;
+    let quantity = words::quantity(quantity).ok_or(Misread::Quantity)?;
     let order_type = match kind {
         Kind::AtMarket => OrderType::Market,
         Kind::AtLimit => OrderType::Limit(price),
@@ -89,10 +94,8 @@ fn cancel(name: &str, number: &str) -> Result<Command, Misread>
     if name != "cancel" {
         return Err(Misread::Call);
     }
-    match words::number(number) {
-        Some(number) => Ok(Command::Cancel(number)),
-        None => Err(Misread::Number),
-    }
+    let number = words::number(number).ok_or(Misread::Number)?;
+    Ok(Command::Cancel(number))
 }
 
 // `amend NUMBER QTY PRICE`.
@@ -102,15 +105,9 @@ fn amend(name: &str, number: &str, quantity: &str, price: &str) -> Result<Comman
     if name != "amend" {
         return Err(Misread::Call);
     }
-    let Some(number) = words::number(number) else {
-        return Err(Misread::Number);
-    };
-    let Some(quantity) = words::quantity(quantity) else {
-        return Err(Misread::Quantity);
-    };
-    let Some(price) = words::price(price) else {
-        return Err(Misread::Price);
-    };
+    let number = words::number(number).ok_or(Misread::Number)?;
+    let quantity = words::quantity(quantity).ok_or(Misread::Quantity)?;
+    let price = words::price(price).ok_or(Misread::Price)?;
     Ok(Command::Amend(number, quantity, price))
 }
 
@@ -118,13 +115,11 @@ fn amend(name: &str, number: &str, quantity: &str, price: &str) -> Result<Comman
 fn bare(name: &str) -> Result<Command, Misread>
     ensures { BareRead name.now result }
 {
-    if name == "run" {
-        return Ok(Command::Run);
+    match name {
+        "run" => Ok(Command::Run),
+        "book" => Ok(Command::Show),
+        _ => Err(Misread::Call),
     }
-    if name == "book" {
-        return Ok(Command::Show);
-    }
-    Err(Misread::Call)
 }
 
 // A line of eight words: `enter` and seven more.

@@ -13,71 +13,53 @@ pub(crate) enum Kind {
 pub(crate) fn side(word: &str) -> Option<Side>
     ensures { SideWord word.now result }
 {
-    if word == "buy" {
-        return Some(Side::Buy);
+    match word {
+        "buy" => Some(Side::Buy),
+        "sell" => Some(Side::Sell),
+        _ => None,
     }
-    if word == "sell" {
-        return Some(Side::Sell);
-    }
-    None
 }
 
 pub(crate) fn kind_of(word: &str) -> Option<Kind>
     ensures { KindWord word.now result }
 {
-    if word == "market" {
-        return Some(Kind::AtMarket);
+    match word {
+        "market" => Some(Kind::AtMarket),
+        "limit" => Some(Kind::AtLimit),
+        _ => None,
     }
-    if word == "limit" {
-        return Some(Kind::AtLimit);
-    }
-    None
 }
 
 pub(crate) fn force(word: &str) -> Option<TimeInForce>
     ensures { ForceWord word.now result }
 {
-    if word == "day" {
-        return Some(TimeInForce::Day);
+    match word {
+        "day" => Some(TimeInForce::Day),
+        "ioc" => Some(TimeInForce::ImmediateOrCancel),
+        _ => None,
     }
-    if word == "ioc" {
-        return Some(TimeInForce::ImmediateOrCancel);
-    }
-    None
 }
 
 pub(crate) fn number(word: &str) -> Option<u64>
     ensures { NumberWord 64 word.now result }
 {
-    match word.parse::<u64>() {
-        Ok(n) => Some(n),
-        Err(_) => None,
-    }
+    word.parse().ok()
 }
 
 pub(crate) fn quantity(word: &str) -> Option<u32>
     ensures { NumberWord 32 word.now result }
 {
-    match word.parse::<u32>() {
-        Ok(n) => Some(n),
-        Err(_) => None,
-    }
+    word.parse().ok()
 }
 
 pub(crate) fn instrument(word: &str) -> Option<u8>
     ensures { NumberWord 8 word.now result }
 {
-    match word.parse::<u8>() {
-        Ok(n) => Some(n),
-        Err(_) => None,
-    }
+    word.parse().ok()
 }
 
 pub(crate) fn price(word: &str) -> Option<i64>
     ensures { PriceWord word.now result }
 {
-    match word.parse::<i64>() {
-        Ok(n) => Some(n),
-        Err(_) => None,
-    }
+    word.parse().ok()
 }

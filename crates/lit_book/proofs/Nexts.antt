@@ -1,5 +1,5 @@
 -- What comes next, by the oldest waiting order. Assumes nothing.
-use Rattle.std.proofs.Common.{◌≡◌, ℕ, ◌<◌, true, false, List, [], ◌∷◌, ◌++◌, length, drop, Some, None, Option, sym, refl, ap, ◌∙◌, arith}
+use Rattle.std.proofs.Common.{◌≡◌, ℕ, true, false, List, [], ◌∷◌, ◌++◌, drop, Some, None, Option, sym, refl, ap, ◌∙◌, arith}
 use Rattle.std.proofs.lemmas.Bool.{cond-true, cond-false}
 use Rattle.std.specs.List.{slice_get}
 use Rattle.matching.specs.declared.matcher.Event.TheVariants.{Nothing, Expired}
@@ -49,7 +49,3 @@ next-rest b b' a e f r g h =
     ∙ sym (unrolled b a e
     ∙ ap (λ (x : Option Order). outcome b a x (next_of (b.resting ++ a ∷ []) (drop 1 b.waiting))) (sym f)
     ∙ cond-true (rests a) _ _ r)
-
-pub one_fewer : (ws vs : List Order) (a : Order) → Some a ≡ slice_get ws 0 → vs ≡ drop 1 ws → length vs < length ws
-one_fewer [] vs a e f = absurd (clash a (sym e))
-one_fewer (w ∷ ws) vs a e f = let g = ap length f in omega arith

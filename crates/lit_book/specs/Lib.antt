@@ -5,3 +5,4 @@ pub mod Turns
 pub mod Books
 pub mod Steps
 pub mod Laws
+pub mod Texts

@@ -1,5 +1,5 @@
 -- Lists of the book's orders: who is found under a number, the best of those at rest, a change of one order. Assumes nothing.
-use Rattle.std.specs.Prelude.{ℕ, Bool, true, false, cond, not, ◌&&◌, List, [], ◌∷◌, ◌++◌, Some, None, Option, ◌==◌, nat_lt}
+use Rattle.std.specs.Prelude.{ℕ, Bool, true, false, cond, not, ◌&&◌, List, [], ◌∷◌, ◌++◌, fold, Some, None, Option, ◌==◌, nat_lt}
 use Rattle.matching.specs.Look.{look, distinct, Found}
 use Rattle.matching.specs.declared.matcher.Held.{Held}
 use Rattle.lit_book.specs.declared.order.Order.{Order}
@@ -34,8 +34,7 @@ abbrev pub chosen : Order → Order → Option Order → Option Order
 chosen a o r = cond (crosses a o && improves a o r) (Some o) r
 
 abbrev pub best-from : Order → Option Order → List Order → Option Order
-best-from a r [] = r
-best-from a r (o ∷ os) = best-from a (chosen a o r) os
+best-from a r os = fold (λ b o. chosen a o b) r os
 
 abbrev pub best : Order → List Order → Option Order
 best a os = best-from a None os

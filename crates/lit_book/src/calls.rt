@@ -8,7 +8,7 @@ ghost use Rattle.lit_book.specs.Laws.{Enough, Fair, Idle, Served, Uncrossed, Wor
 ghost use Rattle.lit_book.specs.Rules.{Lit, altered, amended, entered, next, order-of, order-under};
 ghost use Rattle.lit_book.specs.Lists.{order-held, order-number};
 ghost use Rattle.matching.specs.RowsLemmas.{rows-finite};
-ghost use Rattle.std.proofs.Common.{rules, arith};
+ghost use Rattle.std.proofs.Common.{rules};
 
 use crate::book::LitBook;
 use crate::order::Order;
@@ -64,7 +64,7 @@ impl Matcher for LitBook {
 
     ghost finite = { λ m. rows-finite order-number order-held 256 lit-serves m.orders.items m.apart };
 
-    ghost bounded = { first_of (Prim.search rules, Prim.grind (arith, Self.row.coded.inj)) };
+    ghost bounded = { Prim.search rules };
 
     fn enter(&mut self, number: u64, terms: Terms) -> Result<(), Refusal>
         ensures refusal { result_err result ≡ enter-refusal (lit-meaning self.old) number terms.quantity }

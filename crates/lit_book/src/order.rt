@@ -1,10 +1,13 @@
 // An order of the book, and the questions that matching asks of it.
-ghost use Rattle.std.specs.Prelude.{◌≡◌};
-ghost use Rattle.lit_book.specs.Lists.{chosen};
+ghost use Rattle.std.specs.Prelude.{◌≡◌, Some};
+ghost use Rattle.lit_book.specs.Lists.{chosen, order-number};
+ghost use Rattle.lit_book.specs.Texts.{order_text};
 ghost use Rattle.lit_book.specs.Rules.{goes_back};
 ghost use Rattle.lit_book.specs.Orders.{accepts, better, crosses, opposes, price, repriced, reprices, rests, sized};
 
+use matching::numbered::Numbered;
 use matching::terms::{OrderType, Side, TimeInForce};
+use std::fmt;
 
 #[derive(Clone, Copy)]
 pub struct Order {
@@ -14,6 +17,28 @@ pub struct Order {
     pub order_type: OrderType,
     pub time_in_force: TimeInForce,
     pub quantity: u32,
+}
+
+impl Numbered for Order {
+    ghost key = { order-number };
+
+    fn number(&self) -> u64 {
+        self.number
+    }
+}
+
+// An order as the book shows it: what it wants, at which price, and its number.
+impl fmt::Display for Order {
+    ghost output = { λ order. Some (order_text order) };
+
+    fn fmt<W: fmt::Write>(&self, f: &mut fmt::Formatter<W>) -> fmt::Result {
+        let instrument = self.instrument;
+        let side = self.side;
+        let quantity = self.quantity;
+        let price = self.order_type;
+        let number = self.number;
+        write!(f, "{instrument} {side} {quantity} at {price}: {number}")
+    }
 }
 
 impl Order {

@@ -52,12 +52,10 @@ impl LitBook {
     fn best_for(&self, order: Order) -> Option<Order>
         ensures { result ≡ best order (lit self.now).resting }
     {
-        let mut found = None;
-        for i in 0..self.resting {
-            let other = self.orders[i];
-            found = order.chosen(other, found);
-        }
-        found
+        let resting = &self.orders[..self.resting];
+        resting
+            .iter()
+            .fold(None, |found, other| order.chosen(*other, found))
     }
 
     // Leaves of the order of a number what is left of it.

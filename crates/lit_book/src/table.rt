@@ -12,6 +12,7 @@ ghost use Rattle.lit_book.specs.Rules.{altered, entered};
 use crate::book::LitBook;
 use crate::order::Order;
 use matching::matcher::Held;
+use matching::numbered::place_of;
 
 impl LitBook {
     // The place of the order of a number.
@@ -19,12 +20,7 @@ impl LitBook {
         ensures found { FoundOrder (table self.now) number result }
         ensures test { is_some result ≡ is_some ((lit-meaning self.now).orders number) }
     {
-        for i in 0..self.orders.len() {
-            if self.orders[i].number == number {
-                return Some(i);
-            }
-        }
-        None
+        place_of(&self.orders, number)
     }
 
     // How many orders are open, which is how many events can come.

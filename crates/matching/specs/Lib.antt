@@ -5,3 +5,4 @@ pub mod TapeRows
 pub mod Tapes
 pub mod RowsLemmas
 pub mod Looks
+pub mod Texts

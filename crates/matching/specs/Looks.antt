@@ -1,8 +1,12 @@
 -- What a change of the rows does to a look-up. Assumes nothing.
-use Rattle.std.specs.Prelude.{◌≡◌, ℕ, zero, suc, ◌<◌, Bool, true, false, cond, not, ◌⊎◌, List, [], ◌∷◌, ◌++◌, length, take, drop, is_some, Some, None, Option, ◌==◌, ◌≢◌, nat_eq, slice_index_or, slice_set, refl}
+use Rattle.std.specs.Prelude.{◌≡◌, ℕ, zero, suc, ◌+◌, ◌<◌, ◌≤◌, Bool, true, false, cond, not, ◌⊎◌, List, [], ◌∷◌, ◌++◌, length, take, drop, is_some, Some, None, Option, ◌==◌, ◌≢◌, nat_eq, slice_index_or, slice_set, refl}
 use Rattle.std.proofs.Common.{sym, ap, ◌∙◌, subst, inl, inr, arith}
 use Rattle.std.proofs.Math.Path.{fun_ext}
-use Rattle.std.proofs.lemmas.Bool.{eq-eqb, ne_eqb, cond-true, cond-false, cases_eq, eqb-false, both_ways, and_parts, and_from}
+use Rattle.std.proofs.lemmas.Bool.{eq-eqb, ne_eqb, cond-true, cond-false, cases_eq, eqb-false, both_ways, and_parts, and_from, eqb-true}
+use Rattle.std.specs.List.{position, position_or_len}
+use Rattle.std.proofs.lemmas.Grind.{common_steps}
+use Rattle.std.proofs.lemmas.List.{take_all}
+use Rattle.std.proofs.lemmas.List.Quantifiers.{position-Some}
 use Rattle.std.specs.Map.{update}
 use Rattle.matching.specs.Look as spec
 
@@ -99,14 +103,6 @@ module _ {X V : Type 0} (key : X → ℕ) (val : X → V) where
       let p = passes (n == key x) (val x) (look (take i xs) n) k in
       over x n m _ _ _ p.0 (look-without xs i n u (omega arith) p.1 at m) (cases_eq m (key x))
 
-  -- a key that no row has stays away
-  none-update : (n m : ℕ) (y : Option V) → y ≡ None → cond (m == n) None y ≡ None
-  none-update n m y e = go (m == n)
-    where
-      go : (b : Bool) → cond b None y ≡ None
-      go true = refl
-      go false = e
-
   pub distinct_push : (xs : List X) (y : X) → Distinct xs → look xs (key y) ≡ None → Distinct (xs ++ (y ∷ []))
   distinct_push [] y u h = (refl, tt)
   distinct_push (x ∷ xs) y (new, u) h =
@@ -141,3 +137,32 @@ module _ {X V : Type 0} (key : X → ℕ) (val : X → V) where
   distinct-set [] i y same u = tt
   distinct-set (x ∷ xs) zero y same u = (subst (λ n. look xs n ≡ None) (same x (omega arith)) u.0, u.1)
   distinct-set (x ∷ xs) (suc i) y same u = (look-none-set xs i (key x) y (λ d l. same d (omega arith)) u.0, distinct-set xs i y (λ d l. same d (omega arith)) u.1)
+
+  -- a search for the key finds the first row that has it
+  unmatched : (xs : List X) (n i : ℕ) → i ≤ position_or_len (λ x. nat_eq (key x) n) xs → look (take i xs) n ≡ None
+  unmatched [] n zero le = refl
+  unmatched [] n (suc i) le = refl
+  unmatched (x ∷ xs) n zero le = refl
+  unmatched (x ∷ xs) n (suc i) le = go (cases_eq n (key x)) le (unmatched xs n i)
+    where
+      go : (n ≡ key x) ⊎ (n ≢ key x) → suc i ≤ cond (not (nat_eq (key x) n)) (1 + position_or_len (λ x. nat_eq (key x) n) xs) 0
+          → (i ≤ position_or_len (λ x. nat_eq (key x) n) xs → look (take i xs) n ≡ None) → look (x ∷ take i xs) n ≡ None
+      go (inl q) h rest = let t : nat_eq (key x) n ≡ true = eq-eqb _ _ (sym q) in absurd (let z : suc i ≤ 0 = rw t at h in omega arith)
+      go (inr ne) h rest =
+          let t : nat_eq (key x) n ≡ false = ne_eqb _ _ (λ q. ne (sym q)) in
+          let z : suc i ≤ 1 + position_or_len (λ x. nat_eq (key x) n) xs = rw t at h in
+          cond-false _ _ _ (ne_eqb _ _ ne) ∙ rest (omega arith)
+
+  pub position-found : (xs : List X) (n : ℕ) (r : Option ℕ) → r ≡ position (λ x. nat_eq (key x) n) xs → spec.Found key val xs n r
+  position-found xs n None e =
+      let le : length xs ≤ position_or_len (λ x. nat_eq (key x) n) xs = grind (arith, common_steps) in
+      ap (λ ys. look ys n) (sym (take_all (length xs) xs (omega arith))) ∙ unmatched xs n (length xs) le
+  position-found xs n (Some i) e =
+      let at : position_or_len (λ x. nat_eq (key x) n) xs ≡ i = grind (arith, common_steps) in
+      let lt : i < length xs = grind (arith, common_steps) in
+      (lt, unmatched xs n i (omega arith), λ d. eqb-true _ _ (position-Some (λ x. nat_eq (key x) n) xs i d (sym e)).1)
+
+  pub position-tells : (xs : List X) (n : ℕ) (r : Option ℕ) → spec.Found key val xs n r → is_some r ≡ is_some (look xs n)
+  position-tells xs n None f = sym (ap is_some f)
+  position-tells [] n (Some i) f = absurd (let z : i < 0 = f.0 in omega arith)
+  position-tells (x ∷ xs) n (Some i) f = sym (ap is_some (look_at (x ∷ xs) i n x f.0 f.1 f.2))

@@ -2,6 +2,7 @@
 #![tactic(auto)]
 
 pub mod matcher;
+pub mod numbered;
 pub mod tape;
 mod tape_calls;
 mod tape_rows;

@@ -3,11 +3,13 @@
 //
 // Every contract gives the whole meaning after the call, so what it does not name stays. Which event comes next is left
 // open: code above is proved for every engine.
-ghost use Rattle.std.specs.Prelude.{◌≡◌, ◌≤◌, is_some, is_ok, if◌then◌else◌, ◌==◌};
+ghost use Rattle.std.specs.Prelude.{◌≡◌, ◌≤◌, Some, is_some, is_ok, if◌then◌else◌, ◌==◌};
 ghost use Rattle.std.specs.Result.{result_err};
+ghost use Rattle.matching.specs.Texts.{event_text, party_text, refusal_text};
 ghost use Rattle.matching.specs.Meaning.{Meaning, Finite, open-quantity, opened, closed, resized, enter-refusal, cancel-refusal, amend-refusal, Allowed, happened};
 
 use crate::terms::{Book, Terms};
+use std::fmt;
 
 // An open order as every engine knows it.
 #[derive(Clone, Copy, PartialEq, Eq, Debug)]
@@ -28,6 +30,19 @@ pub enum Refusal {
     NotOpen,
 }
 
+impl fmt::Display for Refusal {
+    ghost output = { λ reason. Some (refusal_text reason) };
+
+    fn fmt<W: fmt::Write>(&self, f: &mut fmt::Formatter<W>) -> fmt::Result {
+        f.write_str(match self {
+            Refusal::NoQuantity => "no quantity",
+            Refusal::NumberOpen => "number open",
+            Refusal::Full => "full",
+            Refusal::NotOpen => "not open",
+        })
+    }
+}
+
 #[derive(Clone, Copy, PartialEq, Eq, Debug)]
 pub enum Event {
     Nothing,
@@ -40,6 +55,42 @@ pub enum Event {
         quantity: u32,
         price: i64,
     },
+}
+
+impl fmt::Display for Event {
+    ghost output = { λ event. Some (event_text event) };
+
+    fn fmt<W: fmt::Write>(&self, f: &mut fmt::Formatter<W>) -> fmt::Result {
+        match self {
+            Event::Nothing => f.write_str("nothing"),
+            Event::Expired(number) => write!(f, "expired {number}"),
+            Event::Trade {
+                passive,
+                aggressive,
+                quantity,
+                price,
+            } => {
+                let maker = Party(*passive);
+                let taker = Party(*aggressive);
+                write!(f, "trade {quantity} at {price}: {taker} with {maker}")
+            }
+        }
+    }
+}
+
+// One side of a trade; a dash where it is not named.
+#[derive(Clone, Copy)]
+struct Party(Option<u64>);
+
+impl fmt::Display for Party {
+    ghost output = { λ party. Some (party_text party.0) };
+
+    fn fmt<W: fmt::Write>(&self, f: &mut fmt::Formatter<W>) -> fmt::Result {
+        match self.0 {
+            Some(number) => write!(f, "{number}"),
+            None => f.write_str("-"),
+        }
+    }
 }
 
 pub trait Matcher {

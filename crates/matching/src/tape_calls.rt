@@ -6,7 +6,7 @@ ghost use Rattle.matching.specs.Meaning.{Allowed, amend-refusal, cancel-refusal,
 ghost use Rattle.matching.specs.Tapes.{ahead, played, tape-meaning};
 ghost use Rattle.matching.specs.TapeRows.{row_number, row-held};
 ghost use Rattle.matching.specs.RowsLemmas.{rows-finite};
-ghost use Rattle.std.proofs.Common.{rules, arith};
+ghost use Rattle.std.proofs.Common.{rules};
 
 use crate::matcher::{Event, Held, Matcher, Refusal};
 use crate::tape::{Line, Row, Tape};
@@ -31,7 +31,7 @@ impl Matcher for Tape {
 
     ghost finite = { λ m. rows-finite row_number row-held 64 (λ _. true) m.rows.items m.apart };
 
-    ghost bounded = { first_of (Prim.search rules, Prim.grind (arith, Self.row.coded.inj)) };
+    ghost bounded = { Prim.search rules };
 
     fn enter(&mut self, number: u64, terms: Terms) -> Result<(), Refusal>
         ensures refusal { result_err result ≡ enter-refusal (tape-meaning self.old) number terms.quantity }

@@ -1,11 +1,20 @@
 // The tape's open orders: found by number, added, ended and changed. Each says what it does to the tape's meaning.
 ghost use Rattle.std.specs.Prelude.{◌≡◌, ◌<◌, ◌≤◌, true, false, is_some, Some, vec_len, MatchOption};
 ghost use Rattle.matching.specs.Meaning.{closed, filled, happened, open-quantity, opened, resized};
-ghost use Rattle.matching.specs.TapeRows.{FoundRow, row-held};
+ghost use Rattle.matching.specs.TapeRows.{FoundRow, row-held, row_number};
 ghost use Rattle.matching.specs.Tapes.{NextLine, ahead, fits, played, tape-meaning, trade};
 
 use crate::matcher::{Event, Held};
+use crate::numbered::{Numbered, place_of};
 use crate::tape::{Line, Row, Tape};
+
+impl Numbered for Row {
+    ghost key = { row_number };
+
+    fn number(&self) -> u64 {
+        self.number
+    }
+}
 
 impl Tape {
     // The place of the order of a number.
@@ -13,12 +22,7 @@ impl Tape {
         ensures found { FoundRow self.now.rows.items number result }
         ensures test { is_some result ≡ is_some ((tape-meaning self.now).orders number) }
     {
-        for i in 0..self.rows.len() {
-            if self.rows[i].number == number {
-                return Some(i);
-            }
-        }
-        None
+        place_of(&self.rows, number)
     }
 
     // One more open order, of a number that has none.

@@ -1,9 +1,24 @@
 // What an order asks for, in a matching engine's own terms.
+ghost use Rattle.std.specs.Prelude.{Some};
+ghost use Rattle.matching.specs.Texts.{price_text, side_text};
+
+use std::fmt;
 
 #[derive(Clone, Copy, PartialEq, Eq)]
 pub enum Side {
     Buy,
     Sell,
+}
+
+impl fmt::Display for Side {
+    ghost output = { λ side. Some (side_text side) };
+
+    fn fmt<W: fmt::Write>(&self, f: &mut fmt::Formatter<W>) -> fmt::Result {
+        f.write_str(match self {
+            Side::Buy => "buy",
+            Side::Sell => "sell",
+        })
+    }
 }
 
 #[derive(Clone, Copy)]
@@ -12,6 +27,18 @@ pub enum OrderType {
     Market,
     // at this price or a better one
     Limit(i64),
+}
+
+// The price that it asks for.
+impl fmt::Display for OrderType {
+    ghost output = { λ order_type. Some (price_text order_type) };
+
+    fn fmt<W: fmt::Write>(&self, f: &mut fmt::Formatter<W>) -> fmt::Result {
+        match self {
+            OrderType::Market => f.write_str("market"),
+            OrderType::Limit(price) => write!(f, "{price}"),
+        }
+    }
 }
 
 #[derive(Clone, Copy, PartialEq, Eq)]

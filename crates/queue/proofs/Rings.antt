@@ -1,7 +1,7 @@
 -- Laws of a ring.
-use Rattle.std.proofs.Common.{◌≡◌, ℕ, suc, ◌+◌, ◌-◌, ◌<◌, ◌≤◌, min, true, false, cond, ltb, List, [], ◌∷◌, ◌++◌, length, get_or, take, drop, set, Some, sym, refl, ap, ◌∙◌, inl, inr, ⊎_elim, arith}
+use Rattle.std.proofs.Common.{◌≡◌, ℕ, suc, ◌+◌, ◌-◌, ◌<◌, ◌≤◌, min, ltb, List, [], ◌∷◌, ◌++◌, length, get_or, take, drop, set, Some, sym, ap, ◌∙◌, inl, inr, arith}
 use lib.Seq.{take-set-lt}
-use Rattle.std.proofs.lemmas.List.{length-append, take-append-drop, length-drop, length-take, length-take-le, take-take, drop_all, take-append-le, drop-append-le, append_assoc, append-nil, take_more, drop-drop, take_all, take_more_set, drop-set-add, take-set-le, set-append_left, drop-set-lt, set-append_right, get_or_append_left, get_or-append_right, get_or-drop, get_or-take, same_lists, drop_more}
+use Rattle.std.proofs.lemmas.List.{length-append, take-append-drop, length-drop, length-take, length-take-le, take-take, drop_all, take-append-le, drop-append-le, append_assoc, append-nil, take_more, drop-drop, take_all, take_more_set, drop-set-add, take-set-le, set-append_left, drop-set-lt, set-append_right, get_or_append_left, get_or-append_right, get_or-drop, get_or-take, same_lists}
 use Rattle.std.proofs.lemmas.Bool.{cond_both, ltb-true, ltb-false, cases_lt}
 use Rattle.std.proofs.lemmas.Option.{slice_get-get_or}
 use Rattle.std.specs.List.{slice_get, remove}
@@ -88,29 +88,12 @@ ring-again xs h n =
           ap (λ (m : ℕ). take m (turned xs h)) (ring_long xs h n ge) ∙ take_all (length xs) (turned xs h) (omega arith) ∙ sym (take_all n (turned xs h) (omega arith))
     ]
 
-pub ring-read : {X : Type 0} (xs : List X) (h n k : ℕ) (x : X) → k < length (ring xs h n) → x ≡ get_or (turned xs h) k x → slice_get (ring xs h n) k ≡ Some x
-ring-read xs h n k x lt e =
-    slice_get-get_or (ring xs h n) k x lt
-    ∙ ap (λ (l : List _). Some (get_or l k x)) (sym (ring-again xs h n))
-    ∙ ap Some (get_or-take (length (ring xs h n)) (turned xs h) k x lt ∙ sym e)
-
-pub ring-push : {X : Type 0} (xs ys : List X) (h n : ℕ) (x : X) → length (ring xs h n) < length xs → turned ys h ≡ set (turned xs h) (length (ring xs h n)) x → ring ys h (length (ring xs h n) + 1) ≡ ring xs h n ++ x ∷ []
-ring-push xs ys h n x lt e =
-    let t = turned-length xs h in
-    ap (take (length (ring xs h n) + 1)) e
-    ∙ take_more_set (turned xs h) (length (ring xs h n)) x (omega arith)
-    ∙ ap (λ (l : List _). l ++ x ∷ []) (ring-again xs h n)
-
 pub ring-pop : {X : Type 0} (xs : List X) (h n : ℕ) → 0 < length (ring xs h n) → ring xs (placed h 1 (length xs)) (length (ring xs h n) - 1) ≡ drop 1 (ring xs h n)
 ring-pop xs h n lt =
     sym (turned-next xs h (length (ring xs h n)) lt (ring-bound xs h n)) ∙ ap (drop 1) (ring-again xs h n)
 
 pub ring-length : {X : Type 0} (xs : List X) (h n : ℕ) → length (ring xs h n) ≡ min n (length xs)
 ring-length xs h n = length-take n (turned xs h) ∙ ap (min n) (turned-length xs h)
-
-pub none_left : {X : Type 0} (xs : List X) → length xs ≡ 0 → xs ≡ drop 1 xs
-none_left [] e = refl
-none_left (x ∷ xs) e = absurd (omega arith)
 
 -- one element less, from the middle
 pub removed-first : {X : Type 0} (xs : List X) (i : ℕ) → take i xs ≡ remove (take (i + 1) xs) i

@@ -2,8 +2,7 @@
 use Rattle.std.proofs.Common.{◌≡◌, ℕ, zero, suc, ◌+◌, ◌-◌, ◌*◌, ◌/◌, ◌^◌, ◌<◌, ◌≤◌, Bool, true, false, cond, eqb, List, [], ◌∷◌, ◌++◌, length, take, drop, replicate, refl, ap, ◌∙◌, pow-suc, arith, length-append, length-drop, take-append-drop, lt-ltb, eqb-true}
 use lib.ListN.{length-replicate}
 use Rattle.std.specs.List.{prefix_len}
-use lib.Seq.{paste}
-use Rattle.std.proofs.lemmas.List.{take_at, drop_at, length-take-le, drop_all, take_all, drop-replicate}
+use Rattle.std.proofs.lemmas.List.{take_at, drop_at, length-take-le, drop_all, take_all}
 use Rattle.std.proofs.lemmas.List.Sums.{prefix_len-le-length}
 use Rattle.std.proofs.lemmas.Nat.{div-add-mod', div_below}
 use Rattle.texts.specs.Bytes.{le, toLe, both, printable, allPrintable, allNull, said, isText, named, padded}
@@ -84,11 +83,6 @@ isText-all t h = rw (lead-all t h, drop_all (length t) t (omega arith))
 pub said_all : (t : List ℕ) → allPrintable t ≡ true → said t ≡ t
 said_all t h = rw (lead-all t h) (take_all (length t) t (omega arith))
 
--- a field without text is all null
-pub empty-is : (w : ℕ) → isText (replicate w 0) ≡ true
-unfolding isText
-empty-is w = rw (lead-null w) (null-all w)
-
 -- numbers
 
 pub length-toLe : (w n : ℕ) → length (toLe w n) ≡ w
@@ -102,10 +96,3 @@ le-toLe (suc w) n h =
     let p : 0 < 256 = omega arith in
     let e = le-toLe w (n / 256) (div_below n 256 (256 ^ w) p h') in
     omega (arith, e, div-add-mod' n 256)
-
--- a copy of text into nulls
-pub pasted : (w : ℕ) (t : List ℕ) → paste (replicate w 0) 0 t (length t) ≡ padded w t
-pasted w t =
-    let z : 0 + length t ≡ length t = omega arith in
-    let h : length t ≤ length t = omega arith in
-    rw (z, drop-replicate {X = ℕ} (length t) w 0, take_all (length t) t h)
