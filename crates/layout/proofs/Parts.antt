@@ -1,9 +1,9 @@
 -- What stands in a field of one, two, four or eight bytes. Assumes nothing.
-use Rattle.std.proofs.Common.{◌≡◌, ℕ, suc, ◌+◌, ◌-◌, ◌*◌, ◌<◌, ◌≤◌, eqb, List, ◌∷◌, length, get_or, take, drop, ap, ◌∙◌, add_assoc, add-one, arith, drop-cons}
+use Rattle.std.proofs.Common.{◌≡◌, ℕ, suc, ◌+◌, ◌-◌, ◌*◌, ◌<◌, ◌≤◌, List, ◌∷◌, length, get_or, take, drop, ap, ◌∙◌, add_assoc, add-one, arith, drop-cons}
 use Rattle.std.specs.List.{prefix_len}
 use Rattle.std.proofs.lemmas.Slice.{between_to_end}
 use Rattle.std.proofs.lemmas.List.{take-take, drop-take, drop-drop}
-use Rattle.texts.specs.Bytes.{part, le, both, allNull, printable, isText}
+use Rattle.texts.specs.Bytes.{part, le, allNull, printable, isText}
 
 pub part-more : (w at : ℕ) (bs : List ℕ) → at < length bs → part at (suc w) bs ≡ get_or bs at 0 ∷ part (at + 1) w bs
 part-more w at bs h = rw (add-one, drop-cons bs at 0 h)
@@ -38,9 +38,6 @@ le-8 at bs h =
     let e₃ : le (part (at + 3) 5 bs) ≡ get_or bs (at + 3) 0 + 256 * le (part (at + 4) 4 bs) = rw add_assoc at (le-more 4 (at + 3) bs h₃) in
     let e₄ : le (part (at + 4) 4 bs) ≡ get_or bs (at + 4) 0 + 256 * get_or bs (at + 5) 0 + 65536 * get_or bs (at + 6) 0 + 16777216 * get_or bs (at + 7) 0 = simp add_assoc (simp add_assoc at (le-4 (at + 4) bs h₄)) in
     omega (arith, le-more 7 at bs h₀)
-
-pub allNull-drop : (bs : List ℕ) (i : ℕ) → i < length bs → allNull (drop i bs) ≡ both (eqb (get_or bs i 0) 0) (allNull (drop (i + 1) bs))
-allNull-drop bs i h = rw (add-one, drop-cons bs i 0 h)
 
 -- a field, as `&src[at..at + width]` cuts it out
 pub cut : (at w : ℕ) (bs : List ℕ) → take (at + w - at) (drop at bs) ≡ part at w bs

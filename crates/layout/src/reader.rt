@@ -20,12 +20,7 @@ pub struct Reader<'a> {
 fn all_null(field: &[u8]) -> bool
     ensures { result ≡ allNull field.now }
 {
-    for b in field {
-        if *b != 0 {
-            return false;
-        }
-    }
-    true
+    field.iter().all(|b| *b == 0)
 }
 
 impl<'a> Reader<'a> {
