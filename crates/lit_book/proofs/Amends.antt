@@ -7,7 +7,7 @@ use Rattle.std.proofs.lemmas.Bool.{cond-true, cond-false, eq-eqb}
 use Rattle.matching.specs.Look.{look}
 use Rattle.matching.specs.Meaning.{Meaning, closed, opened, put, resized, sized as sized-held}
 use Rattle.matching.specs.declared.matcher.Held.{Held}
-use Rattle.matching.specs.Looks.{passes}
+use Rattle.matching.proofs.Looks.{passes}
 use Rattle.lit_book.specs.declared.order.Order.{Order}
 use Rattle.lit_book.specs.Orders.{repriced, sized}
 use Rattle.lit_book.specs.Lists.{FoundOrder, order-held, order-in, order-number}

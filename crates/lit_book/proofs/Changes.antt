@@ -4,7 +4,7 @@ use Rattle.std.proofs.lemmas.List.{append_assoc, take-append-drop}
 use Rattle.std.proofs.lemmas.Bool.{cond-true, cond-false, eq-eqb}
 use Rattle.std.specs.List.{remove}
 use Rattle.matching.specs.Look.{look, Distinct}
-use Rattle.matching.specs.Looks.{passes}
+use Rattle.matching.proofs.Looks.{passes}
 use Rattle.matching.specs.declared.matcher.Held.{Held}
 use Rattle.lit_book.specs.declared.order.Order.{Order}
 use Rattle.lit_book.specs.Orders.{sized}

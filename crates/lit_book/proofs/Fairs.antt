@@ -10,7 +10,8 @@ use Rattle.matching.specs.declared.terms.Side.{Side}
 use Rattle.matching.specs.declared.terms.Side.TheVariants.{Buy, Sell}
 use Rattle.matching.specs.declared.terms.TimeInForce.{TimeInForce}
 use Rattle.matching.specs.Look.{look}
-use Rattle.matching.specs.Looks.{distinct_from, passes}
+use Rattle.matching.proofs.Looks.{passes}
+use Rattle.matching.specs.RowsFinite.{distinct_from}
 use Rattle.lit_book.specs.declared.order.Order.{Order}
 use Rattle.lit_book.specs.Orders.{accepts, better, crosses, lasting, limit, opposes, price, rests, takes}
 use Rattle.lit_book.specs.Laws.{AllWorse, Fair, InLine, NoneBetter, Served, Uncrossed, alike}

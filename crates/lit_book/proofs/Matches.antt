@@ -8,7 +8,8 @@ use Rattle.matching.specs.Look.{look, Distinct}
 use Rattle.matching.specs.Meaning.{Allowed, Meaning, filled, instrument-of, open-quantity, quantity-of}
 use Rattle.matching.specs.declared.matcher.Held.{Held}
 use Rattle.matching.specs.declared.matcher.Event.TheVariants.{Trade}
-use Rattle.matching.specs.Looks.{distinct_from, look_at, passes}
+use Rattle.matching.proofs.Looks.{look_at, passes}
+use Rattle.matching.specs.RowsFinite.{distinct_from}
 use Rattle.lit_book.specs.declared.order.Order.{Order}
 use Rattle.lit_book.specs.Orders.{price}
 use Rattle.lit_book.specs.Lists.{FoundOrder, all_apart, all-open, best, order-held, order-number}

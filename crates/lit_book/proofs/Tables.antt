@@ -3,7 +3,7 @@ use Rattle.std.proofs.Common.{◌≡◌, ℕ, zero, suc, ◌+◌, ◌-◌, ◌<�
 use Rattle.std.proofs.lemmas.List.{drop-append-le, drop_at, drop-drop, drop_more, length-drop, length-map, length-take-le, map_push, drop-map, take-append-le, take_at, take_more}
 use Rattle.std.proofs.lemmas.Bool.{and_from, and_parts, cases_lt, cond-true, lt-ltb}
 use Rattle.std.specs.List.{slice_get, remove}
-use Rattle.matching.specs.Looks.{distinct_from}
+use Rattle.matching.specs.RowsFinite.{distinct_from}
 use Rattle.lit_book.specs.declared.order.Order.{Order}
 use Rattle.lit_book.specs.Orders.{rests, sized}
 use Rattle.lit_book.specs.Lists.{FoundOrder, all_apart, all-open, best, changed, in-turn, order-held, order-number, settled}

@@ -7,7 +7,7 @@ ghost use Rattle.lit_book.specs.Books.{lit, lit-meaning, lit-serves};
 ghost use Rattle.lit_book.specs.Laws.{Enough, Fair, Idle, Served, Uncrossed, Worked, open-orders};
 ghost use Rattle.lit_book.specs.Rules.{Lit, altered, amended, entered, next, order-of, order-under};
 ghost use Rattle.lit_book.specs.Lists.{order-held, order-number};
-ghost use Rattle.matching.specs.RowsLemmas.{rows-finite};
+ghost use Rattle.matching.specs.RowsFinite.{rows-finite};
 ghost use Rattle.std.proofs.Common.{rules};
 
 use crate::book::LitBook;

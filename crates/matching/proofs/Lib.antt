@@ -1,2 +1,4 @@
+pub mod Looks
+pub mod Rows
 pub mod Fills
 pub mod Plays

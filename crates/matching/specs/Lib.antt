@@ -3,6 +3,5 @@ pub mod Meaning
 pub mod Rows
 pub mod TapeRows
 pub mod Tapes
-pub mod RowsLemmas
-pub mod Looks
+pub mod RowsFinite
 pub mod Texts

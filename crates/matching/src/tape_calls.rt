@@ -5,7 +5,7 @@ ghost use Rattle.std.specs.Result.{result_err};
 ghost use Rattle.matching.specs.Meaning.{Allowed, amend-refusal, cancel-refusal, closed, enter-refusal, happened, opened, resized};
 ghost use Rattle.matching.specs.Tapes.{ahead, played, tape-meaning};
 ghost use Rattle.matching.specs.TapeRows.{row_number, row-held};
-ghost use Rattle.matching.specs.RowsLemmas.{rows-finite};
+ghost use Rattle.matching.specs.RowsFinite.{rows-finite};
 ghost use Rattle.std.proofs.Common.{rules};
 
 use crate::matcher::{Event, Held, Matcher, Refusal};

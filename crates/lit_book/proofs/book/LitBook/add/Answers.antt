@@ -1,6 +1,6 @@
 use Rattle.std.proofs.Common.{ℕ, ◌≤◌, List, [], ◌∷◌, ◌++◌, length, take, drop, ap, ◌∙◌, arith, rules}
 use Rattle.std.proofs.lemmas.List.{drop-append-le, length-drop, take-append-le}
-use Rattle.matching.specs.RowsLemmas.{pushed-apart, pushed-means}
+use Rattle.matching.proofs.Rows.{pushed-apart, pushed-means}
 use Rattle.lit_book.specs.declared.order.Order.{Order}
 use Rattle.lit_book.specs.Books.{lit-means, lit-serves}
 use Rattle.lit_book.specs.Lists.{all_apart, all-open, in-turn, order-held, order-number, settled}

@@ -1,5 +1,5 @@
 use Rattle.std.proofs.Common.{rules}
-use Rattle.matching.specs.Looks.{position-found, position-tells}
+use Rattle.matching.proofs.Looks.{position-found, position-tells}
 use Rattle.lit_book.specs.Lists.{FoundOrder, order-number, order-held}
 use Rattle.lit_book.proofs.book.LitBook.find.Goals as goal
 

@@ -1,5 +1,5 @@
 use Rattle.std.proofs.Common.{Some, sym, ap, ◌∙◌}
-use Rattle.matching.specs.RowsLemmas.{found-held}
+use Rattle.matching.proofs.Rows.{found-held}
 use Rattle.lit_book.specs.declared.order.Order.{Order}
 use Rattle.lit_book.specs.Books.{lit-serves}
 use Rattle.lit_book.specs.Lists.{order-held, order-number}

@@ -1,6 +1,6 @@
 use Rattle.std.proofs.Common.{ℕ, ◌-◌, List, take, drop, ap, ◌∙◌, arith, rules}
 use Rattle.std.specs.List.{remove}
-use Rattle.matching.specs.RowsLemmas.{removed-apart, removed-means}
+use Rattle.matching.proofs.Rows.{removed-apart, removed-means}
 use Rattle.lit_book.specs.declared.order.Order.{Order}
 use Rattle.lit_book.specs.Books.{lit-means, lit-serves}
 use Rattle.lit_book.specs.Lists.{all_apart, all-open, in-turn, order-held, order-number, settled}

@@ -1,5 +1,5 @@
 use Rattle.std.proofs.Common.{◌<◌, set, Some, sym, ap, ◌∙◌, subst, arith, rules}
-use Rattle.matching.specs.RowsLemmas.{set_apart, set-means}
+use Rattle.matching.proofs.Rows.{set_apart, set-means}
 use Rattle.lit_book.specs.declared.order.Order.{Order}
 use Rattle.lit_book.specs.Books.{lit-serves}
 use Rattle.lit_book.specs.Lists.{order-held, order-number}

@@ -1,6 +1,6 @@
 use Rattle.std.proofs.Common.{◌≡◌, ℕ, ◌<◌, true, false, length, is_some, Some, sym, ap, ◌∙◌, arith, w64, to_z, of_z}
 use Rattle.std.proofs.lemmas.Int.{to_z-of_z}
-use Rattle.matching.specs.RowsLemmas.{found-held}
+use Rattle.matching.proofs.Rows.{found-held}
 use Rattle.matching.specs.Look.{look}
 use Rattle.matching.specs.Meaning.{Meaning, opened}
 use Rattle.lit_book.specs.declared.order.Order.{Order}

@@ -1,7 +1,7 @@
 use Rattle.std.proofs.Common.{true, refl, ap, ◌∙◌}
 use Rattle.matching.specs.Rows.{meant}
 use Rattle.matching.specs.TapeRows.{all_apart, row_number, row-held}
-use Rattle.matching.specs.RowsLemmas.{pushed-means, pushed-apart}
+use Rattle.matching.proofs.Rows.{pushed-means, pushed-apart}
 use Rattle.matching.proofs.tape.Tape.add.Goals as goal
 
 pub invariant_of-self-clause-apart : goal.invariant_of-self-clause-apart

@@ -1,7 +1,7 @@
 use Rattle.std.proofs.Common.{true, refl, ap, ◌∙◌}
 use Rattle.matching.specs.Rows.{meant}
 use Rattle.matching.specs.TapeRows.{all_apart, row_number, row-held}
-use Rattle.matching.specs.RowsLemmas.{removed-means, removed-apart}
+use Rattle.matching.proofs.Rows.{removed-means, removed-apart}
 use Rattle.matching.proofs.tape.Tape.end.Goals as goal
 
 pub invariant_of-self-clause-apart : goal.invariant_of-self-clause-apart

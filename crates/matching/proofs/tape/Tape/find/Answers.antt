@@ -1,6 +1,6 @@
 use Rattle.std.proofs.Common.{rules}
 use Rattle.matching.specs.TapeRows.{row_number, row-held, FoundRow}
-use Rattle.matching.specs.Looks.{position-found, position-tells}
+use Rattle.matching.proofs.Looks.{position-found, position-tells}
 use Rattle.matching.proofs.tape.Tape.find.Goals as goal
 
 pub returns : goal.returns

@@ -1,7 +1,7 @@
 use Rattle.std.proofs.Common.{true, Some, sym, ap, ◌∙◌}
 use Rattle.matching.specs.declared.tape.Row.{Row}
 use Rattle.matching.specs.TapeRows.{row_number, row-held}
-use Rattle.matching.specs.RowsLemmas.{found-held}
+use Rattle.matching.proofs.Rows.{found-held}
 use Rattle.matching.proofs.tape.Tape.held_at.Goals as goal
 
 pub returns : goal.returns

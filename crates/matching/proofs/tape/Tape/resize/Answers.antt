@@ -1,7 +1,7 @@
 use Rattle.std.proofs.Common.{true, refl}
 use Rattle.matching.specs.declared.tape.Row.{Row}
 use Rattle.matching.specs.TapeRows.{row_number, row-held}
-use Rattle.matching.specs.RowsLemmas.{set-means, set_apart}
+use Rattle.matching.proofs.Rows.{set-means, set_apart}
 use Rattle.matching.proofs.tape.Tape.resize.Goals as goal
 
 pub invariant_of-self-clause-apart : goal.invariant_of-self-clause-apart

@@ -2,7 +2,7 @@
 use Rattle.std.specs.Prelude.{◌≡◌, ℕ, zero, suc, ◌+◌, ◌<◌, ◌≤◌, Bool, true, false, cond, not, ◌⊎◌, List, [], ◌∷◌, ◌++◌, length, take, drop, is_some, Some, None, Option, ◌==◌, ◌≢◌, nat_eq, slice_index_or, slice_set, refl}
 use Rattle.std.proofs.Common.{sym, ap, ◌∙◌, subst, inl, inr, arith}
 use Rattle.std.proofs.Math.Path.{fun_ext}
-use Rattle.std.proofs.lemmas.Bool.{eq-eqb, ne_eqb, cond-true, cond-false, cases_eq, eqb-false, both_ways, and_parts, and_from, eqb-true}
+use Rattle.std.proofs.lemmas.Bool.{eq-eqb, ne_eqb, cond-true, cond-false, cases_eq, eqb-false, and_from, eqb-true}
 use Rattle.std.specs.List.{position, position_or_len}
 use Rattle.std.proofs.lemmas.Grind.{common_steps}
 use Rattle.std.proofs.lemmas.List.{take_all}
@@ -16,14 +16,6 @@ module _ {X V : Type 0} (key : X → ℕ) (val : X → V) where
 
   abbrev Distinct : List X → Type 0
   Distinct xs = spec.Distinct key val xs
-
-  none_from : (o : Option V) → not (is_some o) ≡ true → o ≡ None
-  none_from None h = refl
-  none_from (Some v) h = absurd (both_ways false refl h)
-
-  pub distinct_from : (xs : List X) → spec.distinct key val xs ≡ true → Distinct xs
-  distinct_from [] h = tt
-  distinct_from (x ∷ xs) h = let p = and_parts (not (is_some (look xs (key x)))) (spec.distinct key val xs) h in (none_from _ p.0, distinct_from xs p.1)
 
   pub distinct-to : (xs : List X) → Distinct xs → spec.distinct key val xs ≡ true
   distinct-to [] u = refl

@@ -1,16 +1,17 @@
 -- What a change of the rows does to the meaning. Assumes nothing.
-use Rattle.std.specs.Prelude.{◌≡◌, ℕ, ◌<◌, Bool, true, false, cond, List, [], ◌∷◌, ◌++◌, map, length, is_some, Some, None, Option, ◌==◌, slice_index_or, slice_set, refl}
+use Rattle.std.specs.Prelude.{◌≡◌, ℕ, ◌<◌, Bool, true, false, List, [], ◌∷◌, ◌++◌, length, is_some, Some, None, Option, slice_index_or, slice_set, refl}
 use Rattle.std.proofs.Common.{sym, ap, ◌∙◌, arith}
 use Rattle.std.proofs.Math.Path.{fun_ext}
-use Rattle.std.proofs.lemmas.List.{length-map, length_push, length-set}
+use Rattle.std.proofs.lemmas.List.{length_push, length-set}
 use Rattle.std.proofs.lemmas.List.Edits.{length-remove}
 use Rattle.std.specs.List.{remove}
 use Rattle.matching.specs.declared.matcher.Held.{Held}
 use Rattle.matching.specs.declared.terms.Book.{Book}
-use Rattle.matching.specs.Look.{look, Distinct, distinct, Found}
-use Rattle.matching.specs.Meaning.{Meaning, Orders, Finite, among, AllApart, put, opened, closed, resized, sized}
+use Rattle.matching.specs.Look.{look, distinct, Found}
+use Rattle.matching.specs.Meaning.{Meaning, Orders, put, opened, closed, resized, sized}
 use Rattle.matching.specs.Rows.{meant}
-use Rattle.matching.specs.Looks as looks
+use Rattle.matching.specs.RowsFinite.{distinct_from}
+use Rattle.matching.proofs.Looks as looks
 
 module _ {X : Type 0} (key : X → ℕ) (val : X → Held) (limit : ℕ) (books : Book → Bool) where
   abbrev means : List X → Meaning
@@ -29,15 +30,15 @@ module _ {X : Type 0} (key : X → ℕ) (val : X → Held) (limit : ℕ) (books 
   pushed-means xs y h = same _ _ _ _ (fun_ext (looks.look-push key val xs y (none_is _ h)) ∙ looks.written-update key val _ _ _) (length_push xs y)
 
   pub pushed-apart : (xs : List X) (y : X) → distinct key val xs ≡ true → is_some (look key val xs (key y)) ≡ false → distinct key val (xs ++ y ∷ []) ≡ true
-  pushed-apart xs y u h = looks.distinct-to key val _ (looks.distinct_push key val xs y (looks.distinct_from key val xs u) (none_is _ h))
+  pushed-apart xs y u h = looks.distinct-to key val _ (looks.distinct_push key val xs y (distinct_from key val xs u) (none_is _ h))
 
   pub removed-means : (xs : List X) (i n : ℕ) → distinct key val xs ≡ true → Found key val xs n (Some i) → means (remove xs i) ≡ closed (means xs) n
   removed-means xs i n u (l, k, at) =
       let e = length-remove xs i l in
-      same _ _ _ _ (fun_ext (looks.look-without key val xs i n (looks.distinct_from key val xs u) l k at) ∙ looks.written-update key val _ _ _) (omega arith)
+      same _ _ _ _ (fun_ext (looks.look-without key val xs i n (distinct_from key val xs u) l k at) ∙ looks.written-update key val _ _ _) (omega arith)
 
   pub removed-apart : (xs : List X) (i : ℕ) → distinct key val xs ≡ true → distinct key val (remove xs i) ≡ true
-  removed-apart xs i u = looks.distinct-to key val _ (looks.distinct_without key val xs i (looks.distinct_from key val xs u))
+  removed-apart xs i u = looks.distinct-to key val _ (looks.distinct_without key val xs i (distinct_from key val xs u))
 
   -- what is held under the number of the row at a place
   pub found-held : (xs : List X) (i n : ℕ) (d : X) → Found key val xs n (Some i) → look key val xs n ≡ Some (val (slice_index_or xs i d))
@@ -52,26 +53,4 @@ module _ {X : Type 0} (key : X → ℕ) (val : X → Held) (limit : ℕ) (books 
       (length-set xs i y)
 
   pub set_apart : (xs : List X) (i : ℕ) (y : X) → ((d : X) → i < length xs → key (slice_index_or xs i d) ≡ key y) → distinct key val xs ≡ true → distinct key val (slice_set xs i y) ≡ true
-  set_apart xs i y h u = looks.distinct-to key val _ (looks.distinct-set key val xs i y h (looks.distinct_from key val xs u))
-
-  -- ---- the open numbers are those of the rows
-
-  exact-of : (xs : List X) (n : ℕ) → is_some (look key val xs n) ≡ among n (map key xs)
-  exact-of [] n = refl
-  exact-of (x ∷ xs) n = go (n == key x) (exact-of xs n)
-    where
-      go : (b : Bool) → is_some (look key val xs n) ≡ among n (map key xs) → is_some (cond b (Some (val x)) (look key val xs n)) ≡ cond b true (among n (map key xs))
-      go true h = refl
-      go false h = h
-
-  apart_of : (xs : List X) → Distinct key val xs → AllApart (map key xs)
-  apart_of [] u = tt
-  apart_of (x ∷ xs) u = (sym (exact-of xs (key x)) ∙ ap is_some u.0, apart_of xs u.1)
-
-  pub rows-finite : (xs : List X) → distinct key val xs ≡ true → Finite (means xs)
-  rows-finite xs u = record {
-    numbers = map key xs;
-    apart = apart_of xs (looks.distinct_from key val xs u);
-    counted = length-map xs key;
-    exact = exact-of xs;
-  }
+  set_apart xs i y h u = looks.distinct-to key val _ (looks.distinct-set key val xs i y h (distinct_from key val xs u))
