@@ -96,13 +96,9 @@ impl Matcher for LitBook {
         ensures after { lit-meaning self.new ≡ (if is_ok result then closed (lit-meaning self.old) number else lit-meaning self.old) }
         ensures lists { lit self.new ≡ (if is_ok result then altered (lit self.old) number None else lit self.old) }
     {
-        match self.find(number) {
-            Some(i) => {
-                self.remove(i, number);
-                Ok(())
-            }
-            None => Err(Refusal::NotOpen),
-        }
+        let i = self.find(number).ok_or(Refusal::NotOpen)?;
+        self.remove(i, number);
+        Ok(())
     }
 
     fn amend(&mut self, number: u64, quantity: u32, price: i64) -> Result<(), Refusal>
@@ -110,16 +106,12 @@ impl Matcher for LitBook {
         ensures after { lit-meaning self.new ≡ (if is_ok result then resized (lit-meaning self.old) number quantity else lit-meaning self.old) }
         ensures lists { lit self.new ≡ (if is_ok result then amended (lit self.old) (order-under (lit self.old) number) quantity price else lit self.old) }
     {
-        match self.find(number) {
-            Some(i) => {
-                if quantity == 0 {
-                    return Err(Refusal::NoQuantity);
-                }
-                self.revise(i, number, quantity, price);
-                Ok(())
-            }
-            None => Err(Refusal::NotOpen),
+        let i = self.find(number).ok_or(Refusal::NotOpen)?;
+        if quantity == 0 {
+            return Err(Refusal::NoQuantity);
         }
+        self.revise(i, number, quantity, price);
+        Ok(())
     }
 
     fn next_event(&mut self) -> Event
@@ -136,10 +128,8 @@ impl Matcher for LitBook {
     }
 
     fn open_order(&self, number: u64) -> Option<Held> {
-        match self.find(number) {
-            Some(i) => Some(self.held_at(i, number)),
-            None => None,
-        }
+        let i = self.find(number)?;
+        Some(self.held_at(i, number))
     }
 
     fn open_count(&self) -> usize {

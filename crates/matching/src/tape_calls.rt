@@ -60,13 +60,9 @@ impl Matcher for Tape {
         ensures after { tape-meaning self.new ≡ (if is_ok result then closed (tape-meaning self.old) number else tape-meaning self.old) }
         ensures ahead { ahead self.new ≡ ahead self.old }
     {
-        match self.find(number) {
-            Some(i) => {
-                self.end(i, number);
-                Ok(())
-            }
-            None => Err(Refusal::NotOpen),
-        }
+        let i = self.find(number).ok_or(Refusal::NotOpen)?;
+        self.end(i, number);
+        Ok(())
     }
 
     // A tape knows no prices of its orders.
@@ -75,16 +71,12 @@ impl Matcher for Tape {
         ensures after { tape-meaning self.new ≡ (if is_ok result then resized (tape-meaning self.old) number quantity else tape-meaning self.old) }
         ensures ahead { ahead self.new ≡ ahead self.old }
     {
-        match self.find(number) {
-            Some(i) => {
-                if quantity == 0 {
-                    return Err(Refusal::NoQuantity);
-                }
-                self.resize(i, number, quantity);
-                Ok(())
-            }
-            None => Err(Refusal::NotOpen),
+        let i = self.find(number).ok_or(Refusal::NotOpen)?;
+        if quantity == 0 {
+            return Err(Refusal::NoQuantity);
         }
+        self.resize(i, number, quantity);
+        Ok(())
     }
 
     fn next_event(&mut self) -> Event
@@ -100,10 +92,8 @@ impl Matcher for Tape {
     }
 
     fn open_order(&self, number: u64) -> Option<Held> {
-        match self.find(number) {
-            Some(i) => Some(self.held_at(i, number)),
-            None => None,
-        }
+        let i = self.find(number)?;
+        Some(self.held_at(i, number))
     }
 
     fn open_count(&self) -> usize {
