@@ -7,8 +7,8 @@ use Rattle.reports.specs.declared.fold.FoldRefusal.{FoldRefusal}
 use Rattle.reports.specs.Told.{told_of}
 use Rattle.reports.specs.Fold.{Table, nothing_known, fold}
 
--- the report under a number; numbers count from 1
-abbrev pub entry_at : List Entry → ℕ → Option Entry
+-- what stands under a number; numbers count from 1
+abbrev pub entry_at : {X : Type 0} → List X → ℕ → Option X
 entry_at l zero = None
 entry_at l (suc n) = slice_get l n
 
