@@ -29,9 +29,9 @@ impl Records {
         })
     }
 
-    fn entries(&self, partition: Partition) -> &Vec<Entry>
-        ensures items { result.now.items ≡ reports-in (recorded self.now) partition }
-        ensures bound { vec_len result.now ≤ 16384 }
+    fn entries(&self, partition: Partition) -> &[Entry]
+        ensures items { result.now ≡ reports-in (recorded self.now) partition }
+        ensures bound { length result.now ≤ 16384 }
     {
         match partition {
             Partition::One => &self.one,
