@@ -26,7 +26,7 @@ next-passed p above xs r e =
     ap (λ j. position_from p j xs) same ∙ from-higher p (above + 1) 0 xs ∙ ap (option_map (λ i. above + 1 + i)) (sym (e ∙ position_from-zero p xs))
 
 -- numbers that begin one higher
-next-shift : (o m : ℕ) (l : List Entry) → position_from (λ (e : Entry). eqb e.owner o) (m + 1) l ≡ option_map suc (position_from (λ (e : Entry). eqb e.owner o) m l)
+pub next-shift : (o m : ℕ) (l : List Entry) → position_from (λ (e : Entry). eqb e.owner o) (m + 1) l ≡ option_map suc (position_from (λ (e : Entry). eqb e.owner o) m l)
 next-shift o m [] = refl
 next-shift o m (e ∷ l) = either (eqb e.owner o) (next-shift o (m + 1) l)
   where
