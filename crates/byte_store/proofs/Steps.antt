@@ -1,8 +1,8 @@
 -- Looking at places is looking at the entries that they hold. Assumes nothing.
-use Rattle.std.proofs.Common.{◌≡◌, ℕ, zero, suc, ◌+◌, Bool, cond, eqb, List, [], ◌∷◌, map, length, drop, Some, vec_items, refl, ap, ◌∙◌}
+use Rattle.std.proofs.Common.{◌≡◌, ℕ, zero, suc, ◌+◌, Bool, cond, eqb, List, [], ◌∷◌, map, drop, Some, vec_items, refl, ap, ◌∙◌}
 use Rattle.std.specs.List.{position_from}
 use Rattle.std.specs.Option.{option_map}
-use Rattle.std.proofs.lemmas.List.{length-map, drop-map}
+use Rattle.std.proofs.lemmas.List.{drop-map}
 use Rattle.std.proofs.lemmas.Option.{slice_get-map}
 use Rattle.reports.specs.declared.report.Entry.{Entry}
 use Rattle.reports.specs.declared.report.Report.{Report}
@@ -40,9 +40,6 @@ module _ {C : Type 0} (d : List ℕ → Report) (s : Buffered C) where
   entries-in One = refl
   entries-in Two = refl
   entries-in Three = refl
-
-  pub long-in : (p : Partition) → length (reports-in (kept_in d s) p) ≡ length (places-in s p)
-  long-in p = ap length (entries-in p) ∙ length-map (places-in s p) (entry_in d (vec_items s.buffer))
 
   pub read-in : (p : Partition) (n : ℕ) → entry_at (reports-in (kept_in d s) p) n ≡ option_map (entry_in d (vec_items s.buffer)) (entry_at (places-in s p) n)
   read-in p n = ap (λ l. entry_at l n) (entries-in p) ∙ entry_at-map (entry_in d (vec_items s.buffer)) (places-in s p) n
