@@ -1,5 +1,6 @@
 -- A buffer that grows keeps its parts. Assumes nothing.
-use Rattle.std.proofs.Common.{◌≡◌, ℕ, zero, suc, ◌+◌, ◌<◌, ◌≤◌, true, leb, List, [], ◌∷◌, ◌++◌, map, length, get_or, take, drop, sym, refl, ap, ◌∙◌, subst, arith, length-drop, take_all}
+use Rattle.std.proofs.Common.{◌≡◌, ℕ, zero, suc, ◌+◌, ◌≤◌, true, leb, List, [], ◌∷◌, ◌++◌, map, length, take, drop, refl, ap, ◌∙◌, subst, arith, length-drop, take_all, Some}
+use Rattle.reports.specs.Tally.{entry_at}
 use lib.Seq.{take-append-le, drop-append-le, drop-append_seam}
 use Rattle.std.proofs.lemmas.List.{map_push}
 use Rattle.std.proofs.lemmas.Bool.{and_parts, and_from, leb-true, le-leb}
@@ -17,15 +18,12 @@ part-new b bs p s l =
     ap (λ k. take p.len (drop k (b ++ bs))) s ∙ ap (take p.len) (drop-append_seam b bs) ∙ take_all p.len bs (omega arith)
 
 parts : (n : ℕ) (p : Place) (ps : List Place) → all-within n (p ∷ ps) ≡ true → (p.start + p.len ≤ n) × (all-within n ps ≡ true)
-unfolding all-within
 parts n p ps h = let q = and_parts (leb (p.start + p.len) n) (all-within n ps) h in (leb-true _ _ q.0, q.1)
 
 join : (n : ℕ) (p : Place) (ps : List Place) → p.start + p.len ≤ n → all-within n ps ≡ true → all-within n (p ∷ ps) ≡ true
-unfolding all-within
 join n p ps a b = and_from _ _ (le-leb _ _ a) b
 
 pub within_none : (n : ℕ) → all-within n [] ≡ true
-unfolding all-within
 within_none n = refl
 
 pub within_more : (n m : ℕ) (ps : List Place) → n ≤ m → all-within n ps ≡ true → all-within m ps ≡ true
@@ -39,10 +37,11 @@ within-push n (x ∷ ps) p h le = let q = parts n x ps h in join n x (ps ++ (p �
 pub within-pushed : (n n' : ℕ) (ps ps' : List Place) (p : Place) → n ≤ n' → all-within n ps ≡ true → p.start + p.len ≤ n' → ps' ≡ ps ++ (p ∷ []) → all-within n' ps' ≡ true
 within-pushed n n' ps ps' p le h here e = ap (all-within n') e ∙ within-push n' ps p (within_more n n' ps le h) here
 
-pub within-at : (n : ℕ) (ps : List Place) (i : ℕ) (p : Place) → all-within n ps ≡ true → i < length ps → p ≡ get_or ps i p → p.start + p.len ≤ n
-within-at n [] i p h lt read = absurd (let no : ⊥ = omega arith in no)
-within-at n (x ∷ ps) zero p h lt read = subst (λ (y : Place). y.start + y.len ≤ n) (sym read) (parts n x ps h).0
-within-at n (x ∷ ps) (suc i) p h lt read = within-at n ps i p (parts n x ps h).1 (omega arith) read
+pub within-entry : (n : ℕ) (ps : List Place) (k : ℕ) (p : Place) → all-within n ps ≡ true → entry_at ps k ≡ Some p → p.start + p.len ≤ n
+within-entry n ps zero p h e = absurd (let z : ◌≡◌ {A = ℕ} 0 1 = cc in let no : ⊥ = omega arith in no)
+within-entry n [] (suc k) p h e = absurd (let z : ◌≡◌ {A = ℕ} 0 1 = cc in let no : ⊥ = omega arith in no)
+within-entry n (x ∷ ps) (suc zero) p h e = let same : x ≡ p = cc in subst (λ (y : Place). y.start + y.len ≤ n) same (parts n x ps h).0
+within-entry n (x ∷ ps) (suc (suc k)) p h e = within-entry n ps (suc k) p (parts n x ps h).1 e
 
 module _ (d : List ℕ → Report) where
   -- what was kept stays as the buffer grows

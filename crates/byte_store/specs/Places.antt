@@ -1,5 +1,6 @@
 -- Entries as parts of a buffer. Assumes nothing.
-use Rattle.std.specs.Prelude.{ℕ, ◌+◌, ◌-◌, ◌/◌, min, Bool, true, ◌&&◌, List, [], ◌∷◌, take, drop, nat_le}
+use Rattle.std.specs.Prelude.{ℕ, ◌+◌, ◌-◌, ◌/◌, min, Bool, List, take, drop, nat_le}
+use Rattle.std.specs.List.{list_all}
 use Rattle.reports.specs.declared.report.Entry.{Entry}
 use Rattle.reports.specs.declared.report.Report.{Report}
 use Rattle.byte_store.specs.declared.place.Place.{Place}
@@ -16,9 +17,8 @@ abbrev pub entry_in : (List ℕ → Report) → List ℕ → Place → Entry
 entry_in decoded buffer p = filed p.owner (decoded (part buffer p))
 
 -- places that lie within so many bytes
-unfoldable pub all-within : ℕ → List Place → Bool
-all-within n [] = true
-all-within n (p ∷ ps) = nat_le (p.start + p.len) n && all-within n ps
+abbrev pub all-within : ℕ → List Place → Bool
+all-within n ps = list_all (λ p. nat_le (p.start + p.len) n) ps
 
 -- free places: what the free bytes have room for, and no more than 16,384 reports in all
 abbrev pub free-places : ℕ → ℕ → ℕ → ℕ

@@ -14,34 +14,10 @@ use crate::place::Place;
 use codes::session::Partition;
 use reports::report::Entry;
 use std::alloc::{AllocError, Global};
+use store::numbered::{item_of, next_of};
 use store::{REPORTS, Store};
 
 impl<C: Codec + Drop> Buffered<C> {
-    fn begin(
-        codec: C,
-        size: usize,
-        buffer: Vec<u8>,
-        one: Vec<Place>,
-        two: Vec<Place>,
-        three: Vec<Place>,
-    ) -> Buffered<C>
-        requires buffer { (buffer.items ≡ []) × (size ≤ vec_capacity buffer) }
-        requires one { (one.items ≡ []) × (16384 ≤ vec_capacity one) }
-        requires two { (two.items ≡ []) × (16384 ≤ vec_capacity two) }
-        requires three { (three.items ≡ []) × (16384 ≤ vec_capacity three) }
-        ensures kept { kept_in C.Codec.decoded result ≡ empty }
-        ensures free { free_in result ≡ free-places size 0 0 }
-    {
-        Buffered {
-            codec,
-            size,
-            buffer,
-            one,
-            two,
-            three,
-        }
-    }
-
     // A store with so many bytes.
     pub fn new(heap: Global, codec: C, size: usize) -> Result<Buffered<C>, AllocError>
         ensures { IfOk result (λ s. (kept_in C.Codec.decoded s ≡ empty) × (free_in s ≡ free-places size 0 0)) }
@@ -50,7 +26,14 @@ impl<C: Codec + Drop> Buffered<C> {
         let one = Vec::with_capacity(heap, REPORTS)?;
         let two = Vec::with_capacity(heap, REPORTS)?;
         let three = Vec::with_capacity(heap, REPORTS)?;
-        Ok(Buffered::begin(codec, size, buffer, one, two, three))
+        Ok(Buffered {
+            codec,
+            size,
+            buffer,
+            one,
+            two,
+            three,
+        })
     }
 }
 
@@ -62,10 +45,10 @@ impl<C: Codec> Buffered<C> {
         ((self.size - self.buffer.len()) / LONGEST).min(REPORTS - reports)
     }
 
-    fn places_of(&self, partition: Partition) -> &Vec<Place>
-        ensures items { result.now.items ≡ places-in self.now partition }
-        ensures bound { vec_len result.now ≤ 16384 }
-        ensures inside { all-within (vec_len self.now.buffer) result.now.items ≡ true }
+    fn places_of(&self, partition: Partition) -> &[Place]
+        ensures items { result.now ≡ places-in self.now partition }
+        ensures bound { length result.now ≤ 16384 }
+        ensures inside { all-within (vec_len self.now.buffer) result.now ≡ true }
     {
         match partition {
             Partition::One => &self.one,
@@ -109,25 +92,6 @@ impl<C: Codec> Buffered<C> {
     }
 }
 
-fn is_of(place: &Place, owner: usize) -> bool
-    ensures { result ≡ (place.now.owner == owner) }
-{
-    place.owner == owner
-}
-
-// Looks at the places above a number in turn, and at no other. What the bytes hold does not matter.
-fn next_of(places: &Vec<Place>, owner: usize, above: u32) -> Option<u32>
-    requires { vec_len places.now ≤ 16384 }
-    ensures { (d : List ℕ → Told) (b : List ℕ) → result ≡ next-after (map (entry_in d b) places.now.items) owner above }
-{
-    for i in above as usize..places.len() {
-        if is_of(&places[i], owner) {
-            return Some(i as u32 + 1);
-        }
-    }
-    None
-}
-
 impl<C: Codec> Buffered<C> {
     fn last_of(&self, partition: Partition) -> u32
         ensures value { result ≡ length (reports-in (kept_in C.Codec.decoded self.now) partition) }
@@ -140,11 +104,8 @@ impl<C: Codec> Buffered<C> {
     fn entry_of(&self, partition: Partition, number: u32) -> Option<Entry>
         ensures { result ≡ entry_at (reports-in (kept_in C.Codec.decoded self.now) partition) number }
     {
-        let places = self.places_of(partition);
-        if number == 0 || number as usize > places.len() {
-            return None;
-        }
-        Some(self.entry(places[number as usize - 1]))
+        let place = item_of(self.places_of(partition), number)?;
+        Some(self.entry(place))
     }
 
     fn next_number(&self, partition: Partition, owner: usize, above: u32) -> Option<u32>

@@ -1,14 +1,17 @@
 -- Rows in the order of their numbers, each of which holds an order. Assumes nothing.
-use Rattle.std.proofs.Common.{◌≡◌, ℕ, zero, suc, ◌+◌, ◌<◌, true, ◌&&◌, eqb, List, [], ◌∷◌, ◌++◌, length, get_or, set, Some, None, Option, sym, refl, ap, ◌∙◌, arith}
+use Rattle.std.specs.Prelude.{find, reverse}
+use Rattle.std.proofs.lemmas.List.{reverse-append}
+use Rattle.std.proofs.lemmas.List.Folds.{find-append}
+use Rattle.std.proofs.Common.{◌≡◌, Bool, cond, false, ℕ, zero, suc, ◌+◌, true, ◌&&◌, eqb, List, [], ◌∷◌, ◌++◌, length, set, Some, None, Option, sym, refl, ap, ◌∙◌, arith}
 use Rattle.std.proofs.lemmas.Bool.{and_parts, and_from, eqb-true, eq-eqb, both_ways}
 use Rattle.std.specs.List.{slice_get}
-use Rattle.std.specs.Option.{option_map}
+use Rattle.std.specs.Option.{option_map, option_or}
 use Rattle.orders.specs.declared.order.Order.{Order}
 use Rattle.orders.specs.Orders.{row_of, Makes}
 use Rattle.orders.specs.declared.row.Row.{Row}
 use Rattle.orders.specs.Rows.{orderly}
 use Rattle.orders.specs.Places.{at, kept_from}
-use Rattle.orders.proofs.Numbered.{none-some, at_read}
+use Rattle.orders.proofs.Numbered.{none-some}
 
 parts : (n : ℕ) (r : Row) (rs : List Row) → kept_from n (r ∷ rs) ≡ true → (r.number ≡ n) × (orderly r ≡ true) × (kept_from (suc n) rs ≡ true)
 unfolding kept_from
@@ -54,10 +57,19 @@ pub kept_at : (rs : List Row) (n : ℕ) (r : Row) → kept_from 1 rs ≡ true �
 kept_at rs zero r h e = none-some r e
 kept_at rs (suc m) r h e = let q = kept-nth 1 rs m r h e in (omega arith, q.1)
 
-pub kept_get_d : (rs : List Row) (i : ℕ) (r : Row) → kept_from 1 rs ≡ true → i < length rs → r ≡ get_or rs i r → orderly r ≡ true
-kept_get_d rs i r h lt read = (kept_at rs (i + 1) r h (sym (at_read rs (i + 1) i r refl lt read))).1
-
 -- a row that holds an order gives it
 pub order-made : (r : Row) (o : Option Order) → orderly r ≡ true → Makes (orderly r) r o → option_map row_of o ≡ Some r
 order-made r None h m = absurd (both_ways (orderly r) m h)
 order-made r (Some o) h m = ap Some m.1
+
+-- a row that is found from the back holds an order
+pub orderly-found : (p : Row → Bool) (n : ℕ) (rs : List Row) (r : Row) → kept_from n rs ≡ true → find p (reverse rs) ≡ Some r → orderly r ≡ true
+orderly-found p n [] r h e = none-some r e
+orderly-found p n (x ∷ rs) r h e =
+    let q = parts n x rs h in
+    here-or-behind (find p (reverse rs)) (p x) (orderly-found p (suc n) rs r q.2) q.1 (sym (ap (find p) (reverse-append (x ∷ []) rs) ∙ find-append p (reverse rs) (x ∷ [])) ∙ e)
+  where
+    here-or-behind : (o : Option Row) (b : Bool) → (o ≡ Some r → orderly r ≡ true) → orderly x ≡ true → option_or o (cond b (Some x) None) ≡ Some r → orderly r ≡ true
+    here-or-behind (Some y) b behind here same = behind same
+    here-or-behind None true behind here same = let is : x ≡ r = cc in ap orderly (sym is) ∙ here
+    here-or-behind None false behind here same = none-some r same

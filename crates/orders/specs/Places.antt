@@ -1,5 +1,5 @@
 -- Rows under their numbers, which count from 1. Assumes nothing.
-use Rattle.std.specs.Prelude.{◌≡◌, ℕ, zero, suc, ◌+◌, ◌<◌, Bool, true, cond, ◌&&◌, List, [], ◌∷◌, length, Some, None, Option, ◌==◌, nat_lt, slice_index_or, slice_set}
+use Rattle.std.specs.Prelude.{◌≡◌, ℕ, zero, suc, ◌+◌, ◌<◌, Bool, true, cond, ◌&&◌, List, [], ◌∷◌, length, Some, None, Option, ◌==◌, nat_lt, slice_index_or, slice_set, count_by, find, reverse}
 use Rattle.std.specs.List.{slice_get}
 use Rattle.std.specs.Str.{bytes_eq}
 use Rattle.texts.specs.Bytes.{said}
@@ -26,13 +26,13 @@ unfoldable pub kept_from : ℕ → List Row → Bool
 kept_from n [] = true
 kept_from n (r ∷ rs) = r.number == n && (orderly r && kept_from (suc n) rs)
 
--- how many orders have shares open
-abbrev pub open-one : Row → ℕ
-open-one r = cond (nat_lt 0 r.leaves) 1 0
+-- whether a row has shares open
+abbrev pub is_open : Row → Bool
+is_open r = nat_lt 0 r.leaves
 
-unfoldable pub open-count : List Row → ℕ
-open-count [] = 0
-open-count (r ∷ rs) = open-one r + open-count rs
+-- how many orders have shares open
+abbrev pub open-count : List Row → ℕ
+open-count rs = count_by is_open rs
 
 -- a row, where it is the owner's
 abbrev pub owned : ℕ → Option Row → Option Row
@@ -43,12 +43,6 @@ owned o (Some r) = cond (r.terms.owner == o) (Some r) None
 abbrev pub goes_by : ℕ → List ℕ → Row → Bool
 goes_by o c r = r.terms.owner == o && bytes_eq (said r.client.bytes) c
 
--- what is found among a row and what was found among those behind it
-abbrev pub before : ℕ → List ℕ → Row → Option Row → Option Row
-before o c r (Some later) = Some later
-before o c r None = cond (goes_by o c r) (Some r) None
-
 -- the owner's highest-numbered row that goes by a client order id
-unfoldable pub latest : ℕ → List ℕ → List Row → Option Row
-latest o c [] = None
-latest o c (r ∷ rs) = before o c r (latest o c rs)
+abbrev pub latest : ℕ → List ℕ → List Row → Option Row
+latest o c rs = find (goes_by o c) (reverse rs)

@@ -38,19 +38,19 @@ accepted n t a = record { number = n; terms = t; client = a.client; price = a.pr
 
 -- replace: ordered becomes the new quantity, and open that less what is executed
 abbrev pub replaced : Ask → Row → Row
-replaced a r = record { number = r.number; terms = r.terms; client = a.client; price = a.price; display = a.display; ending = r.ending; ordered = a.quantity; executed = r.executed; leaves = a.quantity - r.executed; withdrawn = r.withdrawn }
+replaced a r = record r { client = a.client; price = a.price; display = a.display; ordered = a.quantity; leaves = a.quantity - r.executed }
 
 -- withdraw: what is open is withdrawn
 abbrev pub ended : Ending → Row → Row
-ended e r = record { number = r.number; terms = r.terms; client = r.client; price = r.price; display = r.display; ending = Some e; ordered = r.ordered; executed = r.executed; leaves = 0; withdrawn = r.withdrawn + r.leaves }
+ended e r = record r { ending = Some e; leaves = 0; withdrawn = r.withdrawn + r.leaves }
 
 -- fill: from open to executed
 abbrev pub filled : ℕ → Row → Row
-filled q r = record { number = r.number; terms = r.terms; client = r.client; price = r.price; display = r.display; ending = r.ending; ordered = r.ordered; executed = r.executed + q; leaves = r.leaves - q; withdrawn = r.withdrawn }
+filled q r = record r { executed = r.executed + q; leaves = r.leaves - q }
 
 -- undo a fill: it was never ordered, and open gets nothing back
 abbrev pub undone : ℕ → Row → Row
-undone q r = record { number = r.number; terms = r.terms; client = r.client; price = r.price; display = r.display; ending = r.ending; ordered = r.ordered - q; executed = r.executed - q; leaves = r.leaves; withdrawn = r.withdrawn }
+undone q r = record r { ordered = r.ordered - q; executed = r.executed - q }
 
 abbrev pub status-by : Option Ending → Row → Status
 status-by (Some Cancelled) r = status.Cancelled

@@ -16,7 +16,7 @@ Notes ts t (Some n) ts' = (length ts < 512) × (n ≡ length ts + 1) × (ts' ≡
 
 -- a trade that is cancelled
 abbrev pub void : Trade → Trade
-void t = record { quantity = t.quantity; price = t.price; passive = t.passive; aggressive = t.aggressive; cancelled = true }
+void t = record t { cancelled = true }
 
 -- why a trade is not cancelled, tried in this order
 abbrev pub void-fault : Option Trade → Option TradeRefusal

@@ -211,19 +211,10 @@ impl Order {
         match self.ending {
             Some(Ending::Cancelled) => Status::Cancelled,
             Some(Ending::Expired) => Status::Expired,
-            None => {
-                if self.leaves > 0 {
-                    if self.executed > 0 {
-                        Status::PartiallyFilled
-                    } else {
-                        Status::New
-                    }
-                } else if self.ordered == 0 {
-                    Status::Cancelled
-                } else {
-                    Status::Filled
-                }
-            }
+            None if self.leaves > 0 && self.executed > 0 => Status::PartiallyFilled,
+            None if self.leaves > 0 => Status::New,
+            None if self.ordered == 0 => Status::Cancelled,
+            None => Status::Filled,
         }
     }
 }

@@ -4,7 +4,7 @@ ghost use Rattle.std.specs.Option.{option_map};
 ghost use Rattle.std.specs.Str.{bytes_eq};
 ghost use Rattle.texts.specs.Bytes.{said};
 ghost use Rattle.orders.specs.Orders.{row_of};
-ghost use Rattle.orders.specs.Places.{at, put, Placed, open-count, owned, goes_by, latest};
+ghost use Rattle.orders.specs.Places.{at, put, Placed, is_open, open-count, owned, goes_by, latest};
 ghost use Rattle.orders.specs.Tables.{rows_of, add-number, Adds};
 
 use crate::order::Order;
@@ -37,7 +37,7 @@ impl AddRefusal {
 
 impl Row {
     fn is_open(&self) -> bool
-        ensures { result ≡ nat_lt 0 self.now.leaves }
+        ensures { result ≡ is_open self.now }
     {
         self.leaves > 0
     }
@@ -85,50 +85,46 @@ impl Table {
         self.rows.len() as u64
     }
 
-    // Every row holds an order.
-    fn order_at(&self, number: u64, row: Row) -> Option<Order>
-        requires { at (rows_of self.now) number ≡ Some row }
-        ensures { option_map row_of result ≡ Some row }
+    // The row of a number.
+    fn row(&self, number: u64) -> Option<Row>
+        ensures { result ≡ at (rows_of self.now) number }
     {
-        Order::from_row(row)
+        place(&self.rows, number).map(|index| self.rows[index])
     }
 
-    // The order of a number.
+    // The order of a number: every row holds one.
     pub fn order(&self, number: u64) -> Option<Order>
         ensures { option_map row_of result ≡ at (rows_of self.now) number }
     {
-        match place(&self.rows, number) {
-            Some(i) => self.order_at(number, self.rows[i]),
-            None => None,
-        }
+        let row = self.row(number)?;
+        Order::from_row(row)
     }
 
     // The order of a number, for its owner.
     pub fn own(&self, owner: usize, number: u64) -> Option<Order>
         ensures { option_map row_of result ≡ owned owner (at (rows_of self.now) number) }
     {
-        let order = self.order(number)?;
-        if order.terms.owner == owner {
-            Some(order)
-        } else {
-            None
-        }
+        self.order(number)
+            .filter(|order| order.terms.owner == owner)
+    }
+
+    // The owner's highest-numbered row whose current client order id this is.
+    fn named_row(&self, owner: usize, client: &[u8]) -> Option<Row>
+        ensures { result ≡ latest owner client.now (rows_of self.now) }
+    {
+        self.rows
+            .iter()
+            .rev()
+            .copied()
+            .find(|row| row.is_known_as(owner, client))
     }
 
     // The owner's highest-numbered order whose current client order id this is.
     pub fn named(&self, owner: usize, client: FixedText<20>) -> Option<Order>
         ensures { option_map row_of result ≡ latest owner (said client.bytes) (rows_of self.now) }
     {
-        let text = client.as_bytes();
-        let mut n = self.rows.len();
-        while n > 0 {
-            n -= 1;
-            let row = self.rows[n];
-            if row.is_known_as(owner, text) {
-                return Order::from_row(row);
-            }
-        }
-        None
+        let row = self.named_row(owner, client.as_bytes())?;
+        Order::from_row(row)
     }
 
     // How many orders have shares open.
@@ -136,13 +132,7 @@ impl Table {
         ensures value { result ≡ open-count (rows_of self.now) }
         ensures bound { result ≤ 256 }
     {
-        let mut n = 0;
-        for i in 0..self.rows.len() {
-            if self.rows[i].is_open() {
-                n += 1;
-            }
-        }
-        n
+        self.rows.iter().filter(|row| row.is_open()).count()
     }
 
     fn push(&mut self, order: Order)
@@ -157,9 +147,7 @@ impl Table {
     pub fn add(&mut self, terms: Terms, ask: Ask) -> Result<Order, AddRefusal>
         ensures { Adds (rows_of self.old) terms ask result (rows_of self.new) }
     {
-        let Some(order) = Order::accept(self.len() + 1, terms, ask) else {
-            return Err(AddRefusal::BadQuantity);
-        };
+        let order = Order::accept(self.len() + 1, terms, ask).ok_or(AddRefusal::BadQuantity)?;
         if self.rows.len() >= ORDERS {
             return Err(AddRefusal::Full);
         }

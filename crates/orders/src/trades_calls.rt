@@ -48,10 +48,7 @@ impl Trades {
     pub fn trade(&self, number: u64) -> Option<Trade>
         ensures { result ≡ at (tradesOf self.now) number }
     {
-        match place(&self.trades, number) {
-            Some(i) => Some(self.trades[i]),
-            None => None,
-        }
+        place(&self.trades, number).map(|index| self.trades[index])
     }
 
     // Adds a trade, and answers its number; none where there are 512.
@@ -69,20 +66,12 @@ impl Trades {
     pub fn cancel(&mut self, number: u64) -> Result<Trade, TradeRefusal>
         ensures { Voids (tradesOf self.old) number result (tradesOf self.new) }
     {
-        let Some(i) = place(&self.trades, number) else {
-            return Err(TradeRefusal::Unknown);
-        };
-        let trade = self.trades[i];
+        let index = place(&self.trades, number).ok_or(TradeRefusal::Unknown)?;
+        let trade = self.trades[index];
         if trade.cancelled {
             return Err(TradeRefusal::DoneBefore);
         }
-        self.trades[i] = Trade {
-            quantity: trade.quantity,
-            price: trade.price,
-            passive: trade.passive,
-            aggressive: trade.aggressive,
-            cancelled: true,
-        };
+        self.trades[index].cancelled = true;
         Ok(trade)
     }
 }

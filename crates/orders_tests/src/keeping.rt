@@ -33,9 +33,7 @@ fn numbers_and_owners(rt: HostRuntime) -> Result<(), Fail> {
     assert_eq!(rt; store.next(Partition::Two, 1, 0), Some(2));
     assert_eq!(rt; store.next(Partition::Two, 1, 2), None);
     assert_eq!(rt; store.places(), 0);
-    let Some(read) = store.read(Partition::Two, 2) else {
-        return Err(Fail::new("not read"));
-    };
+    let read = store.read(Partition::Two, 2).ok_or("not read")?;
     assert_eq!(rt; read.owner, 1);
     Ok(())
 }

@@ -33,20 +33,12 @@ fn ask(quantity: u32) -> Ask {
 fn undone_after_cancel(rt: HostRuntime) -> Result<(), Fail> {
     let mut table = Table::new(rt.alloc())?;
     let order = table.add(terms(0), ask(100))?;
-    let Some(order) = order.fill(40) else {
-        return Err(Fail::new("not filled"));
-    };
+    let order = order.fill(40).ok_or("not filled")?;
     assert_eq!(rt; order.status() as u8, 1);
-    let Some(order) = order.withdraw(Ending::Cancelled) else {
-        return Err(Fail::new("not cancelled"));
-    };
-    let Some(order) = order.undo(40) else {
-        return Err(Fail::new("not undone"));
-    };
+    let order = order.withdraw(Ending::Cancelled).ok_or("not cancelled")?;
+    let order = order.undo(40).ok_or("not undone")?;
     assert!(rt; table.write(order));
-    let Some(kept) = table.order(1) else {
-        return Err(Fail::new("not kept"));
-    };
+    let kept = table.order(1).ok_or("not kept")?;
     assert_eq!(rt; kept.ordered, 60);
     assert_eq!(rt; kept.withdrawn, 60);
     assert_eq!(rt; kept.leaves, 0);
@@ -58,9 +50,7 @@ fn undone_after_cancel(rt: HostRuntime) -> Result<(), Fail> {
 fn replaced_above_executed(rt: HostRuntime) -> Result<(), Fail> {
     let mut table = Table::new(rt.alloc())?;
     let order = table.add(terms(0), ask(100))?;
-    let Some(order) = order.fill(40) else {
-        return Err(Fail::new("not filled"));
-    };
+    let order = order.fill(40).ok_or("not filled")?;
     if let Err(refusal) = order.replace(ask(40)) {
         assert_eq!(rt; refusal.number(), 27);
     } else {
@@ -79,9 +69,7 @@ fn found_by_owner_and_id(rt: HostRuntime) -> Result<(), Fail> {
     table.add(terms(0), ask(3))?;
     assert!(rt; table.own(1, 1).is_none());
     assert!(rt; table.own(1, 2).is_some());
-    let Some(named) = table.named(0, FixedText::empty()) else {
-        return Err(Fail::new("not named"));
-    };
+    let named = table.named(0, FixedText::empty()).ok_or("not named")?;
     assert_eq!(rt; named.number, 3);
     assert_eq!(rt; table.open_count(), 3);
     Ok(())

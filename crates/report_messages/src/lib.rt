@@ -38,52 +38,23 @@ fn execution(exec: Exec) -> Execution
 fn order_id(order: Option<OrderId>) -> Identifier
     ensures { said result.bytes ≡ order-text order }
 {
-    match order {
-        Some(id) => id.text(),
-        None => FixedText::empty(),
-    }
+    order.map_or(FixedText::empty(), |id| id.text())
 }
 
 fn reference_id(reference: Option<ExecutionId>) -> Identifier
     ensures { said result.bytes ≡ reference-text reference }
 {
-    match reference {
-        Some(id) => id.text(),
-        None => FixedText::empty(),
-    }
-}
-
-fn code_of(partition: Partition) -> u8
-    ensures { result ≡ partitionCode partition }
-{
-    match partition {
-        Partition::One => 1,
-        Partition::Two => 2,
-        Partition::Three => 3,
-    }
+    reference.map_or(FixedText::empty(), |id| id.text())
 }
 
 fn own_id(partition: Partition, number: u32) -> Identifier
     ensures { said result.bytes ≡ own-text partition number }
 {
-    let partition = code_of(partition);
     ExecutionId {
-        partition,
+        partition: partition as u8,
         sequence: number,
     }
     .text()
-}
-
-fn nobody() -> Counterparty
-    ensures { said result.bytes ≡ [] }
-{
-    FixedText::empty()
-}
-
-fn no_order() -> Identifier
-    ensures { said result.bytes ≡ [] }
-{
-    FixedText::empty()
 }
 
 fn execution_message(
@@ -110,7 +81,7 @@ fn execution_message(
         symbol: e.symbol,
         side: e.side,
         secondary_order_id: 0,
-        counterparty: nobody(),
+        counterparty: FixedText::empty(),
         trade_match_id: e.trade,
         transact_time: e.time,
         book: e.book,
@@ -131,7 +102,7 @@ fn reject_message(
         partition,
         sequence: number as i32,
         client_order_id: r.client,
-        order_id: no_order(),
+        order_id: FixedText::empty(),
         reason: r.reason,
         transact_time: r.time,
     }

@@ -1,11 +1,12 @@
 -- The laws of the tally. Assumes nothing.
 use Rattle.std.proofs.Common.{◌≡◌, ℕ, zero, suc, ◌<◌, ◌≤◌, Bool, true, false, cond, eqb, List, [], ◌∷◌, ◌++◌, take, Some, None, Option, sym, refl, ap, ◌∙◌, add-one, arith}
 use Rattle.std.proofs.lemmas.Bool.{eq-eqb, cond-true, cond-false}
+use Rattle.std.specs.List.{fold as fold_each}
 use Rattle.codes.specs.declared.session.Partition.{Partition}
 use Rattle.reports.specs.declared.report.Entry.{Entry}
 use Rattle.reports.specs.Told.{told_of}
 use Rattle.reports.specs.Fold.{Table, nothing_known, fold}
-use Rattle.reports.specs.Tally.{entry_at, is-of, kept, tally-one, tally-from, tally-to, own}
+use Rattle.reports.specs.Tally.{entry_at, is-of, kept, tally-one, tally-to, own}
 use Rattle.reports.specs.Laws.{Laws, TallyLaws}
 
 never : {A : Type 0} (e : Entry) → ◌≡◌ {A = Option Entry} None (Some e) → A
@@ -13,27 +14,23 @@ never e h = absurd (let z : ◌≡◌ {A = ℕ} 0 1 = cc in let no : ⊥ = omega
 
 module _ (p : Partition) (o : ℕ) where
   abbrev from : Table → List Entry → Table
-  from t l = tally-from p o t l
+  from t l = fold_each (tally-one p o) t l
 
   abbrev one : Table → Entry → Table
   one t e = tally-one p o t e
 
   from-nil : (t : Table) → from t [] ≡ t
-  unfolding tally-from
   from-nil t = refl
 
   from_cons : (t : Table) (e : Entry) (l : List Entry) → from t (e ∷ l) ≡ from (one t e) l
-  unfolding tally-from
   from_cons t e l = refl
 
   -- one report more at the end
   pub from-push : (t : Table) (l : List Entry) (e : Entry) → from t (l ++ (e ∷ [])) ≡ one (from t l) e
-  unfolding tally-from
   from-push t [] e = refl
   from-push t (x ∷ l) e = from-push (one t x) l e
 
   from-further : (t : Table) (l : List Entry) (n : ℕ) (e : Entry) → entry_at l (suc n) ≡ Some e → from t (take (suc n) l) ≡ one (from t (take n l)) e
-  unfolding tally-from
   from-further t [] n e h = never e h
   from-further t (x ∷ l) zero e h = let same : x ≡ e = cc in ap (one t) same
   from-further t (x ∷ l) (suc n) e h = from-further (one t x) l n e h
@@ -43,7 +40,6 @@ module _ (p : Partition) (o : ℕ) where
 
   -- no report of the owner past n
   from-rest : (t : Table) (l : List Entry) (n : ℕ) → ((k : ℕ) → n < k → is-of o (entry_at l k) ≡ false) → from t (take n l) ≡ from t l
-  unfolding tally-from
   from-rest t [] zero h = refl
   from-rest t [] (suc n) h = refl
   from-rest t (x ∷ l) zero h = from-rest t l zero shift ∙ ap (λ u. from u l) (sym (not_own t x (h 1 (omega arith))))
@@ -59,7 +55,6 @@ module _ (p : Partition) (o : ℕ) where
 
   -- none between m and n
   from-skip : (t : Table) (l : List Entry) (m n : ℕ) → m ≤ n → ((k : ℕ) → m < k → k ≤ n → is-of o (entry_at l k) ≡ false) → from t (take n l) ≡ from t (take m l)
-  unfolding tally-from
   from-skip t [] zero zero le h = refl
   from-skip t [] zero (suc n) le h = refl
   from-skip t [] (suc m) zero le h = refl
@@ -83,7 +78,6 @@ module _ (p : Partition) (o : ℕ) where
   own-one t e l false q h = h t
 
   from-own : (t : Table) (l : List Entry) → from t l ≡ from t (own o l)
-  unfolding tally-from own
   from-own t [] = refl
   from-own t (e ∷ l) = own-one t e l (eqb e.owner o) refl (λ u. from-own u l)
 

@@ -1,14 +1,14 @@
 -- What a CompID's reports of a partition say of its orders, up to a number. Assumes nothing.
-use Rattle.std.specs.Prelude.{ℕ, zero, suc, Bool, false, cond, List, [], ◌∷◌, take, Some, None, Ok, Err, Option, Result, ◌==◌}
-use Rattle.std.specs.List.{slice_get}
+use Rattle.std.specs.Prelude.{ℕ, zero, suc, Bool, false, cond, List, take, Some, None, Ok, Err, Option, Result, ◌==◌, filter}
+use Rattle.std.specs.List.{fold as fold_each, slice_get}
 use Rattle.codes.specs.declared.session.Partition.{Partition}
 use Rattle.reports.specs.declared.report.Entry.{Entry}
 use Rattle.reports.specs.declared.fold.FoldRefusal.{FoldRefusal}
 use Rattle.reports.specs.Told.{told_of}
 use Rattle.reports.specs.Fold.{Table, nothing_known, fold}
 
--- the report under a number; numbers count from 1
-abbrev pub entry_at : List Entry → ℕ → Option Entry
+-- what stands under a number; numbers count from 1
+abbrev pub entry_at : {X : Type 0} → List X → ℕ → Option X
 entry_at l zero = None
 entry_at l (suc n) = slice_get l n
 
@@ -26,19 +26,14 @@ kept k (Err e) = k
 abbrev pub tally-one : Partition → ℕ → Table → Entry → Table
 tally-one p o k e = cond (e.owner == o) (kept k (fold p (told_of e.report) k)) k
 
-unfoldable pub tally-from : Partition → ℕ → Table → List Entry → Table
-tally-from p o k [] = k
-tally-from p o k (e ∷ l) = tally-from p o (tally-one p o k e) l
-
 -- all reports of a partition, in turn
 abbrev pub tally : Partition → ℕ → List Entry → Table
-tally p o l = tally-from p o nothing_known l
+tally p o l = fold_each (tally-one p o) nothing_known l
 
 -- the reports up to a number
 abbrev pub tally-to : Partition → ℕ → List Entry → ℕ → Table
 tally-to p o l n = tally p o (take n l)
 
 -- the owner's own reports
-unfoldable pub own : ℕ → List Entry → List Entry
-own o [] = []
-own o (e ∷ l) = cond (e.owner == o) (e ∷ own o l) (own o l)
+abbrev pub own : ℕ → List Entry → List Entry
+own o l = filter (λ e. e.owner == o) l

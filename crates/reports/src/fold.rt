@@ -1,8 +1,8 @@
 // Folding a report into a table of standings.
-ghost use Rattle.std.specs.Prelude.{◌≡◌, ℕ, ◌+◌, ◌<◌, ◌≤◌, true, false, [], pos, ◌-ℤ◌, IfOk, Some, None, MatchOption, ◌==◌, slice_index_or};
+ghost use Rattle.std.specs.Prelude.{◌≡◌, ℕ, ◌+◌, ◌<◌, ◌≤◌, true, false, [], pos, ◌-ℤ◌, IfOk, Some, None, MatchOption, ◌==◌, slice_index_or, position};
 ghost use Rattle.reports.specs.Effects.{effect_of};
 ghost use Rattle.reports.specs.Fold.{nothing_known, natural, added, filled-to, executed-after, changed, fold-number, fold-order, fold, Folds};
-ghost use Rattle.reports.specs.Views.{known_of, table_of, Found, standing-in};
+ghost use Rattle.reports.specs.Views.{known_of, table_of, has-number, standing-in};
 
 use crate::standing::{Effect, Standing, Told, effect_of};
 use crate::standings::{Known, Standings};
@@ -37,11 +37,7 @@ impl FoldRefusal {
 fn natural_of(figure: i32) -> Option<u32>
     ensures { result ≡ natural figure }
 {
-    if figure < 0 {
-        None
-    } else {
-        Some(figure as u32)
-    }
+    u32::try_from(figure).ok()
 }
 
 // The standing of an order that a report adds.
@@ -64,24 +60,16 @@ fn added_by(partition: Partition, told: Told) -> Option<Standing>
 fn filled_by(quantity: i32, leaves: u32, was: Standing) -> Option<u64>
     ensures { result ≡ filled-to (natural quantity) leaves was }
 {
-    match natural_of(quantity) {
-        None => None,
-        Some(quantity) => {
-            if quantity > 0 && leaves as u64 + quantity as u64 == was.leaves as u64 {
-                Some(was.executed as u64 + quantity as u64)
-            } else {
-                None
-            }
-        }
-    }
+    let quantity = natural_of(quantity)? as u64;
+    let fits = quantity > 0 && leaves as u64 + quantity == was.leaves as u64;
+    fits.then_some(was.executed as u64 + quantity)
 }
 
 // Executed after the undoing of a fill.
 fn undone_by(quantity: i32, executed: u32) -> Option<u64>
     ensures { result ≡ natural (pos executed -ℤ quantity) }
 {
-    let left = executed as i64 - quantity as i64;
-    if left < 0 { None } else { Some(left as u64) }
+    u64::try_from(executed as i64 - quantity as i64).ok()
 }
 
 // Executed after a report that leaves so many shares open.
@@ -92,8 +80,7 @@ fn executed_by(told: Told, leaves: u32, was: Standing) -> Option<u64>
         Effect::Adds => None,
         Effect::Fills => filled_by(told.quantity, leaves, was),
         Effect::Undoes => undone_by(told.quantity, was.executed),
-        Effect::Tells => Some(was.executed as u64),
-        Effect::Nothing => Some(was.executed as u64),
+        Effect::Tells | Effect::Nothing => Some(was.executed as u64),
     }
 }
 
@@ -102,29 +89,16 @@ fn changed_by(told: Told, was: Standing) -> Option<Standing>
     ensures { result ≡ changed told was }
 {
     let leaves = natural_of(told.leaves)?;
-    match executed_by(told, leaves, was) {
-        None => None,
-        Some(executed) => {
-            if executed <= MOST as u64 {
-                Some(Standing {
-                    partition: was.partition,
-                    status: told.status,
-                    executed: executed as u32,
-                    leaves,
-                })
-            } else {
-                None
-            }
-        }
+    let executed = executed_by(told, leaves, was)?;
+    if executed > MOST as u64 {
+        return None;
     }
-}
-
-impl Known {
-    fn is_of(&self, number: u64) -> bool
-        ensures { result ≡ (number == self.now.number) }
-    {
-        self.number == number
-    }
+    Some(Standing {
+        status: told.status,
+        executed: executed as u32,
+        leaves,
+        ..was
+    })
 }
 
 impl Standings {
@@ -147,11 +121,7 @@ impl Standings {
     pub fn get(&self, index: usize) -> Option<Known>
         ensures { MatchOption result ((table_of self.now).count ≤ index) (λ k. (index < (table_of self.now).count) × (k ≡ slice_index_or (known_of self.now) index k)) }
     {
-        if index < self.rows.len() {
-            Some(self.rows[index])
-        } else {
-            None
-        }
+        self.rows.get(index).copied()
     }
 
     // Takes over what another table knows, in the memory that is reserved: for a trial that may have to be undone.
@@ -160,66 +130,46 @@ impl Standings {
         ensures table { table_of self.new ≡ table_of other.now }
     {
         self.rows.clear();
-        for i in 0..other.rows.len() {
-            self.rows.push_reserved(other.rows[i]);
+        for row in &other.rows {
+            self.rows.push_reserved(*row);
         }
     }
 
     fn find(&self, number: u64) -> Option<usize>
-        ensures { Found (known_of self.now) number result }
+        ensures { result ≡ position (has-number number) (known_of self.now) }
     {
-        for i in 0..self.rows.len() {
-            if self.rows[i].is_of(number) {
-                return Some(i);
-            }
-        }
-        None
-    }
-
-    fn standing_at(&self, number: u64, index: usize) -> Standing
-        requires { Found (known_of self.now) number (Some index) }
-        ensures { (table_of self.now).standing number ≡ Some result }
-    {
-        self.rows[index].standing
+        self.rows.iter().position(|row| row.number == number)
     }
 
     // Where an order stands.
     pub fn standing(&self, number: u64) -> Option<Standing>
         ensures { result ≡ (table_of self.now).standing number }
     {
-        match self.find(number) {
-            Some(index) => Some(self.standing_at(number, index)),
-            None => None,
-        }
+        self.rows
+            .iter()
+            .find(|row| row.number == number)
+            .map(|row| row.standing)
     }
 
     fn fold_known(&mut self, number: u64, index: usize, told: Told) -> Result<(), FoldRefusal>
-        requires { Found (known_of self.old) number (Some index) }
+        requires { position (has-number number) (known_of self.old) ≡ Some index }
         ensures { (p : Partition) → Folds (fold-order p told (table_of self.old) number ((table_of self.old).standing number)) (table_of self.old) result (table_of self.new) }
     {
-        match changed_by(told, self.rows[index].standing) {
-            None => Err(FoldRefusal::Unfit),
-            Some(standing) => {
-                self.rows[index] = Known { number, standing };
-                Ok(())
-            }
-        }
+        let standing = changed_by(told, self.rows[index].standing).ok_or(FoldRefusal::Unfit)?;
+        self.rows[index] = Known { number, standing };
+        Ok(())
     }
 
     fn fold_new(&mut self, partition: Partition, number: u64, told: Told) -> Result<(), FoldRefusal>
         requires { standing-in (known_of self.old) number ≡ None }
         ensures { Folds (fold-order partition told (table_of self.old) number ((table_of self.old).standing number)) (table_of self.old) result (table_of self.new) }
     {
-        match added_by(partition, told) {
-            None => Err(FoldRefusal::Unfit),
-            Some(standing) => {
-                if self.rows.len() >= ORDERS {
-                    return Err(FoldRefusal::Full);
-                }
-                self.rows.push_reserved(Known { number, standing });
-                Ok(())
-            }
+        let standing = added_by(partition, told).ok_or(FoldRefusal::Unfit)?;
+        if self.rows.len() >= ORDERS {
+            return Err(FoldRefusal::Full);
         }
+        self.rows.push_reserved(Known { number, standing });
+        Ok(())
     }
 
     // Folds what a report of a partition tells; a refused report changes nothing.
@@ -232,9 +182,7 @@ impl Standings {
         if let Effect::Nothing = effect_of(told.kind) {
             return Ok(());
         }
-        let Some(order) = told.order else {
-            return Err(FoldRefusal::Unfit);
-        };
+        let order = told.order.ok_or(FoldRefusal::Unfit)?;
         match self.find(order.number) {
             Some(index) => self.fold_known(order.number, index, told),
             None => self.fold_new(partition, order.number, told),

@@ -101,8 +101,7 @@ impl Report {
                 quantity: e.quantity,
                 leaves: e.leaves,
             }),
-            Report::CancelReject(_) => None,
-            Report::MassCancel(_) => None,
+            Report::CancelReject(_) | Report::MassCancel(_) => None,
         }
     }
 }

@@ -43,10 +43,10 @@ pub(crate) fn effect_of(kind: ExecType) -> Effect
         ExecType::Trade => Effect::Fills,
         ExecType::TradeCancel => Effect::Undoes,
         ExecType::Rejected => Effect::Nothing,
-        ExecType::Unspecified => Effect::Tells,
-        ExecType::Cancelled => Effect::Tells,
-        ExecType::Replaced => Effect::Tells,
-        ExecType::Expired => Effect::Tells,
-        ExecType::Restated => Effect::Tells,
+        ExecType::Unspecified
+        | ExecType::Cancelled
+        | ExecType::Replaced
+        | ExecType::Expired
+        | ExecType::Restated => Effect::Tells,
     }
 }

@@ -1,44 +1,37 @@
--- Entries under their numbers, and the owner's next. Assumes nothing.
-use Rattle.std.proofs.Common.{◌≡◌, ℕ, zero, suc, ◌+◌, ◌<◌, ◌≤◌, Bool, true, false, cond, eqb, ◌⊎◌, List, [], ◌∷◌, length, get_or, drop, Some, None, Option, sym, refl, ap, ◌∙◌, subst, inl, inr, arith}
-use Rattle.std.proofs.lemmas.Option.{slice_get_read, slice_get_past}
+-- Items under their numbers, and the owner's next. Assumes nothing.
+use Rattle.std.proofs.Common.{◌≡◌, ℕ, zero, suc, ◌+◌, ◌<◌, Bool, true, false, cond, eqb, List, [], ◌∷◌, drop, Some, None, Option, sym, refl, ap, ◌∙◌, subst, arith}
+use Rattle.std.specs.Prelude.{position}
+use Rattle.std.specs.List.{position_from}
 use Rattle.std.specs.Option.{option_map}
+use Rattle.std.proofs.lemmas.Iterator.Adapters.{position_from-zero}
 use Rattle.reports.specs.declared.report.Entry.{Entry}
 use Rattle.reports.specs.Tally.{entry_at, is-of}
-use Rattle.store.specs.Kept.{next-from, next-after}
+use Rattle.store.specs.Kept.{next-after}
 use Rattle.store.specs.Laws.{Lowest, NextLaw}
 
-pub at_none : (l : List Entry) (n len : ℕ) → len ≡ length l → (n ≡ 0) ⊎ (len < n) → None ≡ entry_at l n
-at_none l zero len e h = refl
-at_none l (suc m) len e (inl h) = absurd (let no : ⊥ = omega arith in no)
-at_none l (suc m) len e (inr h) = sym (slice_get_past l m (omega arith))
+-- indices that begin higher by m
+from-higher : {X : Type 0} (p : X → Bool) (m k : ℕ) (xs : List X) → position_from p (m + k) xs ≡ option_map (λ i. m + i) (position_from p k xs)
+from-higher p m k [] = refl
+from-higher p m k (x ∷ xs) =
+    either (p x) (let e : m + k + 1 ≡ m + (k + 1) = omega arith in ap (λ j. position_from p j xs) e ∙ from-higher p m (k + 1) xs)
+  where
+    either : (b : Bool) → position_from p (m + k + 1) xs ≡ option_map (λ i. m + i) (position_from p (k + 1) xs) → cond b (Some (m + k)) (position_from p (m + k + 1) xs) ≡ option_map (λ i. m + i) (cond b (Some k) (position_from p (k + 1) xs))
+    either true h = refl
+    either false h = h
 
-pub at_read : (l : List Entry) (n i : ℕ) (x : Entry) → n ≡ i + 1 → i < length l → x ≡ get_or l i x → Some x ≡ entry_at l n
-at_read l zero i x e h read = absurd (let no : ⊥ = omega arith in no)
-at_read l (suc m) i x e h read = let same : i ≡ m = omega arith in sym (slice_get_read l (length l) m x refl (omega arith) (subst (λ k. x ≡ get_or l k x) same read))
-
--- nothing behind the end
-pub next-end : (o i m : ℕ) (l : List Entry) → length l ≤ i → next-from o m (drop i l) ≡ None
-unfolding next-from
-next-end o zero m [] h = refl
-next-end o (suc i) m [] h = refl
-next-end o zero m (x ∷ l) h = absurd (let no : ⊥ = omega arith in no)
-next-end o (suc i) m (x ∷ l) h = next-end o i m l (omega arith)
-
--- the entry at an index, by a test of it
-pub next-step : (o i m : ℕ) (l : List Entry) (x : Entry) (b : Bool) → i < length l → x ≡ get_or l i x → b ≡ eqb x.owner o → next-from o m (drop i l) ≡ cond b (Some m) (next-from o (suc m) (drop (suc i) l))
-unfolding next-from
-next-step o i m [] x b h read e = absurd (let no : ⊥ = omega arith in no)
-next-step o zero m (y ∷ l) x b h read e = ap (λ (t : Bool). cond t (Some m) (next-from o (suc m) l)) (ap (λ (z : Entry). eqb z.owner o) (sym read) ∙ sym e)
-next-step o (suc i) m (y ∷ l) x b h read e = next-step o i m l x b (omega arith) read e
+-- a number, by how many items are passed over
+pub next-passed : {X : Type 0} (p : X → Bool) (above : ℕ) (xs : List X) (r : Option ℕ) → r ≡ position p xs → position_from p (above + 1) xs ≡ option_map (λ i. above + 1 + i) r
+next-passed p above xs r e =
+    let same : above + 1 ≡ above + 1 + 0 = omega arith in
+    ap (λ j. position_from p j xs) same ∙ from-higher p (above + 1) 0 xs ∙ ap (option_map (λ i. above + 1 + i)) (sym (e ∙ position_from-zero p xs))
 
 -- numbers that begin one higher
-pub next-shift : (o m : ℕ) (l : List Entry) → next-from o (suc m) l ≡ option_map suc (next-from o m l)
-unfolding next-from
+pub next-shift : (o m : ℕ) (l : List Entry) → position_from (λ (e : Entry). eqb e.owner o) (m + 1) l ≡ option_map suc (position_from (λ (e : Entry). eqb e.owner o) m l)
 next-shift o m [] = refl
-next-shift o m (e ∷ l) = either (eqb e.owner o) (next-shift o (suc m) l)
+next-shift o m (e ∷ l) = either (eqb e.owner o) (next-shift o (m + 1) l)
   where
-    either : (b : Bool) → next-from o (suc (suc m)) l ≡ option_map suc (next-from o (suc m) l) → cond b (Some (suc m)) (next-from o (suc (suc m)) l) ≡ option_map suc (cond b (Some m) (next-from o (suc m) l))
-    either true h = refl
+    either : (b : Bool) → position_from (λ (e : Entry). eqb e.owner o) (m + 1 + 1) l ≡ option_map suc (position_from (λ (e : Entry). eqb e.owner o) (m + 1) l) → cond b (Some (m + 1)) (position_from (λ (e : Entry). eqb e.owner o) (m + 1 + 1) l) ≡ option_map suc (cond b (Some m) (position_from (λ (e : Entry). eqb e.owner o) (m + 1) l))
+    either true h = let e : m + 1 ≡ suc m = omega arith in ap Some e
     either false h = h
 
 -- one entry more at the front, that is passed over since it is low
@@ -73,17 +66,18 @@ pass x l o (Some (suc n)) e h = (omega arith, h.1, go)
     go (suc zero) lt up = e
     go (suc (suc k)) lt up = h.2 (suc k) (omega arith) (omega arith)
 
-front : (x : Entry) (l : List Entry) (o : ℕ) (b : Bool) → b ≡ eqb x.owner o → Lowest l o 0 (next-from o 1 l) → Lowest (x ∷ l) o 0 (cond b (Some 1) (next-from o 2 l))
+front : (x : Entry) (l : List Entry) (o : ℕ) (b : Bool) → b ≡ eqb x.owner o → Lowest l o 0 (next-after l o 0) → Lowest (x ∷ l) o 0 (cond b (Some 1) (position_from (λ (e : Entry). eqb e.owner o) 2 l))
 front x l o true e h = (omega arith, sym e, λ k lt up. absurd (let no : ⊥ = omega arith in no))
-front x l o false e h = subst (λ r. Lowest (x ∷ l) o 0 r) (sym (next-shift o 1 l)) (pass x l o (next-from o 1 l) (sym e) h)
+front x l o false e h = subst (λ r. Lowest (x ∷ l) o 0 r) (sym (next-shift o 1 l)) (pass x l o (next-after l o 0) (sym e) h)
 
 none : (o above k : ℕ) → is-of o (entry_at [] k) ≡ false
 none o above zero = refl
 none o above (suc k) = refl
 
 pub next-lowest : NextLaw
-unfolding next-from
 next-lowest [] o zero = λ k lt. none o 0 k
 next-lowest [] o (suc above) = λ k lt. none o above k
 next-lowest (x ∷ l) o zero = front x l o (eqb x.owner o) refl (next-lowest l o zero)
-next-lowest (x ∷ l) o (suc above) = subst (λ r. Lowest (x ∷ l) o (suc above) r) (sym (next-shift o (suc above) (drop above l))) (lift x l o above (next-after l o above) (next-lowest l o above))
+next-lowest (x ∷ l) o (suc above) =
+    let same : suc above + 1 ≡ above + 1 + 1 = omega arith in
+    subst (λ r. Lowest (x ∷ l) o (suc above) r) (sym (ap (λ j. position_from (λ (e : Entry). eqb e.owner o) j (drop above l)) same ∙ next-shift o (above + 1) (drop above l))) (lift x l o above (next-after l o above) (next-lowest l o above))

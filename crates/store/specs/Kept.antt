@@ -1,5 +1,6 @@
 -- What a store means. Assumes nothing.
-use Rattle.std.specs.Prelude.{◌≡◌, ℕ, suc, ◌+◌, ◌<◌, ◌≤◌, cond, List, [], ◌∷◌, ◌++◌, length, drop, Some, None, Option, ◌==◌}
+use Rattle.std.specs.Prelude.{◌≡◌, ℕ, ◌+◌, ◌<◌, ◌≤◌, List, [], ◌∷◌, ◌++◌, length, drop, Some, None, Option, ◌==◌}
+use Rattle.std.specs.List.{position_from}
 use Rattle.codes.specs.declared.session.Partition.{Partition}
 use Rattle.codes.specs.declared.session.Partition.TheVariants.{One, Two, Three}
 use Rattle.reports.specs.declared.report.Entry.{Entry}
@@ -33,11 +34,10 @@ abbrev pub Appends : Kept → ℕ → Partition → Entry → Option ℕ → Kep
 Appends k free p e None k' free' = (free ≡ 0) × (k' ≡ k) × (free' ≡ free)
 Appends k free p e (Some n) k' free' = (0 < free) × (n ≡ length (reports-in k p) + 1) × (k' ≡ grown k p e) × (free' ≤ free) × (free ≤ free' + 1)
 
--- the number of the first report that is the owner's, where the first report has number n
-unfoldable pub next-from : ℕ → ℕ → List Entry → Option ℕ
-next-from o n [] = None
-next-from o n (e ∷ l) = cond (e.owner == o) (Some n) (next-from o (suc n) l)
+-- the lowest number above a given one under which an item is the owner's
+abbrev pub next-of : {X : Type 0} → (X → ℕ) → List X → ℕ → ℕ → Option ℕ
+next-of owner xs o above = position_from (λ x. owner x == o) (above + 1) (drop above xs)
 
--- the owner's next number
+-- the owner's next report
 abbrev pub next-after : List Entry → ℕ → ℕ → Option ℕ
-next-after l o above = next-from o (suc above) (drop above l)
+next-after l o above = next-of (λ e. e.owner) l o above

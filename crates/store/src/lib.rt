@@ -9,6 +9,7 @@ use codes::session::Partition;
 use reports::report::Entry;
 
 pub mod laws;
+pub mod numbered;
 pub mod records;
 pub mod records_calls;
 

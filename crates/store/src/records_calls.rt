@@ -5,40 +5,12 @@ ghost use Rattle.store.specs.Kept.{empty, reports-in, next-after};
 ghost use Rattle.store.specs.Views.{recorded, unused};
 ghost use Rattle.std.proofs.Common.{rules};
 
+use crate::numbered::{item_of, next_of};
 use crate::records::Records;
 use crate::{REPORTS, Store};
 use codes::session::Partition;
 use reports::report::Entry;
 use std::alloc::{AllocError, Global};
-
-fn is_of(entry: &Entry, owner: usize) -> bool
-    ensures { result ≡ (entry.now.owner == owner) }
-{
-    entry.owner == owner
-}
-
-// The entry of a number.
-fn entry_of(entries: &Vec<Entry>, number: u32) -> Option<Entry>
-    ensures { result ≡ entry_at entries.now.items number }
-{
-    if number == 0 || number as usize > entries.len() {
-        return None;
-    }
-    Some(entries[number as usize - 1])
-}
-
-// Looks at the entries above a number in turn, and at no other.
-fn next_of(entries: &Vec<Entry>, owner: usize, above: u32) -> Option<u32>
-    requires { vec_len entries.now ≤ 16384 }
-    ensures { result ≡ next-after entries.now.items owner above }
-{
-    for i in above as usize..entries.len() {
-        if is_of(&entries[i], owner) {
-            return Some(i as u32 + 1);
-        }
-    }
-    None
-}
 
 impl Records {
     // A store with so many places, at most 16,384.
@@ -57,9 +29,9 @@ impl Records {
         })
     }
 
-    fn entries(&self, partition: Partition) -> &Vec<Entry>
-        ensures items { result.now.items ≡ reports-in (recorded self.now) partition }
-        ensures bound { vec_len result.now ≤ 16384 }
+    fn entries(&self, partition: Partition) -> &[Entry]
+        ensures items { result.now ≡ reports-in (recorded self.now) partition }
+        ensures bound { length result.now ≤ 16384 }
     {
         match partition {
             Partition::One => &self.one,
@@ -97,7 +69,7 @@ impl Store for Records {
     }
 
     fn read(&self, partition: Partition, number: u32) -> Option<Entry> {
-        entry_of(self.entries(partition), number)
+        item_of(self.entries(partition), number)
     }
 
     fn next(&self, partition: Partition, owner: usize, above: u32) -> Option<u32> {

@@ -1,11 +1,13 @@
 -- Appending counts one, and the next number leaves out no report. Assumes nothing.
 use Rattle.std.proofs.Common.{◌≡◌, ℕ, zero, suc, ◌+◌, ◌<◌, ◌≤◌, Bool, true, false, cond, eqb, List, [], ◌∷◌, length, drop, Some, None, Option, sym, refl, ap, ◌∙◌, subst, arith, length-append}
 use Rattle.std.specs.Option.{option_map}
+use Rattle.std.specs.List.{position_from}
+use Rattle.std.proofs.lemmas.List.Sums.{sum_by-cons}
 use Rattle.codes.specs.declared.session.Partition.{Partition}
 use Rattle.codes.specs.declared.session.Partition.TheVariants.{One, Two, Three}
 use Rattle.reports.specs.declared.report.Entry.{Entry}
 use Rattle.reports.specs.Tally.{entry_at}
-use Rattle.store.specs.Kept.{Kept, grown, total, next-from, next-after, reports-in}
+use Rattle.store.specs.Kept.{Kept, grown, total, next-after}
 use Rattle.store.proofs.Nexts.{next-shift}
 use Rattle.store_bench.specs.Counts.{owned, owned_below, Counts}
 
@@ -14,27 +16,8 @@ total-grown k One e = let h = length-append k.one (e ∷ []) in omega arith
 total-grown k Two e = let h = length-append k.two (e ∷ []) in omega arith
 total-grown k Three e = let h = length-append k.three (e ∷ []) in omega arith
 
-pub in-total : (k : Kept) (p : Partition) → length (reports-in k p) ≤ total k
-in-total k One = omega arith
-in-total k Two = omega arith
-in-total k Three = omega arith
-
-pub owned-none : (o : ℕ) → owned o [] ≡ 0
-unfolding owned
-owned-none o = refl
-
 owned-cons : (o : ℕ) (x : Entry) (l : List Entry) (b : Bool) → b ≡ eqb x.owner o → owned o (x ∷ l) ≡ cond b 1 0 + owned o l
-unfolding owned
-owned-cons o x l b e = ap (λ (t : Bool). cond t 1 0 + owned o l) (sym e)
-
-pub owned-few : (o : ℕ) (l : List Entry) → owned o l ≤ length l
-unfolding owned
-owned-few o [] = omega arith
-owned-few o (x ∷ l) = let h = owned-few o l in let one = below (eqb x.owner o) in omega arith
-  where
-    below : (b : Bool) → cond b 1 0 ≤ 1
-    below true = omega arith
-    below false = omega arith
+owned-cons o x l b e = sum_by-cons (λ (y : Entry). cond (eqb y.owner o) 1 0) x l ∙ ap (λ (t : Bool). cond t 1 0 + owned o l) (sym e)
 
 lift : (x : Entry) (l : List Entry) (o above : ℕ) (r : Option ℕ) → Counts l o above r → Counts (x ∷ l) o (suc above) (option_map suc r)
 lift x l o above None h = h
@@ -46,13 +29,13 @@ front x l o false None e h = owned-cons o x l false e ∙ omega (arith, h)
 front x l o false (Some n) e h = (omega arith, omega (arith, h.1), owned-cons o x l false e ∙ omega (arith, h.2))
 
 pub next-counts : (l : List Entry) (o above : ℕ) → Counts l o above (next-after l o above)
-unfolding next-from
-next-counts [] o zero = owned-none o
-next-counts [] o (suc above) = owned-none o
+next-counts [] o zero = refl
+next-counts [] o (suc above) = refl
 next-counts (x ∷ l) o zero =
     subst (λ r. Counts (x ∷ l) o 0 (cond (eqb x.owner o) (Some 1) r)) (sym (next-shift o 1 l)) (front x l o (eqb x.owner o) (next-after l o 0) refl (next-counts l o 0))
 next-counts (x ∷ l) o (suc above) =
-    subst (λ r. Counts (x ∷ l) o (suc above) r) (sym (next-shift o (suc above) (drop above l))) (lift x l o above (next-after l o above) (next-counts l o above))
+    let same : suc above + 1 ≡ above + 1 + 1 = omega arith in
+    subst (λ r. Counts (x ∷ l) o (suc above) r) (sym (ap (λ j. position_from (λ (e : Entry). eqb e.owner o) j (drop above l)) same ∙ next-shift o (above + 1) (drop above l))) (lift x l o above (next-after l o above) (next-counts l o above))
 
 -- a number within the list has an entry
 pub entry-there : (l : List Entry) (n : ℕ) → 0 < n → n ≤ length l → entry_at l n ≡ None → ⊥

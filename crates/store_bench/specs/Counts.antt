@@ -1,5 +1,5 @@
 -- How many reports a store has, and how many are an owner's. Assumes nothing.
-use Rattle.std.specs.Prelude.{◌≡◌, ℕ, zero, suc, ◌+◌, ◌<◌, ◌≤◌, cond, List, [], ◌∷◌, length, drop, Some, None, Option, ◌==◌}
+use Rattle.std.specs.Prelude.{◌≡◌, ℕ, zero, suc, ◌+◌, ◌<◌, ◌≤◌, List, length, drop, Some, None, Option, ◌==◌, count_by}
 use Rattle.codes.specs.declared.session.Partition.{Partition}
 use Rattle.codes.specs.declared.session.Partition.TheVariants.{One, Two, Three}
 use Rattle.reports.specs.declared.report.Entry.{Entry}
@@ -12,9 +12,8 @@ turn (suc zero) = Two
 turn (suc (suc n)) = Three
 
 -- how many reports of a list are an owner's
-unfoldable pub owned : ℕ → List Entry → ℕ
-owned o [] = 0
-owned o (e ∷ l) = cond (e.owner == o) 1 0 + owned o l
+abbrev pub owned : ℕ → List Entry → ℕ
+owned o l = count_by (λ e. e.owner == o) l
 
 -- how many are of the first owners
 unfoldable pub owned_below : ℕ → Kept → ℕ

@@ -11,10 +11,7 @@ use store::records::Records;
 
 // A time in nanoseconds for each of so many.
 fn each(nanoseconds: u128, count: usize) -> u128 {
-    match nanoseconds.checked_div(count as u128) {
-        Some(n) => n,
-        None => 0,
-    }
+    nanoseconds.checked_div(count as u128).unwrap_or(0)
 }
 
 fn run(rt: &HostRuntime) -> anyhow::Result<()> {

@@ -33,13 +33,9 @@ pub fn fill<S: Store>(store: &mut S) -> usize
 fn read_next<S: Store>(store: &S, partition: Partition, owner: usize, above: u32) -> Option<u32>
     ensures { Counts (reports-in (S.Store.kept store.now) partition) owner above result }
 {
-    match store.next(partition, owner, above) {
-        None => None,
-        Some(number) => match store.read(partition, number) {
-            Some(_) => Some(number),
-            None => None,
-        },
-    }
+    let number = store.next(partition, owner, above)?;
+    store.read(partition, number)?;
+    Some(number)
 }
 
 // Reads an owner's reports of a partition by rising number, and answers how many there are.

@@ -1,20 +1,25 @@
-use Rattle.std.proofs.Common.{◌-◌, Some, refl, ap, ◌∙◌, inl, inr, arith}
-use Rattle.byte_store.proofs.Parts.{within-at}
-use Rattle.byte_store.proofs.Steps.{read_none, read_some}
+use Rattle.std.proofs.Common.{Some, sym, ap, ◌∙◌, vec_items, vec_len, rules}
+use Rattle.std.specs.Option.{option_map}
+use Rattle.byte_store.specs.Places.{entry_in}
+use Rattle.reports.specs.Tally.{entry_at}
+use Rattle.byte_store.proofs.Parts.{within-entry}
+use Rattle.byte_store.proofs.Steps.{read-in}
 use Rattle.byte_store.proofs.buffered.Buffered.entry_of.Goals as goal
-use Rattle.byte_store.proofs.buffered.Buffered.entry_of.Goals.{then-number-eq0-via-then-number-eq0, then-number-eq0-via-else-number-eq0+then-number-len}
 
-pub returns-then-number-eq0 : goal.returns-then-number-eq0
-returns-then-number-eq0 g c =
-    elim c.then-number-eq0.branch [
-      | then-number-eq0-via-then-number-eq0 w ↦ read_none g.C.Codec.decoded c.args.self.now c.args.partition c.places_of-places.result.now.items c.args.number _ c.places_of-places.ensures.items refl (inl w.if-number-eq0.true)
-      | then-number-eq0-via-else-number-eq0+then-number-len w ↦ read_none g.C.Codec.decoded c.args.self.now c.args.partition c.places_of-places.result.now.items c.args.number w.len.result c.places_of-places.ensures.items (omega arith) (inr (omega arith))
-    ]
+pub returns-in_err-place : goal.returns-in_err-place
+returns-in_err-place g c =
+    let s = c.args.self.now in
+    let d = g.C.Codec.decoded in
+    let e = ap (option_map (entry_in d (vec_items s.buffer))) (c.in_err-place.ensures ∙ ap (λ ps. entry_at ps c.args.number) c.places_of.ensures.items) ∙ sym (read-in d s c.args.partition c.args.number) in
+    search (rules, e)
 
 pub entry-requires : goal.entry-requires
-entry-requires g c = within-at _ c.places_of-places.result.now.items (c.args.number - 1) c.index.result.now c.places_of-places.ensures.inside (omega arith) c.index.ensures
+entry-requires g c = within-entry (vec_len c.args.self.now.buffer) c.places_of.result.now c.args.number c.in_ok-place.place c.places_of.ensures.inside (sym c.in_ok-place.ensures)
 
 pub returns : goal.returns
 returns g c =
+    let s = c.args.self.now in
+    let d = g.C.Codec.decoded in
     ap Some c.entry.ensures
-    ∙ read_some g.C.Codec.decoded c.args.self.now c.args.partition c.places_of-places.result.now.items c.args.number (c.args.number - 1) c.index.result.now c.places_of-places.ensures.items (omega arith) (omega arith) c.index.ensures
+    ∙ ap (option_map (entry_in d (vec_items s.buffer))) (c.in_ok-place.ensures ∙ ap (λ ps. entry_at ps c.args.number) c.places_of.ensures.items)
+    ∙ sym (read-in d s c.args.partition c.args.number)

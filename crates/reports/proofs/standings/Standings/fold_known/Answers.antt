@@ -1,9 +1,11 @@
-use Rattle.std.proofs.Common.{refl}
+use Rattle.std.proofs.Common.{sym, ◌∙◌, rules}
 use Rattle.reports.proofs.Looks.{known-folds, known-unfit}
 use Rattle.reports.proofs.standings.Standings.fold_known.Goals as goal
 
-pub returns-in-None : goal.returns-in-None
-returns-in-None c p = (known-unfit c.args.self.now.rows.items c.args.index c.args.number c.args.told c.index.result.now c.requires c.index.ensures c.in-None.ensures p, refl)
+pub returns-in_err-standing : goal.returns-in_err-standing
+returns-in_err-standing c p =
+    let unfit = known-unfit c.args.self.now.rows.items c.args.index c.args.number c.args.told c.index.result.now c.requires c.index.ensures (sym c.in_err-standing.ensures.ok_part ∙ c.changed_by.ensures) p in
+    search (rules, unfit)
 
-pub returns-in-Some : goal.returns-in-Some
-returns-in-Some c p = known-folds c.args.self.now.rows.items c.args.index c.args.number c.args.told c.index.result.now c.in-Some.standing c.requires c.index.ensures c.in-Some.ensures p
+pub returns : goal.returns
+returns c p = known-folds c.args.self.now.rows.items c.args.index c.args.number c.args.told c.index.result.now c.in_ok-standing.standing c.requires c.index.ensures (sym c.in_ok-standing.ensures.ok_part ∙ c.changed_by.ensures) p

@@ -3,7 +3,7 @@ use Rattle.reports.specs.Views.{table-of}
 use Rattle.reports.proofs.Looks.{new-folds}
 use Rattle.reports.proofs.standings.Standings.fold_new.Goals as goal
 
-pub returns-else-len-ge-ORDERS : goal.returns-else-len-ge-ORDERS
-returns-else-len-ge-ORDERS c =
-    new-folds c.args.self.now.rows.items c.args.number c.args.partition c.args.told c.in-Some.standing c.requires (omega arith) c.in-Some.ensures
+pub returns : goal.returns
+returns c =
+    new-folds c.args.self.now.rows.items c.args.number c.args.partition c.args.told c.in_ok-standing.standing c.requires (omega arith) (sym c.in_ok-standing.ensures.ok_part ∙ c.added_by.ensures)
     ∙ ap (λ l. Ok (table-of l)) (sym c.push_reserved.ensures.items)
