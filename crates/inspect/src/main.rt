@@ -21,7 +21,7 @@ fn run(rt: &HostRuntime) -> anyhow::Result<()> {
             account = account.with(answer.outcome);
         }
     }
-    rt.println(account.summary(heap)?)?;
+    println!(rt; "{account}")?;
     Ok(())
 }
 

@@ -1,29 +1,26 @@
 -- Fields shown one after the other. Assumes nothing.
-use Rattle.std.proofs.Common.{◌≡◌, ℕ, ◌+◌, ◌<◌, ◌≤◌, List, [], ◌∷◌, ◌++◌, length, get_or, drop, sym, refl, ap, ◌∙◌, append_assoc, append-nil, add-one, drop-cons, Bor}
-use Rattle.std.proofs.lemmas.List.{drop_all}
+use Rattle.std.proofs.Common.{◌≡◌, ℕ, ◌⊎◌, List, [], ◌∷◌, ◌++◌, length, sym, refl, ap, ◌∙◌, inl, inr, append_assoc, append-nil, Bor}
+use Rattle.std.proofs.lemmas.List.{nil_from_length}
 use Rattle.layout.specs.declared.value.Value.{Value}
 use Rattle.inspector.specs.Labels.{spelt}
 use Rattle.inspector.specs.Shown.{fieldText, fieldsText}
 
-step : (ns : List (Bor (List ℕ))) (vs : List Value) (i : ℕ) (d : Bor (List ℕ)) (e : Value) → i < length ns → i < length vs → fieldsText (spelt (drop i ns)) (drop i vs) ≡ fieldText (get_or ns i d).now (get_or vs i e) ++ fieldsText (spelt (drop (i + 1) ns)) (drop (i + 1) vs)
-step ns vs i d e h k = rw (add-one, drop-cons ns i d h, drop-cons vs i e k)
-
-pub field-more : (start was after : List ℕ) (ns : List (Bor (List ℕ))) (vs : List Value) (i : ℕ) (d : Bor (List ℕ)) (e : Value) → i < length ns → i < length vs → after ≡ was ++ fieldText (get_or ns i d).now (get_or vs i e) → was ++ fieldsText (spelt (drop i ns)) (drop i vs) ≡ start ++ fieldsText (spelt ns) vs → after ++ fieldsText (spelt (drop (i + 1) ns)) (drop (i + 1) vs) ≡ start ++ fieldsText (spelt ns) vs
-field-more start was after ns vs i d e h k a inv =
-    ap (λ t. t ++ fieldsText (spelt (drop (i + 1) ns)) (drop (i + 1) vs)) a
-    ∙ append_assoc was (fieldText (get_or ns i d).now (get_or vs i e)) (fieldsText (spelt (drop (i + 1) ns)) (drop (i + 1) vs))
-    ∙ ap (λ t. was ++ t) (sym (step ns vs i d e h k))
+-- one field more is written, and one less is left
+pub field-more : (t all : List ℕ) (ns rest : List (Bor (List ℕ))) (vs left : List Value) (n : Bor (List ℕ)) (v : Value) → ns ≡ n ∷ rest → vs ≡ v ∷ left → t ++ fieldsText (spelt ns) vs ≡ all → (t ++ fieldText n.now v) ++ fieldsText (spelt rest) left ≡ all
+field-more t all ns rest vs left n v e f inv =
+    append_assoc t (fieldText n.now v) (fieldsText (spelt rest) left)
+    ∙ ap (λ us. t ++ fieldsText (spelt (n ∷ rest)) us) (sym f)
+    ∙ ap (λ ms. t ++ fieldsText (spelt ms) vs) (sym e)
     ∙ inv
 
-none : (ns : List (List ℕ)) → fieldsText ns [] ≡ []
-none [] = refl
-none (n ∷ ns) = refl
+no_values : (ns : List (List ℕ)) → fieldsText ns [] ≡ []
+no_values [] = refl
+no_values (n ∷ ns) = refl
 
-ended : (start was rest all : List ℕ) → rest ≡ [] → was ++ rest ≡ start ++ all → was ≡ start ++ all
-ended start was rest all e inv = sym (append-nil was) ∙ ap (λ t. was ++ t) (sym e) ∙ inv
+ended : (t all left : List ℕ) → left ≡ [] → t ++ left ≡ all → t ≡ all
+ended t all left e inv = sym (append-nil t) ∙ ap (λ x. t ++ x) (sym e) ∙ inv
 
-pub no_names : (start was : List ℕ) (ns : List (Bor (List ℕ))) (vs : List Value) (i : ℕ) → length ns ≤ i → was ++ fieldsText (spelt (drop i ns)) (drop i vs) ≡ start ++ fieldsText (spelt ns) vs → was ≡ start ++ fieldsText (spelt ns) vs
-no_names start was ns vs i h inv = ended start was _ _ (ap (λ t. fieldsText (spelt t) (drop i vs)) (drop_all i ns h)) inv
-
-pub no-values : (start was : List ℕ) (ns : List (Bor (List ℕ))) (vs : List Value) (i : ℕ) → length vs ≤ i → was ++ fieldsText (spelt (drop i ns)) (drop i vs) ≡ start ++ fieldsText (spelt ns) vs → was ≡ start ++ fieldsText (spelt ns) vs
-no-values start was ns vs i h inv = ended start was _ _ (ap (λ t. fieldsText (spelt (drop i ns)) t) (drop_all i vs h) ∙ none (spelt (drop i ns))) inv
+-- either side has ended
+pub fields-done : {X Y : Type 0} {P : X → Type 0} {Q : Y → Type 0} (t all : List ℕ) (ns : List (Bor (List ℕ))) (vs : List Value) → ((x : X) × ((length ns ≡ 0) × P x)) ⊎ ((y : Y) × ((length vs ≡ 0) × Q y)) → t ++ fieldsText (spelt ns) vs ≡ all → t ≡ all
+fields-done t all ns vs (inl h) inv = ended t all _ (ap (λ ms. fieldsText (spelt ms) vs) (nil_from_length ns h.1.0)) inv
+fields-done t all ns vs (inr h) inv = ended t all _ (ap (λ us. fieldsText (spelt ns) us) (nil_from_length vs h.1.0) ∙ no_values (spelt ns)) inv

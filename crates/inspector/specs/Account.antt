@@ -55,11 +55,10 @@ counted a o = record {
 abbrev pub totalsText : Account → List ℕ
 totalsText a = decimal a.lines ++ (codes " lines: " ++ (decimal a.read ++ (codes " read (" ++ (decimal a.same_again ++ codes " come out the same when written again), "))))
 
-abbrev pub firstRulesText : Account → List ℕ
-firstRulesText a = decimal a.refused ++ (codes " refused (rule 1: " ++ (decimal a.rule_1 ++ (codes ", rule 2: " ++ (decimal a.rule_2 ++ codes ", "))))
-
-abbrev pub lastRulesText : Account → List ℕ
-lastRulesText a = codes "rule 3: " ++ (decimal a.rule_3 ++ (codes ", rule 4: " ++ (decimal a.rule_4 ++ (codes ", rule 5: " ++ (decimal a.rule_5 ++ codes "), ")))))
+abbrev pub rulesText : Account → List ℕ
+rulesText a =
+    decimal a.refused ++ (codes " refused (rule 1: " ++ (decimal a.rule_1 ++ (codes ", rule 2: " ++ (decimal a.rule_2
+    ++ (codes ", rule 3: " ++ (decimal a.rule_3 ++ (codes ", rule 4: " ++ (decimal a.rule_4 ++ (codes ", rule 5: " ++ (decimal a.rule_5 ++ codes "), "))))))))))
 
 abbrev pub summaryText : Account → List ℕ
-summaryText a = totalsText a ++ (firstRulesText a ++ (lastRulesText a ++ (decimal a.not_understood ++ codes " not understood")))
+summaryText a = totalsText a ++ (rulesText a ++ (decimal a.not_understood ++ codes " not understood"))

@@ -1,7 +1,6 @@
 -- The bytes of a line, by what they are for, and its words. Assumes nothing.
-use Rattle.std.specs.Prelude.{ℕ, Bool, true, cond, not, List, take, drop, ◌==◌, nat_le}
+use Rattle.std.specs.Prelude.{◌&&◌, ℕ, Bool, true, cond, not, List, take, drop, ◌==◌, nat_le}
 use Rattle.std.specs.List.{prefix_len}
-use Rattle.texts.specs.Bytes.{both}
 use Rattle.inspector.specs.declared.classes.Class.{Class}
 use Rattle.inspector.specs.declared.classes.Class.TheVariants as class
 
@@ -11,7 +10,7 @@ blank b = cond (b == 32) true (cond (b == 9) true (cond (b == 13) true (b == 10)
 
 -- 0 to 9, A to F, a to f
 abbrev pub hexDigit : ℕ → Bool
-hexDigit b = cond (both (nat_le 48 b) (nat_le b 57)) true (cond (both (nat_le 65 b) (nat_le b 70)) true (both (nat_le 97 b) (nat_le b 102)))
+hexDigit b = cond (nat_le 48 b && nat_le b 57) true (cond (nat_le 65 b && nat_le b 70) true (nat_le 97 b && nat_le b 102))
 
 abbrev pub inClass : Class → ℕ → Bool
 inClass class.Blank b = blank b

@@ -1,12 +1,11 @@
 -- Bytes in hex digits. Assumes nothing.
-use Rattle.std.specs.Prelude.{ℕ, ◌+◌, ◌-◌, ◌*◌, cond, List, [], ◌∷◌, nat_le}
-use Rattle.texts.specs.Bytes.{both}
+use Rattle.std.specs.Prelude.{◌&&◌, ℕ, ◌+◌, ◌-◌, ◌*◌, cond, List, [], ◌∷◌, nat_le}
 
 -- what a digit is worth, of either case; 0 where it is none
 abbrev pub worth : ℕ → ℕ
 worth c =
-    cond (both (nat_le 48 c) (nat_le c 57)) (c - 48) (cond (both (nat_le 65 c) (nat_le c 70)) (c - 55)
-    (cond (both (nat_le 97 c) (nat_le c 102)) (c - 87) 0))
+    cond (nat_le 48 c && nat_le c 57) (c - 48) (cond (nat_le 65 c && nat_le c 70) (c - 55)
+    (cond (nat_le 97 c && nat_le c 102) (c - 87) 0))
 
 -- two digits to a byte
 abbrev pub hexBytes : List ℕ → List ℕ

@@ -1,9 +1,8 @@
 -- A message as text: its name, and each field that is not reserved under its name. Assumes nothing.
-use Rattle.std.specs.Prelude.{ℕ, suc, ◌+◌, ◌*◌, ◌/◌, ◌%◌, Bool, true, false, cond, List, [], ◌∷◌, ◌++◌, ℤ, pos, negsuc, Some, None, codes, decimal, Option, ◌==◌, nat_le, nat_lt}
+use Rattle.std.specs.Prelude.{◌&&◌, ℕ, suc, ◌+◌, ◌*◌, ◌/◌, ◌%◌, Bool, true, false, cond, List, [], ◌∷◌, ◌++◌, ℤ, pos, negsuc, Some, None, codes, decimal, Option, ◌==◌, nat_le, nat_lt}
 use Rattle.std.proofs.Math.Utf8.{encodes}
 use Rattle.std.specs.Option.{option_map}
 use Rattle.std.specs.Fmt.{signed_decimal}
-use Rattle.texts.specs.Bytes.{both}
 use Rattle.texts.specs.Identifiers.{orderId}
 use Rattle.wire.specs.declared.kinds.Kind.{Kind}
 use Rattle.layout.specs.declared.value.Value.{Value}
@@ -37,7 +36,7 @@ hexGlyph d = cond (nat_lt d 10) (48 + d) (55 + d)
 -- a byte that is a character: itself where it is printable and no space, null, or 0x and two hex digits
 abbrev pub alphaText : ℕ → List ℕ
 alphaText b =
-    cond (b == 0) (codes "null") (cond (both (nat_le 33 b) (nat_le b 126)) (b ∷ [])
+    cond (b == 0) (codes "null") (cond (nat_le 33 b && nat_le b 126) (b ∷ [])
     (48 ∷ (120 ∷ (hexGlyph (b / 16) ∷ (hexGlyph (b % 16) ∷ [])))))
 
 -- a time is shown as the one number that its eight bytes write: seconds in the lower four, microseconds in the upper

@@ -1,9 +1,8 @@
 // The account of a run: how many lines there were, and what became of them.
-ghost use Rattle.std.specs.Prelude.{◌≡◌, ◌++◌, IfOk, string_bytes, OnOk};
-ghost use Rattle.inspector.specs.Account.{more, isRead, isSame, is_refused, isRefusedBy, isUnclear, nothing, counted, totalsText, firstRulesText, lastRulesText, summaryText};
+ghost use Rattle.std.specs.Prelude.{◌≡◌, true, Some};
+ghost use Rattle.inspector.specs.Account.{more, nothing, counted, summaryText};
 
-use crate::failure::Failure;
-use std::alloc::{AllocError, Global};
+use std::fmt;
 
 // What became of a line that is not skipped.
 #[derive(Clone, Copy)]
@@ -30,57 +29,10 @@ pub struct Account {
     pub not_understood: u64,
 }
 
-impl Outcome {
-    fn is_read(self) -> bool
-        ensures { result ≡ isRead self }
-    {
-        match self {
-            Outcome::Read(_) => true,
-            _ => false,
-        }
-    }
-
-    fn is_same(self) -> bool
-        ensures { result ≡ isSame self }
-    {
-        match self {
-            Outcome::Read(same) => same,
-            _ => false,
-        }
-    }
-
-    fn is_refused(self) -> bool
-        ensures { result ≡ is_refused self }
-    {
-        match self {
-            Outcome::Refused(_) => true,
-            _ => false,
-        }
-    }
-
-    fn is_refused_by(self, rule: u8) -> bool
-        ensures { result ≡ isRefusedBy rule self }
-    {
-        match self {
-            Outcome::Refused(broken) => broken == rule,
-            _ => false,
-        }
-    }
-
-    fn is_unclear(self) -> bool
-        ensures { result ≡ isUnclear self }
-    {
-        match self {
-            Outcome::NotUnderstood => true,
-            _ => false,
-        }
-    }
-}
-
-fn one_more(n: u64, counts: bool) -> u64
-    ensures { result ≡ more n counts }
+fn add_one(n: &mut u64)
+    ensures { n.new ≡ more n.old true }
 {
-    if counts { n.saturating_add(1) } else { n }
+    *n = n.saturating_add(1);
 }
 
 impl Account {
@@ -106,70 +58,47 @@ impl Account {
     pub fn with(self, outcome: Outcome) -> Account
         ensures { result ≡ counted self outcome }
     {
-        Account {
-            lines: one_more(self.lines, true),
-            read: one_more(self.read, outcome.is_read()),
-            same_again: one_more(self.same_again, outcome.is_same()),
-            refused: one_more(self.refused, outcome.is_refused()),
-            rule_1: one_more(self.rule_1, outcome.is_refused_by(1)),
-            rule_2: one_more(self.rule_2, outcome.is_refused_by(2)),
-            rule_3: one_more(self.rule_3, outcome.is_refused_by(3)),
-            rule_4: one_more(self.rule_4, outcome.is_refused_by(4)),
-            rule_5: one_more(self.rule_5, outcome.is_refused_by(5)),
-            not_understood: one_more(self.not_understood, outcome.is_unclear()),
+        let mut account = self;
+        add_one(&mut account.lines);
+        match outcome {
+            Outcome::Read(same) => {
+                add_one(&mut account.read);
+                if same {
+                    add_one(&mut account.same_again);
+                }
+            }
+            Outcome::Refused(rule) => {
+                add_one(&mut account.refused);
+                match rule {
+                    1 => add_one(&mut account.rule_1),
+                    2 => add_one(&mut account.rule_2),
+                    3 => add_one(&mut account.rule_3),
+                    4 => add_one(&mut account.rule_4),
+                    5 => add_one(&mut account.rule_5),
+                    _ => {}
+                }
+            }
+            Outcome::NotUnderstood => add_one(&mut account.not_understood),
         }
+        account
     }
+}
 
-    fn show_totals(&self, out: &mut String) -> Result<(), AllocError>
-        ensures { OnOk result (string_bytes out.new ≡ string_bytes out.old ++ totalsText self.now) }
-    {
-        let lines = self.lines;
-        let read = self.read;
-        let same = self.same_again;
+// The account in one line.
+impl fmt::Display for Account {
+    ghost output = { λ account. Some (summaryText account) };
+
+    fn fmt<W: fmt::Write>(&self, f: &mut fmt::Formatter<W>) -> fmt::Result {
         write!(
-            out,
-            "{lines} lines: {read} read ({same} come out the same when written again), "
-        )
-    }
-
-    fn show_first_rules(&self, out: &mut String) -> Result<(), AllocError>
-        ensures { OnOk result (string_bytes out.new ≡ string_bytes out.old ++ firstRulesText self.now) }
-    {
-        let refused = self.refused;
-        let first = self.rule_1;
-        let second = self.rule_2;
+            f,
+            "{} lines: {} read ({} come out the same when written again), ",
+            self.lines, self.read, self.same_again
+        )?;
         write!(
-            out,
-            "{refused} refused (rule 1: {first}, rule 2: {second}, "
-        )
-    }
-
-    fn show_last_rules(&self, out: &mut String) -> Result<(), AllocError>
-        ensures { OnOk result (string_bytes out.new ≡ string_bytes out.old ++ lastRulesText self.now) }
-    {
-        let third = self.rule_3;
-        let fourth = self.rule_4;
-        let fifth = self.rule_5;
-        write!(out, "rule 3: {third}, rule 4: {fourth}, rule 5: {fifth}), ")
-    }
-
-    fn show_all(&self, out: &mut String) -> Result<(), AllocError>
-        ensures { OnOk result (string_bytes out.new ≡ string_bytes out.old ++ summaryText self.now) }
-    {
-        self.show_totals(out)?;
-        self.show_first_rules(out)?;
-        self.show_last_rules(out)?;
-        let unclear = self.not_understood;
-        write!(out, "{unclear} not understood")?;
-        Ok(())
-    }
-
-    // The account in one line.
-    pub fn summary(&self, heap: Global) -> Result<String, Failure>
-        ensures { IfOk result (λ s. string_bytes s ≡ summaryText self.now) }
-    {
-        let mut out = String::new(heap);
-        self.show_all(&mut out)?;
-        Ok(out)
+            f,
+            "{} refused (rule 1: {}, rule 2: {}, rule 3: {}, rule 4: {}, rule 5: {}), ",
+            self.refused, self.rule_1, self.rule_2, self.rule_3, self.rule_4, self.rule_5
+        )?;
+        write!(f, "{} not understood", self.not_understood)
     }
 }

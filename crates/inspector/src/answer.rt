@@ -3,13 +3,12 @@ ghost use Rattle.std.specs.Prelude.{◌≡◌, map, IfOk, string_bytes};
 ghost use Rattle.std.specs.Str.{bytes_eq};
 ghost use Rattle.layout.specs.Values.{meant};
 ghost use Rattle.wire.specs.Messages.{keptOf, contentsOf, written};
-ghost use Rattle.inspector.specs.Answers.{sentenceOf, refusedText, Rendered, AnswersRead, Answers, Answered};
+ghost use Rattle.inspector.specs.Answers.{Rendered, AnswersRead, Answered};
 
 use crate::account::Outcome;
 use crate::failure::Failure;
-use crate::line::{Line, Unclear, is_text, parse};
-use crate::shown::show_line;
-use layout::field::Fault;
+use crate::line::{Line, is_text, parse};
+use crate::shown;
 use layout::value::Value;
 use std::alloc::{AllocError, Global};
 use wire::kinds::Channel;
@@ -20,27 +19,6 @@ use wire::message::{OwnedMessage, read, write};
 pub struct Answer {
     pub text: String,
     pub outcome: Outcome,
-}
-
-fn sentence(why: Unclear) -> &'static str
-    ensures { result.now ≡ sentenceOf why }
-{
-    match why {
-        Unclear::UnknownReader =>
-            "not understood: the reader is none of real-time, recovery and follower",
-        Unclear::NoBytes => "not understood: no bytes are given; a message of none is written -",
-        Unclear::MoreWords => "not understood: there are more words than a reader and its bytes",
-        Unclear::NotHex => "not understood: one of the characters is no hex digit",
-        Unclear::OddDigits => "not understood: the number of hex digits is odd",
-    }
-}
-
-fn refusal(heap: Global, fault: Fault) -> Result<String, AllocError>
-    ensures { IfOk result (λ s. string_bytes s ≡ refusedText fault.rule fault.offset) }
-{
-    let rule = fault.rule;
-    let offset = fault.offset;
-    format!(in heap; "refused {rule} at {offset}")
 }
 
 // What the fields of a message hold, in the order of its layout. No message has more than 26.
@@ -62,9 +40,11 @@ pub fn render(heap: Global, message: &OwnedMessage) -> Result<String, Failure>
     ensures { IfOk result (λ s. Rendered (keptOf message.now) (string_bytes s)) }
 {
     let all = values(heap, message)?;
-    let mut out = String::new(heap);
-    show_line(&mut out, message.kind(), all.as_slice())?;
-    Ok(out)
+    let line = shown::Line {
+        kind: message.kind(),
+        values: all.as_slice(),
+    };
+    Ok(line.to_string(heap)?)
 }
 
 // Whether a message that was read from these bytes is written to the very same.
@@ -83,7 +63,7 @@ fn answer_message(heap: Global, channel: Channel, bytes: &[u8]) -> Result<Answer
 {
     match read(channel, bytes) {
         Err(fault) => Ok(Answer {
-            text: refusal(heap, fault)?,
+            text: format!(in heap; "refused {} at {}", fault.rule, fault.offset)?,
             outcome: Outcome::Refused(fault.rule),
         }),
         Ok(message) => {
@@ -105,13 +85,10 @@ pub fn answer_to(heap: Global, line: &[u8]) -> Result<Option<Answer>, Failure>
 {
     match parse(heap, line)? {
         Line::Skipped => Ok(None),
-        Line::Unclear(why) => {
-            let text = String::from_str(heap, sentence(why))?;
-            Ok(Some(Answer {
-                text,
-                outcome: Outcome::NotUnderstood,
-            }))
-        }
+        Line::Unclear(why) => Ok(Some(Answer {
+            text: why.to_string(heap)?,
+            outcome: Outcome::NotUnderstood,
+        })),
         Line::Message(channel, bytes) => Ok(Some(answer_message(heap, channel, bytes.as_slice())?)),
     }
 }

@@ -15,18 +15,9 @@ impl Class {
         ensures { result ≡ inClass self byte }
     {
         match self {
-            Class::Blank => match byte {
-                b' ' | b'\t' | b'\r' | b'\n' => true,
-                _ => false,
-            },
-            Class::Solid => match byte {
-                b' ' | b'\t' | b'\r' | b'\n' => false,
-                _ => true,
-            },
-            Class::Hex => match byte {
-                b'0'..=b'9' | b'A'..=b'F' | b'a'..=b'f' => true,
-                _ => false,
-            },
+            Class::Blank => matches!(byte, b' ' | b'\t' | b'\r' | b'\n'),
+            Class::Solid => !matches!(byte, b' ' | b'\t' | b'\r' | b'\n'),
+            Class::Hex => matches!(byte, b'0'..=b'9' | b'A'..=b'F' | b'a'..=b'f'),
         }
     }
 
@@ -35,11 +26,7 @@ impl Class {
         ensures value { result ≡ prefix_len (inClass self) bytes.now }
         ensures bound { result ≤ length bytes.now }
     {
-        let mut n = 0;
-        while n < bytes.len() && self.has(bytes[n]) {
-            n += 1;
-        }
-        n
+        bytes.iter().take_while(|b| self.has(**b)).count()
     }
 }
 

@@ -26,10 +26,3 @@ impl From<AllocError> for Failure {
         Failure::NoMemory
     }
 }
-
-// Writing to a String fails only where memory does.
-impl From<fmt::Error> for Failure {
-    fn from(_error: fmt::Error) -> Failure {
-        Failure::NoMemory
-    }
-}

@@ -1,11 +1,13 @@
 // One line of input: who reads, and the bytes of one message.
-ghost use Rattle.std.specs.Prelude.{◌≡◌, IfOk};
+ghost use Rattle.std.specs.Prelude.{◌≡◌, Some, IfOk};
 ghost use Rattle.std.specs.Str.{bytes_eq};
 ghost use Rattle.inspector.specs.Lines.{skips, readerOf, bytesGiven, given, says};
+ghost use Rattle.inspector.specs.Answers.{sentenceOf};
 
 use crate::classes::{Class, word};
 use crate::hex::decode;
 use std::alloc::{AllocError, Global};
+use std::fmt;
 use wire::kinds::Channel;
 
 // Why a line is not understood.
@@ -16,6 +18,24 @@ pub enum Unclear {
     MoreWords,
     NotHex,
     OddDigits,
+}
+
+impl fmt::Display for Unclear {
+    ghost output = { λ why. Some (sentenceOf why) };
+
+    fn fmt<W: fmt::Write>(&self, f: &mut fmt::Formatter<W>) -> fmt::Result {
+        f.write_str(match self {
+            Unclear::UnknownReader => {
+                "not understood: the reader is none of real-time, recovery and follower"
+            }
+            Unclear::NoBytes =>
+                "not understood: no bytes are given; a message of none is written -",
+            Unclear::MoreWords =>
+                "not understood: there are more words than a reader and its bytes",
+            Unclear::NotHex => "not understood: one of the characters is no hex digit",
+            Unclear::OddDigits => "not understood: the number of hex digits is odd",
+        })
+    }
 }
 
 #[derive(Drop)]

@@ -1,33 +1,47 @@
 // A message as a line of text.
-ghost use Rattle.std.specs.Prelude.{◌≡◌, ◌++◌, string_bytes, OnOk};
+ghost use Rattle.std.specs.Prelude.{Some};
 ghost use Rattle.inspector.specs.Labels.{spelt};
 ghost use Rattle.inspector.specs.Shown.{fieldsText, lineText};
 
 use crate::labels::{names, title};
-use crate::values::show_field;
+use crate::values::Named;
 use layout::value::Value;
-use std::alloc::{AllocError, Global};
+use std::fmt;
 use wire::kinds::Kind;
 
-fn show_fields(out: &mut String, names: &[&str], values: &[Value<'_>]) -> Result<(), AllocError>
-    ensures { OnOk result (string_bytes out.new ≡ string_bytes out.old ++ fieldsText (spelt names.now) values.now) }
-{
-    let mut i = 0;
-    while i < names.len() && i < values.len() {
-        show_field(out, names[i], &values[i])?;
-        i += 1;
-    }
-    Ok(())
+// One field after the other, each under its name.
+#[derive(Clone, Copy)]
+struct Fields<'a> {
+    names: &'static [&'static str],
+    values: &'a [Value<'a>],
 }
 
-pub(crate) fn show_line(
-    out: &mut String,
-    kind: Kind,
-    values: &[Value<'_>],
-) -> Result<(), AllocError>
-    ensures { OnOk result (string_bytes out.new ≡ string_bytes out.old ++ lineText kind values.now) }
-{
-    let title = title(kind);
-    write!(out, "{title}")?;
-    show_fields(out, names(kind), values)
+impl fmt::Display for Fields<'_> {
+    ghost output = { λ all. Some (fieldsText (spelt all.names.now) all.values.now) };
+
+    fn fmt<W: fmt::Write>(&self, f: &mut fmt::Formatter<W>) -> fmt::Result {
+        for (name, value) in self.names.iter().zip(self.values) {
+            write!(f, "{}", Named { name, value })?;
+        }
+        Ok(())
+    }
+}
+
+// A message of a kind, with what its fields hold.
+#[derive(Clone, Copy)]
+pub(crate) struct Line<'a> {
+    pub(crate) kind: Kind,
+    pub(crate) values: &'a [Value<'a>],
+}
+
+impl fmt::Display for Line<'_> {
+    ghost output = { λ line. Some (lineText line.kind line.values.now) };
+
+    fn fmt<W: fmt::Write>(&self, f: &mut fmt::Formatter<W>) -> fmt::Result {
+        let fields = Fields {
+            names: names(self.kind),
+            values: self.values,
+        };
+        write!(f, "{}{fields}", title(self.kind))
+    }
 }

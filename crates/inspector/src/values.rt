@@ -1,74 +1,111 @@
 // What a field holds, as text.
-ghost use Rattle.std.specs.Prelude.{◌≡◌, ◌+◌, ◌*◌, ◌<◌, ◌++◌, string_bytes, decimal, OnOk};
+ghost use Rattle.std.specs.Prelude.{◌≡◌, ◌+◌, ◌*◌, ◌<◌, Some};
 ghost use Rattle.std.proofs.Math.Utf8.{encodes};
 ghost use Rattle.std.specs.Option.{option_map};
 ghost use Rattle.inspector.specs.Shown.{hexGlyph, quoted, four, amount, priceText, alphaText, orderText, valueText, isReserved, fieldText};
 
 use layout::value::Value;
-use std::alloc::AllocError;
+use std::fmt;
 use texts::identifiers::OrderId;
 use texts::values::{Price, Time};
 
 // Each byte as the character of its number.
-fn show_bytes(out: &mut String, bytes: &[u8]) -> Result<(), AllocError>
-    ensures { OnOk result (string_bytes out.new ≡ string_bytes out.old ++ encodes bytes.now) }
-{
-    for b in bytes {
-        let c = char::from(*b);
-        write!(out, "{c}")?;
+#[derive(Clone, Copy)]
+struct Characters<'a>(&'a [u8]);
+
+impl fmt::Display for Characters<'_> {
+    ghost output = { λ bytes. Some (encodes bytes.0.now) };
+
+    fn fmt<W: fmt::Write>(&self, f: &mut fmt::Formatter<W>) -> fmt::Result {
+        for b in self.0 {
+            write!(f, "{}", char::from(*b))?;
+        }
+        Ok(())
     }
-    Ok(())
 }
 
-fn show_text(out: &mut String, text: &[u8]) -> Result<(), AllocError>
-    ensures { OnOk result (string_bytes out.new ≡ string_bytes out.old ++ quoted text.now) }
-{
-    write!(out, "\"")?;
-    show_bytes(out, text)?;
-    write!(out, "\"")
+// A text in double quotes.
+#[derive(Clone, Copy)]
+struct Quoted<'a>(&'a [u8]);
+
+impl fmt::Display for Quoted<'_> {
+    ghost output = { λ text. Some (quoted text.0.now) };
+
+    fn fmt<W: fmt::Write>(&self, f: &mut fmt::Formatter<W>) -> fmt::Result {
+        write!(f, "\"{}\"", Characters(self.0))
+    }
 }
 
-fn show_order(out: &mut String, order: Option<OrderId>) -> Result<(), AllocError>
-    ensures { OnOk result (string_bytes out.new ≡ string_bytes out.old ++ orderText (option_map (λ i. i.number) order)) }
-{
-    match order {
-        None => show_text(out, b""),
-        Some(id) => {
-            let text = id.text();
-            show_text(out, text.as_bytes())
+// An order's identifier, or nothing, in double quotes.
+#[derive(Clone, Copy)]
+struct Identifier(Option<OrderId>);
+
+impl fmt::Display for Identifier {
+    ghost output = { λ order. Some (orderText (option_map (λ i. i.number) order.0)) };
+
+    fn fmt<W: fmt::Write>(&self, f: &mut fmt::Formatter<W>) -> fmt::Result {
+        match self.0 {
+            None => f.write_str("\"\""),
+            Some(id) => {
+                let text = id.text();
+                write!(f, "{}", Quoted(text.as_bytes()))
+            }
         }
     }
 }
 
-fn show_four(out: &mut String, n: u64) -> Result<(), AllocError>
-    ensures { OnOk result (string_bytes out.new ≡ string_bytes out.old ++ four n) }
-{
-    let thousands = n / 1000 % 10;
-    let hundreds = n / 100 % 10;
-    let tens = n / 10 % 10;
-    let ones = n % 10;
-    write!(out, "{thousands}{hundreds}{tens}{ones}")
+// The last four decimal digits of a number.
+#[derive(Clone, Copy)]
+struct Four(u64);
+
+impl fmt::Display for Four {
+    ghost output = { λ n. Some (four n.0) };
+
+    fn fmt<W: fmt::Write>(&self, f: &mut fmt::Formatter<W>) -> fmt::Result {
+        let n = self.0;
+        write!(
+            f,
+            "{}{}{}{}",
+            n / 1000 % 10,
+            n / 100 % 10,
+            n / 10 % 10,
+            n % 10
+        )
+    }
 }
 
 // A number of hundred-millionths, with its eight decimals.
-fn show_amount(out: &mut String, n: u64) -> Result<(), AllocError>
-    ensures { OnOk result (string_bytes out.new ≡ string_bytes out.old ++ amount n) }
-{
-    let whole = n / 100_000_000;
-    write!(out, "{whole}.")?;
-    show_four(out, n % 100_000_000 / 10_000)?;
-    show_four(out, n % 10_000)
+#[derive(Clone, Copy)]
+struct Amount(u64);
+
+impl fmt::Display for Amount {
+    ghost output = { λ n. Some (amount n.0) };
+
+    fn fmt<W: fmt::Write>(&self, f: &mut fmt::Formatter<W>) -> fmt::Result {
+        let n = self.0;
+        write!(
+            f,
+            "{}.{}{}",
+            n / 100_000_000,
+            Four(n % 100_000_000 / 10_000),
+            Four(n % 10_000)
+        )
+    }
 }
 
-fn show_price(out: &mut String, price: Price) -> Result<(), AllocError>
-    ensures { OnOk result (string_bytes out.new ≡ string_bytes out.old ++ priceText price.raw) }
-{
-    let n = price.raw.unsigned_abs();
-    if price.raw < 0 {
-        write!(out, "-")?;
-        show_amount(out, n)
-    } else {
-        show_amount(out, n)
+#[derive(Clone, Copy)]
+struct Signed(Price);
+
+impl fmt::Display for Signed {
+    ghost output = { λ price. Some (priceText price.0.raw) };
+
+    fn fmt<W: fmt::Write>(&self, f: &mut fmt::Formatter<W>) -> fmt::Result {
+        let n = Amount(self.0.raw.unsigned_abs());
+        if self.0.raw < 0 {
+            write!(f, "-{n}")
+        } else {
+            write!(f, "{n}")
+        }
     }
 }
 
@@ -84,71 +121,73 @@ fn hex_digit(d: u8) -> char
     }
 }
 
-fn show_alpha(out: &mut String, byte: u8) -> Result<(), AllocError>
-    ensures { OnOk result (string_bytes out.new ≡ string_bytes out.old ++ alphaText byte) }
-{
-    match byte {
-        0 => write!(out, "null"),
-        0x21..=0x7e => {
-            let c = char::from(byte);
-            write!(out, "{c}")
-        }
-        _ => {
-            let high = hex_digit(byte / 16);
-            let low = hex_digit(byte % 16);
-            write!(out, "0x{high}{low}")
+// A byte that is a character.
+#[derive(Clone, Copy)]
+struct Alpha(u8);
+
+impl fmt::Display for Alpha {
+    ghost output = { λ byte. Some (alphaText byte.0) };
+
+    fn fmt<W: fmt::Write>(&self, f: &mut fmt::Formatter<W>) -> fmt::Result {
+        match self.0 {
+            0 => f.write_str("null"),
+            0x21..=0x7e => write!(f, "{}", char::from(self.0)),
+            _ => write!(f, "0x{}{}", hex_digit(self.0 / 16), hex_digit(self.0 % 16)),
         }
     }
 }
 
 // A time as the one number that its eight bytes write.
-fn show_time(out: &mut String, time: Time) -> Result<(), AllocError>
-    ensures { OnOk result (string_bytes out.new ≡ string_bytes out.old ++ decimal (time.seconds + 4294967296 * time.microseconds)) }
+fn stamp(time: Time) -> u64
+    ensures { result ≡ time.seconds + 4294967296 * time.microseconds }
 {
-    let n = u64::from(time.seconds) + 4294967296 * u64::from(time.microseconds);
-    write!(out, "{n}")
+    u64::from(time.seconds) + 4294967296 * u64::from(time.microseconds)
 }
 
-fn show_word(out: &mut String, word: &str) -> Result<(), AllocError>
-    ensures { OnOk result (string_bytes out.new ≡ string_bytes out.old ++ word.now) }
-{
-    write!(out, "{word}")
-}
+// What a field holds.
+#[derive(Clone, Copy)]
+struct Shown<'a>(&'a Value<'a>);
 
-fn show_value(out: &mut String, value: &Value<'_>) -> Result<(), AllocError>
-    ensures { OnOk result (string_bytes out.new ≡ string_bytes out.old ++ valueText value.now) }
-{
-    match *value {
-        Value::Text(text) => show_text(out, text),
-        Value::Order(order) => show_order(out, order),
-        Value::Number(n) => write!(out, "{n}"),
-        Value::Int8(n) => write!(out, "{n}"),
-        Value::Int32(n) => write!(out, "{n}"),
-        Value::Price(price) => show_price(out, price),
-        Value::Time(time) => show_time(out, time),
-        Value::Code(b) => write!(out, "{b}"),
-        Value::Alpha(b) => show_alpha(out, b),
-        Value::Ignored => show_word(out, "ignored"),
-        Value::Reserved => Ok(()),
+impl fmt::Display for Shown<'_> {
+    ghost output = { λ value. Some (valueText value.0.now) };
+
+    fn fmt<W: fmt::Write>(&self, f: &mut fmt::Formatter<W>) -> fmt::Result {
+        match *self.0 {
+            Value::Text(text) => write!(f, "{}", Quoted(text)),
+            Value::Order(order) => write!(f, "{}", Identifier(order)),
+            Value::Number(n) => write!(f, "{n}"),
+            Value::Int8(n) => write!(f, "{n}"),
+            Value::Int32(n) => write!(f, "{n}"),
+            Value::Price(price) => write!(f, "{}", Signed(price)),
+            Value::Time(time) => write!(f, "{}", stamp(time)),
+            Value::Code(b) => write!(f, "{b}"),
+            Value::Alpha(b) => write!(f, "{}", Alpha(b)),
+            Value::Ignored => f.write_str("ignored"),
+            Value::Reserved => Ok(()),
+        }
     }
 }
 
 fn is_reserved(value: &Value<'_>) -> bool
     ensures { result ≡ isReserved value.now }
 {
-    match *value {
-        Value::Reserved => true,
-        _ => false,
-    }
+    matches!(*value, Value::Reserved)
 }
 
 // A space, the field's name and its value; nothing where the field is reserved.
-pub(crate) fn show_field(out: &mut String, name: &str, value: &Value<'_>) -> Result<(), AllocError>
-    ensures { OnOk result (string_bytes out.new ≡ string_bytes out.old ++ fieldText name.now value.now) }
-{
-    if is_reserved(value) {
-        return Ok(());
+#[derive(Clone, Copy)]
+pub(crate) struct Named<'a> {
+    pub(crate) name: &'a str,
+    pub(crate) value: &'a Value<'a>,
+}
+
+impl fmt::Display for Named<'_> {
+    ghost output = { λ field. Some (fieldText field.name.now field.value.now) };
+
+    fn fmt<W: fmt::Write>(&self, f: &mut fmt::Formatter<W>) -> fmt::Result {
+        if is_reserved(self.value) {
+            return Ok(());
+        }
+        write!(f, " {}={}", self.name, Shown(self.value))
     }
-    write!(out, " {name}=")?;
-    show_value(out, value)
 }

@@ -1,8 +1,7 @@
 -- Tables of fields, gone through from the front. Assumes nothing.
-use Rattle.std.proofs.Common.{◌≡◌, ℕ, ◌+◌, ◌<◌, ◌≤◌, Bool, true, false, cond, leb, List, [], ◌∷◌, length, get_or, drop, IsErrAnd, Some, None, Ok, Err, Option, Result, refl, add-one, arith, drop-cons}
+use Rattle.std.proofs.Common.{◌&&◌, ◌≡◌, ℕ, ◌+◌, ◌<◌, ◌≤◌, Bool, true, false, cond, leb, List, [], ◌∷◌, length, get_or, drop, IsErrAnd, Some, None, Ok, Err, Option, Result, refl, add-one, arith, drop-cons}
 use Rattle.std.proofs.lemmas.List.{drop_all}
 use Rattle.layout.specs.declared.field.Field.{Field}
-use Rattle.texts.specs.Bytes.{both}
 use Rattle.layout.specs.declared.field.Fault.{Fault}
 use Rattle.layout.specs.Layout.{Content, Body, firstBad, within, ok, place, span, AllOk}
 
@@ -10,7 +9,7 @@ pub firstBad-drop : (fs : List Field) (bs : List ℕ) (i : ℕ) (d : Field) → 
 unfolding firstBad
 firstBad-drop fs bs i d h = rw (add-one, drop-cons fs i d h)
 
-pub within-drop : (fs : List Field) (n i : ℕ) (d : Field) → i < length fs → within n (drop i fs) ≡ both (leb (span (get_or fs i d)) n) (within n (drop (i + 1) fs))
+pub within-drop : (fs : List Field) (n i : ℕ) (d : Field) → i < length fs → within n (drop i fs) ≡ (leb (span (get_or fs i d)) n && within n (drop (i + 1) fs))
 within-drop fs n i d h = rw (add-one, drop-cons fs i d h)
 
 pub firstBad-end : (fs : List Field) (bs : List ℕ) (i : ℕ) → length fs ≤ i → firstBad (drop i fs) bs ≡ None

@@ -1,12 +1,12 @@
 -- A message as a table of fields: which bytes are taken, which are refused and where, and what they hold.
 -- Assumes nothing.
-use Rattle.std.specs.Prelude.{◌≡◌, ℕ, ◌+◌, max, Bool, true, false, cond, List, [], ◌∷◌, take, drop, ℤ, pos, is_some, Some, None, Option, Result, MatchResult, nat_le, nat_lt}
+use Rattle.std.specs.Prelude.{◌&&◌, ◌≡◌, ℕ, ◌+◌, max, Bool, true, false, cond, List, [], ◌∷◌, take, drop, ℤ, pos, is_some, Some, None, Option, Result, MatchResult, nat_le, nat_lt}
 use Rattle.std.proofs.Common.{to_z}
 use Rattle.std.specs.Int.{w8, w32, w64}
 use Rattle.codes.specs.Member.{member}
 use Rattle.codes.specs.Lists.{listed}
 use Rattle.texts.specs.Bytes as bytes
-use Rattle.texts.specs.Bytes.{le, both, allNull, said, isText, named}
+use Rattle.texts.specs.Bytes.{le, allNull, said, isText, named}
 use Rattle.texts.specs.Identifiers.{number_of}
 use Rattle.layout.specs.declared.field.Fault.{Fault}
 use Rattle.layout.specs.declared.field.Form.{Form}
@@ -57,7 +57,7 @@ is_order f = cond (allNull f) true (is_some (number_of 79 f))
 -- whether a field's bytes are of its form
 abbrev pub okForm : Form → List ℕ → Bool
 okForm (Text w) f = isText f
-okForm (Name w) f = both (isText f) (named f)
+okForm (Name w) f = isText f && named f
 okForm Order f = is_order f
 okForm (Number w) f = true
 okForm Sequence f = nat_lt (le f) 2147483648
@@ -111,7 +111,7 @@ got bs f = cond (matters bs f) (content (form_of f) (part (place f) (width f) bs
 
 abbrev pub within : ℕ → List Field → Bool
 within n [] = true
-within n (f ∷ fs) = both (nat_le (span f) n) (within n fs)
+within n (f ∷ fs) = nat_le (span f) n && within n fs
 
 -- the offset of the first field that is refused
 unfoldable pub firstBad : List Field → List ℕ → Option ℕ
@@ -146,7 +146,7 @@ isWords (Reserved w) = false
 -- where the texts of a message stand
 abbrev pub textPlaces : List Field → List ℕ → List ℕ
 textPlaces [] bs = []
-textPlaces (f ∷ fs) bs = cond (both (isWords (form_of f)) (matters bs f)) (place f ∷ textPlaces fs bs) (textPlaces fs bs)
+textPlaces (f ∷ fs) bs = cond (isWords (form_of f) && matters bs f) (place f ∷ textPlaces fs bs) (textPlaces fs bs)
 
 -- a table was gone through
 abbrev pub Checked : List Field → List ℕ → {X : Type 0} → Result X Fault → Type 0

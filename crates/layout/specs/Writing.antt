@@ -1,8 +1,8 @@
 -- A message's bytes, from its table and what its fields hold. Assumes nothing.
-use Rattle.std.specs.Prelude.{◌≡◌, ℕ, ◌+◌, ◌-◌, Bool, true, cond, List, [], ◌∷◌, ◌++◌, length, take, drop, replicate, Some, None, Option, ◌==◌, nat_le}
+use Rattle.std.specs.Prelude.{◌&&◌, ◌≡◌, ℕ, ◌+◌, ◌-◌, Bool, true, cond, List, [], ◌∷◌, ◌++◌, length, take, drop, replicate, Some, None, Option, ◌==◌, nat_le}
 use Rattle.std.proofs.Common.{of_z}
 use Rattle.std.specs.Int.{w8, w32, w64}
-use Rattle.texts.specs.Bytes.{toLe, both, padded}
+use Rattle.texts.specs.Bytes.{toLe, padded}
 use Rattle.texts.specs.Identifiers.{orderId}
 use Rattle.layout.specs.declared.field.Form.{Form}
 use Rattle.layout.specs.declared.field.Form.TheVariants.{Text, Name, Order, Number, Sequence, Int8, Int32, Price, Time, Code, Reserved}
@@ -49,7 +49,7 @@ fits f v = cond (isWords (form_of f)) (nat_le (length (words_of v)) (width f)) t
 abbrev pub fitsAll : List Field → List Content → Bool
 fitsAll [] vs = true
 fitsAll (f ∷ fs) [] = true
-fitsAll (f ∷ fs) (v ∷ vs) = both (fits f v) (fitsAll fs vs)
+fitsAll (f ∷ fs) (v ∷ vs) = fits f v && fitsAll fs vs
 
 -- what a buffer holds once bytes are written at a place
 unfoldable pub over : List ℕ → ℕ → List ℕ → List ℕ
@@ -67,4 +67,4 @@ Wrote letter total fs vs before after = after ≡ header letter total ++ (encode
 -- the fields stand one behind the other, from one place to another
 abbrev pub tiled : ℕ → ℕ → List Field → Bool
 tiled n end [] = n == end
-tiled n end (f ∷ fs) = both (place f == n) (tiled (n + width f) end fs)
+tiled n end (f ∷ fs) = (place f == n) && tiled (n + width f) end fs

@@ -1,13 +1,13 @@
 -- Text and its one form in a field, and numbers and their bytes. Assumes nothing.
-use Rattle.std.proofs.Common.{◌≡◌, ℕ, zero, suc, ◌+◌, ◌-◌, ◌*◌, ◌/◌, ◌^◌, ◌<◌, ◌≤◌, Bool, true, false, cond, eqb, List, [], ◌∷◌, ◌++◌, length, take, drop, replicate, refl, ap, ◌∙◌, pow-suc, arith, length-append, length-drop, take-append-drop, lt-ltb, eqb-true}
+use Rattle.std.proofs.Common.{◌≡◌, ◌&&◌, ℕ, zero, suc, ◌+◌, ◌-◌, ◌*◌, ◌/◌, ◌^◌, ◌<◌, ◌≤◌, Bool, true, false, cond, eqb, List, [], ◌∷◌, ◌++◌, length, take, drop, replicate, refl, ap, ◌∙◌, pow-suc, arith, length-append, length-drop, take-append-drop, lt-ltb, eqb-true}
 use lib.ListN.{length-replicate}
 use Rattle.std.specs.List.{prefix_len}
 use Rattle.std.proofs.lemmas.List.{take_at, drop_at, length-take-le, drop_all, take_all}
 use Rattle.std.proofs.lemmas.List.Sums.{prefix_len-le-length}
 use Rattle.std.proofs.lemmas.Nat.{div-add-mod', div_below}
-use Rattle.texts.specs.Bytes.{le, toLe, both, printable, allPrintable, allNull, said, isText, named, padded}
+use Rattle.texts.specs.Bytes.{le, toLe, printable, allPrintable, allNull, said, isText, named, padded}
 
-pub both_true : (a b : Bool) → both a b ≡ true → (a ≡ true) × (b ≡ true)
+pub both_true : (a b : Bool) → (a && b) ≡ true → (a ≡ true) × (b ≡ true)
 both_true true b e = (refl, e)
 both_true false b e = let z : ◌≡◌ {A = ℕ} 0 1 = cc in absurd (omega arith)
 

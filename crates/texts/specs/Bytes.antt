@@ -2,9 +2,6 @@
 use Rattle.std.specs.Prelude.{ℕ, zero, suc, ◌+◌, ◌-◌, ◌*◌, ◌/◌, ◌%◌, Bool, ◌&&◌, List, [], ◌∷◌, ◌++◌, length, take, drop, replicate, ◌==◌, nat_le, nat_lt}
 use Rattle.std.specs.List.{list_all, prefix_len}
 
-abbrev pub both : Bool → Bool → Bool
-both a b = a && b
-
 -- the bytes of the field at a place, of a width
 abbrev pub part : ℕ → ℕ → List ℕ → List ℕ
 part at width bs = take width (drop at bs)

@@ -1,5 +1,5 @@
 -- Writing undoes reading, but for reserved and irrelevant fields. Assumes nothing.
-use Rattle.std.proofs.Common.{◌≡◌, ℕ, zero, suc, ◌+◌, ◌-◌, ◌*◌, ◌/◌, ◌%◌, ◌^◌, ◌<◌, ◌≤◌, Bool, true, false, cond, eqb, ltb, leb, List, [], ◌∷◌, ◌++◌, length, get_or, take, drop, replicate, is_some, Some, None, Ok, Err, Option, Result, sym, refl, ap, ◌∙◌, pow-suc, arith, length-drop, take-append-drop, w8, w32, w64, Fits, eqb-true, leb-true}
+use Rattle.std.proofs.Common.{IfOk, ◌≡◌, ℕ, zero, suc, ◌+◌, ◌-◌, ◌*◌, ◌/◌, ◌%◌, ◌^◌, ◌<◌, ◌≤◌, Bool, true, false, cond, eqb, ltb, leb, List, [], ◌∷◌, ◌++◌, length, get_or, take, drop, replicate, is_some, Some, None, Ok, Err, Option, Result, sym, refl, ap, ◌∙◌, pow-suc, arith, length-drop, take-append-drop, w8, w32, w64, Fits, eqb-true, leb-true}
 use native.Mathlib.Nat.{le-max_left}
 use Rattle.std.proofs.lemmas.List.{length-take-le, take_all}
 use Rattle.std.proofs.lemmas.Nat.{mod-mul-add, div-mul-add}
@@ -20,8 +20,9 @@ use Rattle.wire.specs.declared.kinds.Channel.TheVariants as channel
 use Rattle.wire.specs.declared.kinds.Kind.{Kind}
 use Rattle.wire.specs.declared.kinds.Kind.TheVariants as kind
 use Rattle.wire.specs.declared.message.Message.{Message}
+use Rattle.layout.specs.declared.field.Fault.{Fault}
 use Rattle.wire.specs.Kinds.{letters, total_of, totals, takes}
-use Rattle.wire.specs.Messages.{heardOf, kind_of, contentsOf, table_of, sized, opening, atField, Reads, reserved, blanked, Again}
+use Rattle.wire.specs.Messages.{heardOf, kind_of, contentsOf, table_of, sized, opening, atField, Reads, reserved, blanked, WasRead, Again}
 use Rattle.wire.proofs.Totals.{letter-is, total-is}
 use Rattle.wire.proofs.Unique.{unique}
 
@@ -230,3 +231,8 @@ written-again ch bs m t r =
     ∙ ap (λ x. header (letters k) x ++ encode (table_of k) vs) (total-is k)
     ∙ ap (λ x. x ++ encode (table_of k) vs) f.0
     ∙ ap (λ x. take 4 bs ++ x) e
+
+-- the same of what reading gives
+pub again_read : (ch : Channel) (bs : List ℕ) (r : Result Message Fault) → ((i : ℕ) → Fits w8 (get_or bs i 0)) → WasRead ch bs r → IfOk r (λ m. Again bs m)
+again_read ch bs (Ok m) t h = written-again ch bs m t h
+again_read ch bs (Err e) t h = tt

@@ -1,5 +1,5 @@
 -- A field of any form: reading undoes writing, and writing undoes reading. Assumes nothing.
-use Rattle.std.proofs.Common.{◌≡◌, ℕ, ◌^◌, ◌<◌, Bool, true, false, cond, eqb, ltb, List, [], ◌∷◌, replicate, ℤ, is_some, Some, None, Option, sym, refl, ap, ◌∙◌, arith, w8, w32, w64, SFits, to_z, of_z, ltb-true, lt-ltb, eqb-true}
+use Rattle.std.proofs.Common.{◌&&◌, ◌≡◌, ℕ, ◌^◌, ◌<◌, Bool, true, false, cond, eqb, ltb, List, [], ◌∷◌, replicate, ℤ, is_some, Some, None, Option, sym, refl, ap, ◌∙◌, arith, w8, w32, w64, SFits, to_z, of_z, ltb-true, lt-ltb, eqb-true}
 use mir.Val.{bits}
 use mir.Facts.{Fits-of_z}
 use mir.Syntax.{Width}
@@ -8,7 +8,7 @@ use Rattle.codes.specs.declared.lists.Codes.{Codes}
 use Rattle.codes.specs.declared.lists.Codes.TheVariants as list
 use Rattle.codes.specs.Member.{member}
 use Rattle.codes.specs.Lists.{listed}
-use Rattle.texts.specs.Bytes.{le, toLe, both}
+use Rattle.texts.specs.Bytes.{le, toLe}
 use Rattle.texts.proofs.Padding.{both_true, said-padded, isText-padded, named-padded, le-toLe}
 use Rattle.texts.proofs.Digits.{returns_of}
 use Rattle.layout.specs.declared.field.Form.{Form}
@@ -22,7 +22,7 @@ use Rattle.layout.specs.Holding.{Below, HoldsForm}
 
 abbrev small : List ℕ → Bool
 small [] = true
-small (n ∷ ns) = both (ltb n 256) (small ns)
+small (n ∷ ns) = ltb n 256 && small ns
 
 small-lists : (cs : Codes) → small (listed cs) ≡ true
 small-lists list.Sides = refl

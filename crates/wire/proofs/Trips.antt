@@ -1,8 +1,8 @@
 -- Reading undoes writing, and no two messages are written alike. Assumes nothing.
-use Rattle.std.proofs.Common.{◌≡◌, ℕ, ◌+◌, Bool, true, false, cond, eqb, List, [], ◌∷◌, ◌++◌, length, replicate, Some, None, Ok, Result, sym, refl, ap, ◌∙◌, subst, append_assoc, append-nil, arith, length-append, eqb-true}
+use Rattle.std.proofs.Common.{◌&&◌, ◌≡◌, ℕ, ◌+◌, Bool, true, false, cond, eqb, List, [], ◌∷◌, ◌++◌, length, replicate, Some, None, Ok, Result, sym, refl, ap, ◌∙◌, subst, append_assoc, append-nil, arith, length-append, eqb-true}
 use Rattle.std.proofs.lemmas.List.{take_at, drop_at}
 use Rattle.codes.specs.Lists.{listed}
-use Rattle.texts.specs.Bytes.{le, both}
+use Rattle.texts.specs.Bytes.{le}
 use Rattle.texts.proofs.Padding.{both_true, le-toLe}
 use Rattle.layout.specs.declared.field.Form.{Form}
 use Rattle.layout.specs.declared.field.Form.TheVariants.{Text, Name, Order, Number, Sequence, Int8, Int32, Price, Time, Code, Reserved}
@@ -50,7 +50,7 @@ code_at (f ∷ fs) n = cond (eqb (place f) n) (is_code f) (code_at fs n)
 abbrev looked : List Field → List Field → Bool
 looked whole [] = true
 looked whole (Always at f ∷ fs) = looked whole fs
-looked whole (When at f other cs ∷ fs) = both (code_at whole other) (looked whole fs)
+looked whole (When at f other cs ∷ fs) = code_at whole other && looked whole fs
 
 abbrev Seen : (ℕ → ℕ) → List Field → List ℕ → Type 0
 Seen at [] bs = Unit {0}

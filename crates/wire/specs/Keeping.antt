@@ -1,10 +1,9 @@
 -- What a message says that fits the fields of an owned one. Assumes nothing.
-use Rattle.std.specs.Prelude.{◌≡◌, ℕ, ◌<◌, ◌≤◌, Bool, true, List, length, Option, MatchOption, nat_lt, slice_index_or}
+use Rattle.std.specs.Prelude.{◌&&◌, ◌≡◌, ℕ, ◌<◌, ◌≤◌, Bool, true, List, length, Option, MatchOption, nat_lt, slice_index_or}
 use Rattle.layout.specs.declared.value.Value.{Value}
 use Rattle.layout.specs.Layout.{Content}
 use Rattle.layout.specs.Layout.Content.{nothing}
 use Rattle.layout.specs.Values.{meant}
-use Rattle.texts.specs.Bytes.{both}
 use Rattle.texts.specs.Texts.{fitting, fittingName}
 use Rattle.messages.specs.declared.terms.Scope.{Scope}
 use Rattle.messages.specs.declared.terms.Scope.TheVariants as scope
@@ -32,7 +31,7 @@ scopeFits (scope.CompIdInstrument x b) = fitting 6 x
 scopeFits (scope.CompIdSegment x) = fitting 4 x
 
 abbrev pub logonFits : Logon (List ℕ) → Bool
-logonFits m = both (fitting 25 m.comp_id) (both (fitting 25 m.password) (fitting 25 m.new_password))
+logonFits m = fitting 25 m.comp_id && (fitting 25 m.password && fitting 25 m.new_password)
 
 abbrev pub logonReplyFits : LogonReply (List ℕ) → Bool
 logonReplyFits m = fitting 30 m.expiry_days
@@ -44,25 +43,25 @@ abbrev pub missedMessageRequestFits : MissedMessageRequest ℕ → Bool
 missedMessageRequestFits m = nat_lt m.last 2147483648
 
 abbrev pub rejectFits : Reject (List ℕ) (List ℕ) → Bool
-rejectFits m = both (fitting 30 m.reason) (fitting 20 m.client_order_id)
+rejectFits m = fitting 30 m.reason && fitting 20 m.client_order_id
 
 abbrev pub newOrderFits : NewOrder (List ℕ) (List ℕ) (List ℕ) (List ℕ) → Bool
-newOrderFits m = both (fittingName 20 m.client_order_id) (both (fitting 11 m.trader_id) (both (fitting 10 m.account) (fitting 6 m.symbol)))
+newOrderFits m = fittingName 20 m.client_order_id && (fitting 11 m.trader_id && (fitting 10 m.account && fitting 6 m.symbol))
 
 abbrev pub orderCancelRequestFits : OrderCancelRequest (List ℕ) (List ℕ) (List ℕ) → Bool
-orderCancelRequestFits m = both (fittingName 20 m.client_order_id) (both (fitting 20 m.original_id) (fitting 6 m.symbol))
+orderCancelRequestFits m = fittingName 20 m.client_order_id && (fitting 20 m.original_id && fitting 6 m.symbol)
 
 abbrev pub orderCancelReplaceRequestFits : OrderCancelReplaceRequest (List ℕ) (List ℕ) (List ℕ) (List ℕ) → Bool
-orderCancelReplaceRequestFits m = both (fittingName 20 m.client_order_id) (both (fitting 20 m.original_id) (both (fitting 6 m.symbol) (fitting 10 m.account)))
+orderCancelReplaceRequestFits m = fittingName 20 m.client_order_id && (fitting 20 m.original_id && (fitting 6 m.symbol && fitting 10 m.account))
 
 abbrev pub orderMassCancelRequestFits : MassCancelSaid → Bool
-orderMassCancelRequestFits m = both (fittingName 20 m.client_order_id) (scopeFits m.scope)
+orderMassCancelRequestFits m = fittingName 20 m.client_order_id && scopeFits m.scope
 
 abbrev pub executionReportFits : ExecutionReport (List ℕ) (List ℕ) (List ℕ) (List ℕ) → Bool
-executionReportFits m = both (fitting 12 m.execution_id) (both (fitting 20 m.client_order_id) (both (fitting 12 m.order_id) (both (fitting 12 m.reference_id) (both (fitting 6 m.symbol) (fitting 11 m.counterparty)))))
+executionReportFits m = fitting 12 m.execution_id && (fitting 20 m.client_order_id && (fitting 12 m.order_id && (fitting 12 m.reference_id && (fitting 6 m.symbol && fitting 11 m.counterparty))))
 
 abbrev pub orderCancelRejectFits : OrderCancelReject (List ℕ) (List ℕ) → Bool
-orderCancelRejectFits m = both (fitting 20 m.client_order_id) (fitting 12 m.order_id)
+orderCancelRejectFits m = fitting 20 m.client_order_id && fitting 12 m.order_id
 
 abbrev pub orderMassCancelReportFits : OrderMassCancelReport (List ℕ) → Bool
 orderMassCancelReportFits m = fitting 20 m.client_order_id

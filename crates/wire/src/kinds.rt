@@ -1,6 +1,6 @@
 // The kinds of messages, and which of them each reader takes.
 ghost use Rattle.std.specs.Prelude.{◌≡◌};
-ghost use Rattle.wire.specs.Kinds.{letters, letterOf, totals, total_of, taking, takes};
+ghost use Rattle.wire.specs.Kinds.{letterOf, total_of, takes};
 
 // Who reads: the gateway on one of its two channels, or a follower.
 #[derive(Clone, Copy, Debug, PartialEq)]
@@ -31,14 +31,9 @@ pub enum Kind {
 
 impl Kind {
     // The byte that names the kind.
+    #[tactic(auto, unfolding(crate::specs::Kinds::letterOf))]
     pub(crate) fn letter(self) -> u8
         ensures { result ≡ letterOf self }
-    {
-        self.spelt()
-    }
-
-    fn spelt(self) -> u8
-        ensures { result ≡ letters self }
     {
         match self {
             Kind::Logon => b'A',
@@ -60,14 +55,9 @@ impl Kind {
     }
 
     // How many bytes a message of the kind has in all.
+    #[tactic(auto, unfolding(crate::specs::Kinds::total_of))]
     pub(crate) fn total(self) -> usize
         ensures { result ≡ total_of self }
-    {
-        self.bytes()
-    }
-
-    fn bytes(self) -> usize
-        ensures { result ≡ totals self }
     {
         match self {
             Kind::Logon => 80,
@@ -91,14 +81,9 @@ impl Kind {
 
 impl Channel {
     // The kind that a type byte names, if this reader takes it.
+    #[tactic(auto, unfolding(crate::specs::Kinds::takes))]
     pub(crate) fn kind(self, letter: u8) -> Option<Kind>
         ensures { result ≡ takes self letter }
-    {
-        self.known(letter)
-    }
-
-    fn known(self, letter: u8) -> Option<Kind>
-        ensures { result ≡ taking self letter }
     {
         match self {
             Channel::RealTime => match letter {

@@ -127,23 +127,13 @@ fn read_kind<'a>(channel: Channel, bytes: &'a [u8]) -> Result<Message<'a>, Fault
     }
 }
 
-// A message of any kind, with what writing makes of it again.
-fn read_again<'a>(channel: Channel, bytes: &'a [u8]) -> Result<Message<'a>, Fault>
-    ensures checks { WasRead channel bytes.now result }
-    ensures again { IfOk result (λ m. Again bytes.now m) }
-{
-    match read_kind(channel, bytes) {
-        Ok(message) => Ok(message),
-        Err(fault) => Err(fault),
-    }
-}
-
 // Reads one message, or says which check is the first to fail, and where.
+#[tactic(auto, using(crate::proofs::Again::again_read))]
 pub fn read<'a>(channel: Channel, bytes: &'a [u8]) -> Result<Message<'a>, Fault>
     ensures checks { WasRead channel bytes.now result }
     ensures again { IfOk result (λ m. Again bytes.now m) }
 {
-    read_again(channel, bytes)
+    read_kind(channel, bytes)
 }
 
 // A buffer that is too short for a message, which needs this many bytes.
