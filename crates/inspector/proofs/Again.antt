@@ -29,24 +29,6 @@ total-few kind.ExecutionReport = lit≤ tt
 total-few kind.OrderCancelReject = lit≤ tt
 total-few kind.OrderMassCancelReport = lit≤ tt
 
--- nor more fields
-pub fields-few : (m : Said) → length (contentsOf m) ≤ 26
-fields-few (theLogon m) = lit≤ tt
-fields-few (theLogonReply m) = lit≤ tt
-fields-few (theLogout m) = lit≤ tt
-fields-few theHeartbeat = lit≤ tt
-fields-few (theMissedMessageRequest m) = lit≤ tt
-fields-few (theMissedMessageRequestAck m) = lit≤ tt
-fields-few (theMissedMessageReport m) = lit≤ tt
-fields-few (theReject m) = lit≤ tt
-fields-few (theNewOrder m) = lit≤ tt
-fields-few (theOrderCancelRequest m) = lit≤ tt
-fields-few (theOrderCancelReplaceRequest m) = lit≤ tt
-fields-few (theOrderMassCancelRequest m) = lit≤ tt
-fields-few (theExecutionReport m) = lit≤ tt
-fields-few (theOrderCancelReject m) = lit≤ tt
-fields-few (theOrderMassCancelReport m) = lit≤ tt
-
 -- what stands at the front of a buffer that a message was written to
 pub front : (w before after : List ℕ) (n : ℕ) → n ≤ length before → length after ≡ length before → after ≡ w ++ drop n before → take n after ≡ w
 front w b a n h l e =

@@ -54,11 +54,6 @@ unfolding taken
 side-listed side.Buy = refl
 side-listed side.Sell = refl
 
-pub orderType-listed : (x : OrderType) → taken (orderTypeCode x) orderTypeCodes ≡ true
-unfolding taken
-orderType-listed orderType.Market = refl
-orderType-listed orderType.Limit = refl
-
 pub timeInForce-listed : (x : TimeInForce) → taken (timeInForceCode x) timeInForceCodes ≡ true
 unfolding taken
 timeInForce-listed timeInForce.Day = refl
@@ -109,15 +104,6 @@ passiveOnly-listed passiveOnly.WithinTwoPoints = refl
 passiveOnly-listed passiveOnly.RestOnEntry = refl
 passiveOnly-listed passiveOnly.SetBest = refl
 
-pub massCancelType-listed : (x : MassCancelType) → taken (massCancelTypeCode x) massCancelTypeCodes ≡ true
-unfolding taken
-massCancelType-listed massCancelType.FirmInstrument = refl
-massCancelType-listed massCancelType.FirmSegment = refl
-massCancelType-listed massCancelType.CompId = refl
-massCancelType-listed massCancelType.Firm = refl
-massCancelType-listed massCancelType.CompIdInstrument = refl
-massCancelType-listed massCancelType.CompIdSegment = refl
-
 pub version-listed : (x : Version) → taken (versionCode x) versionCodes ≡ true
 unfolding taken
 version-listed version.One = refl
@@ -140,18 +126,6 @@ unfolding taken
 reportResponse-listed reportResponse.Complete = refl
 reportResponse-listed reportResponse.MessageLimit = refl
 reportResponse-listed reportResponse.ServiceUnavailable = refl
-
-pub execType-listed : (x : ExecType) → taken (execTypeCode x) execTypeCodes ≡ true
-unfolding taken
-execType-listed execType.Unspecified = refl
-execType-listed execType.New = refl
-execType-listed execType.Cancelled = refl
-execType-listed execType.Replaced = refl
-execType-listed execType.Rejected = refl
-execType-listed execType.Expired = refl
-execType-listed execType.Restated = refl
-execType-listed execType.Trade = refl
-execType-listed execType.TradeCancel = refl
 
 pub status-listed : (x : Status) → taken (statusCode x) statusCodes ≡ true
 unfolding taken

@@ -70,10 +70,6 @@ side-back side.Sell = refl
 abbrev pub orderTypeBack : ℕ → OrderType
 orderTypeBack n = cond (eqb n 1) orderType.Market (orderType.Limit)
 
-pub orderType-back : (x : OrderType) → orderTypeBack (orderTypeCode x) ≡ x
-orderType-back orderType.Market = refl
-orderType-back orderType.Limit = refl
-
 abbrev pub timeInForceBack : ℕ → TimeInForce
 timeInForceBack n = cond (eqb n 0) timeInForce.Day (cond (eqb n 1) timeInForce.GoodTillCancel (cond (eqb n 3) timeInForce.ImmediateOrCancel (cond (eqb n 4) timeInForce.FillOrKill (cond (eqb n 6) timeInForce.GoodTillDate (timeInForce.GoodTillTime)))))
 
@@ -143,14 +139,6 @@ passiveOnly-back passiveOnly.SetBest = refl
 abbrev pub massCancelTypeBack : ℕ → MassCancelType
 massCancelTypeBack n = cond (eqb n 3) massCancelType.FirmInstrument (cond (eqb n 4) massCancelType.FirmSegment (cond (eqb n 7) massCancelType.CompId (cond (eqb n 8) massCancelType.Firm (cond (eqb n 9) massCancelType.CompIdInstrument (massCancelType.CompIdSegment)))))
 
-pub massCancelType-back : (x : MassCancelType) → massCancelTypeBack (massCancelTypeCode x) ≡ x
-massCancelType-back massCancelType.FirmInstrument = refl
-massCancelType-back massCancelType.FirmSegment = refl
-massCancelType-back massCancelType.CompId = refl
-massCancelType-back massCancelType.Firm = refl
-massCancelType-back massCancelType.CompIdInstrument = refl
-massCancelType-back massCancelType.CompIdSegment = refl
-
 abbrev pub versionBack : ℕ → Version
 versionBack n = version.One
 
@@ -184,17 +172,6 @@ reportResponse-back reportResponse.ServiceUnavailable = refl
 
 abbrev pub execTypeBack : ℕ → ExecType
 execTypeBack n = cond (eqb n 0) execType.Unspecified (cond (eqb n 48) execType.New (cond (eqb n 52) execType.Cancelled (cond (eqb n 53) execType.Replaced (cond (eqb n 56) execType.Rejected (cond (eqb n 67) execType.Expired (cond (eqb n 68) execType.Restated (cond (eqb n 70) execType.Trade (execType.TradeCancel))))))))
-
-pub execType-back : (x : ExecType) → execTypeBack (execTypeCode x) ≡ x
-execType-back execType.Unspecified = refl
-execType-back execType.New = refl
-execType-back execType.Cancelled = refl
-execType-back execType.Replaced = refl
-execType-back execType.Rejected = refl
-execType-back execType.Expired = refl
-execType-back execType.Restated = refl
-execType-back execType.Trade = refl
-execType-back execType.TradeCancel = refl
 
 abbrev pub statusBack : ℕ → Status
 statusBack n = cond (eqb n 0) status.New (cond (eqb n 1) status.PartiallyFilled (cond (eqb n 2) status.Filled (cond (eqb n 4) status.Cancelled (cond (eqb n 6) status.Expired (status.Rejected)))))
