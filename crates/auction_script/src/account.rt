@@ -1,6 +1,6 @@
 // What a script's calls came to.
 ghost use Rattle.std.specs.Prelude.{◌≡◌};
-ghost use Rattle.auction_script.specs.Accounts.{after_call, after-event};
+ghost use Rattle.auction_script.specs.Accounts.{after_call, after_event};
 
 use matching::matcher::{Event, Refusal};
 
@@ -39,7 +39,7 @@ impl Account {
 
     // One more event.
     pub fn event(&mut self, event: Event)
-        ensures { self.new ≡ after-event self.old event }
+        ensures { self.new ≡ after_event self.old event }
     {
         match event {
             Event::Nothing => {}

@@ -17,9 +17,9 @@ abbrev pub entry_in : (List ℕ → Report) → List ℕ → Place → Entry
 entry_in decoded buffer p = filed p.owner (decoded (part buffer p))
 
 -- places that lie within so many bytes
-abbrev pub all-within : ℕ → List Place → Bool
-all-within n ps = list_all (λ p. nat_le (p.start + p.len) n) ps
+abbrev pub all_within : ℕ → List Place → Bool
+all_within n ps = list_all (λ p. nat_le (p.start + p.len) n) ps
 
 -- free places: what the free bytes have room for, and no more than 16,384 reports in all
-abbrev pub free-places : ℕ → ℕ → ℕ → ℕ
-free-places size used count = min ((size - used) / 145) (16384 - count)
+abbrev pub free_places : ℕ → ℕ → ℕ → ℕ
+free_places size used count = min ((size - used) / 145) (16384 - count)

@@ -1,6 +1,6 @@
 // The buffer with the places of its entries, in memory that is reserved at the start.
 ghost use Rattle.std.specs.Prelude.{◌≡◌, ◌+◌, ◌≤◌, true, vec_len, vec_capacity};
-ghost use Rattle.byte_store.specs.Places.{all-within};
+ghost use Rattle.byte_store.specs.Places.{all_within};
 
 use crate::place::Place;
 
@@ -19,7 +19,7 @@ pub struct Buffered<C> {
     ghost second: { 16384 ≤ vec_capacity two },
     ghost third: { 16384 ≤ vec_capacity three },
     ghost few: { vec_len one + vec_len two + vec_len three ≤ 16384 },
-    ghost inside: { all-within (vec_len buffer) one.items ≡ true },
-    ghost within: { all-within (vec_len buffer) two.items ≡ true },
-    ghost among: { all-within (vec_len buffer) three.items ≡ true },
+    ghost inside: { all_within (vec_len buffer) one.items ≡ true },
+    ghost within: { all_within (vec_len buffer) two.items ≡ true },
+    ghost among: { all_within (vec_len buffer) three.items ≡ true },
 }

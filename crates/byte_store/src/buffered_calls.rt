@@ -3,9 +3,9 @@ ghost use Rattle.std.specs.Prelude.{◌≡◌, ℕ, ◌+◌, ◌-◌, ◌<◌, �
 ghost use Rattle.std.specs.Option.{option_map};
 ghost use Rattle.reports.specs.Tally.{entry_at};
 ghost use Rattle.reports.specs.declared.report.Report.{Report as Told};
-ghost use Rattle.store.specs.Kept.{empty, reports-in, grown, next-after};
-ghost use Rattle.byte_store.specs.Places.{filed, entry_in, all-within, free-places};
-ghost use Rattle.byte_store.specs.Views.{kept_in, places-in, count-in, free_in};
+ghost use Rattle.store.specs.Kept.{empty, reports_in, grown, next_after};
+ghost use Rattle.byte_store.specs.Places.{filed, entry_in, all_within, free_places};
+ghost use Rattle.byte_store.specs.Views.{kept_in, places_in, count_in, free_in};
 ghost use Rattle.byte_store.specs.Room.{room_held};
 
 use crate::buffered::Buffered;
@@ -20,7 +20,7 @@ use store::{REPORTS, Store};
 impl<C: Codec + Drop> Buffered<C> {
     // A store with so many bytes.
     pub fn new(heap: Global, codec: C, size: usize) -> Result<Buffered<C>, AllocError>
-        ensures { IfOk result (λ s. (kept_in C.Codec.decoded s ≡ empty) × (free_in s ≡ free-places size 0 0)) }
+        ensures { IfOk result (λ s. (kept_in C.Codec.decoded s ≡ empty) × (free_in s ≡ free_places size 0 0)) }
     {
         let buffer = Vec::with_capacity(heap, size)?;
         let one = Vec::with_capacity(heap, REPORTS)?;
@@ -46,9 +46,9 @@ impl<C: Codec> Buffered<C> {
     }
 
     fn places_of(&self, partition: Partition) -> &[Place]
-        ensures items { result.now ≡ places-in self.now partition }
+        ensures items { result.now ≡ places_in self.now partition }
         ensures bound { length result.now ≤ 16384 }
-        ensures inside { all-within (vec_len self.now.buffer) result.now ≡ true }
+        ensures inside { all_within (vec_len self.now.buffer) result.now ≡ true }
     {
         match partition {
             Partition::One => &self.one,
@@ -64,9 +64,9 @@ impl<C: Codec> Buffered<C> {
         requires start { place.start ≡ vec_len self.old.buffer }
         requires len { place.len ≡ length bytes.now }
         requires room { vec_len self.old.buffer + length bytes.now ≤ self.old.size }
-        requires few { count-in self.old < 16384 }
+        requires few { count_in self.old < 16384 }
         ensures kept { (d : List ℕ → Told) → kept_in d self.new ≡ grown (kept_in d self.old) partition (filed place.owner (d bytes.now)) }
-        ensures free { free_in self.new ≡ free-places self.old.size (vec_len self.old.buffer + length bytes.now) (count-in self.old + 1) }
+        ensures free { free_in self.new ≡ free_places self.old.size (vec_len self.old.buffer + length bytes.now) (count_in self.old + 1) }
     {
         let _ = self.buffer.extend_from_slice(bytes);
         match partition {
@@ -94,7 +94,7 @@ impl<C: Codec> Buffered<C> {
 
 impl<C: Codec> Buffered<C> {
     fn last_of(&self, partition: Partition) -> u32
-        ensures value { result ≡ length (reports-in (kept_in C.Codec.decoded self.now) partition) }
+        ensures value { result ≡ length (reports_in (kept_in C.Codec.decoded self.now) partition) }
         ensures bound { result ≤ 16384 }
     {
         self.places_of(partition).len() as u32
@@ -102,14 +102,14 @@ impl<C: Codec> Buffered<C> {
 
     // The entry of a number: one look at its place, and one at its bytes.
     fn entry_of(&self, partition: Partition, number: u32) -> Option<Entry>
-        ensures { result ≡ entry_at (reports-in (kept_in C.Codec.decoded self.now) partition) number }
+        ensures { result ≡ entry_at (reports_in (kept_in C.Codec.decoded self.now) partition) number }
     {
         let place = item_of(self.places_of(partition), number)?;
         Some(self.entry(place))
     }
 
     fn next_number(&self, partition: Partition, owner: usize, above: u32) -> Option<u32>
-        ensures { result ≡ next-after (reports-in (kept_in C.Codec.decoded self.now) partition) owner above }
+        ensures { result ≡ next_after (reports_in (kept_in C.Codec.decoded self.now) partition) owner above }
     {
         next_of(self.places_of(partition), owner, above)
     }

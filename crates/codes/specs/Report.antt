@@ -16,82 +16,82 @@ use Rattle.codes.specs.declared.report.MassResponse.{MassResponse}
 use Rattle.codes.specs.declared.report.MassResponse.TheVariants as massResponse
 
 -- why an Execution Report is sent
-abbrev pub execTypeCode : ExecType → ℕ
-execTypeCode execType.Unspecified = 0
-execTypeCode execType.New = 48
-execTypeCode execType.Cancelled = 52
-execTypeCode execType.Replaced = 53
-execTypeCode execType.Rejected = 56
-execTypeCode execType.Expired = 67
-execTypeCode execType.Restated = 68
-execTypeCode execType.Trade = 70
-execTypeCode execType.TradeCancel = 72
+abbrev pub exec_type_code : ExecType → ℕ
+exec_type_code execType.Unspecified = 0
+exec_type_code execType.New = 48
+exec_type_code execType.Cancelled = 52
+exec_type_code execType.Replaced = 53
+exec_type_code execType.Rejected = 56
+exec_type_code execType.Expired = 67
+exec_type_code execType.Restated = 68
+exec_type_code execType.Trade = 70
+exec_type_code execType.TradeCancel = 72
 
-abbrev pub execTypeCodes : List ℕ
-execTypeCodes = 0 ∷ 48 ∷ 52 ∷ 53 ∷ 56 ∷ 67 ∷ 68 ∷ 70 ∷ 72 ∷ []
+abbrev pub exec_type_codes : List ℕ
+exec_type_codes = 0 ∷ 48 ∷ 52 ∷ 53 ∷ 56 ∷ 67 ∷ 68 ∷ 70 ∷ 72 ∷ []
 
 -- the status of an order
-abbrev pub statusCode : Status → ℕ
-statusCode status.New = 0
-statusCode status.PartiallyFilled = 1
-statusCode status.Filled = 2
-statusCode status.Cancelled = 4
-statusCode status.Expired = 6
-statusCode status.Rejected = 8
+abbrev pub status_code : Status → ℕ
+status_code status.New = 0
+status_code status.PartiallyFilled = 1
+status_code status.Filled = 2
+status_code status.Cancelled = 4
+status_code status.Expired = 6
+status_code status.Rejected = 8
 
-abbrev pub statusCodes : List ℕ
-statusCodes = 0 ∷ 1 ∷ 2 ∷ 4 ∷ 6 ∷ 8 ∷ []
+abbrev pub status_codes : List ℕ
+status_codes = 0 ∷ 1 ∷ 2 ∷ 4 ∷ 6 ∷ 8 ∷ []
 
 -- whether a fill added or removed liquidity
-abbrev pub liquidityCode : Liquidity → ℕ
-liquidityCode liquidity.Unspecified = 0
-liquidityCode liquidity.Added = 65
-liquidityCode liquidity.Uncrossing = 67
-liquidityCode liquidity.Removed = 82
+abbrev pub liquidity_code : Liquidity → ℕ
+liquidity_code liquidity.Unspecified = 0
+liquidity_code liquidity.Added = 65
+liquidity_code liquidity.Uncrossing = 67
+liquidity_code liquidity.Removed = 82
 
-abbrev pub liquidityCodes : List ℕ
-liquidityCodes = 0 ∷ 65 ∷ 67 ∷ 82 ∷ []
+abbrev pub liquidity_codes : List ℕ
+liquidity_codes = 0 ∷ 65 ∷ 67 ∷ 82 ∷ []
 
 -- whether the executed part was shown
-abbrev pub tradeTypeCode : TradeType → ℕ
-tradeTypeCode tradeType.Visible = 0
-tradeTypeCode tradeType.Hidden = 1
+abbrev pub trade_type_code : TradeType → ℕ
+trade_type_code tradeType.Visible = 0
+trade_type_code tradeType.Hidden = 1
 
-abbrev pub tradeTypeCodes : List ℕ
-tradeTypeCodes = 0 ∷ 1 ∷ []
+abbrev pub trade_type_codes : List ℕ
+trade_type_codes = 0 ∷ 1 ∷ []
 
 -- the capacity that a report tells
-abbrev pub capacityCode : Capacity → ℕ
-capacityCode capacity.RisklessPrincipal = 1
-capacityCode capacity.Principal = 2
-capacityCode capacity.Agency = 3
+abbrev pub capacity_code : Capacity → ℕ
+capacity_code capacity.RisklessPrincipal = 1
+capacity_code capacity.Principal = 2
+capacity_code capacity.Agency = 3
 
-abbrev pub capacityCodes : List ℕ
-capacityCodes = 1 ∷ 2 ∷ 3 ∷ []
+abbrev pub capacity_codes : List ℕ
+capacity_codes = 1 ∷ 2 ∷ 3 ∷ []
 
 -- how an order's price stands to the best one
-abbrev pub priceDifferentialCode : PriceDifferential → ℕ
-priceDifferentialCode priceDifferential.Unspecified = 0
-priceDifferentialCode priceDifferential.JoinBest = 49
-priceDifferentialCode priceDifferential.Second = 50
-priceDifferentialCode priceDifferential.Third = 51
-priceDifferentialCode priceDifferential.Fourth = 52
-priceDifferentialCode priceDifferential.Fifth = 53
-priceDifferentialCode priceDifferential.Sixth = 54
-priceDifferentialCode priceDifferential.Seventh = 55
-priceDifferentialCode priceDifferential.Eighth = 56
-priceDifferentialCode priceDifferential.NinthOrWorse = 57
-priceDifferentialCode priceDifferential.Aggressive = 65
-priceDifferentialCode priceDifferential.NewBest = 66
-priceDifferentialCode priceDifferential.Passive = 80
+abbrev pub price_differential_code : PriceDifferential → ℕ
+price_differential_code priceDifferential.Unspecified = 0
+price_differential_code priceDifferential.JoinBest = 49
+price_differential_code priceDifferential.Second = 50
+price_differential_code priceDifferential.Third = 51
+price_differential_code priceDifferential.Fourth = 52
+price_differential_code priceDifferential.Fifth = 53
+price_differential_code priceDifferential.Sixth = 54
+price_differential_code priceDifferential.Seventh = 55
+price_differential_code priceDifferential.Eighth = 56
+price_differential_code priceDifferential.NinthOrWorse = 57
+price_differential_code priceDifferential.Aggressive = 65
+price_differential_code priceDifferential.NewBest = 66
+price_differential_code priceDifferential.Passive = 80
 
-abbrev pub priceDifferentialCodes : List ℕ
-priceDifferentialCodes = 0 ∷ 49 ∷ 50 ∷ 51 ∷ 52 ∷ 53 ∷ 54 ∷ 55 ∷ 56 ∷ 57 ∷ 65 ∷ 66 ∷ 80 ∷ []
+abbrev pub price_differential_codes : List ℕ
+price_differential_codes = 0 ∷ 49 ∷ 50 ∷ 51 ∷ 52 ∷ 53 ∷ 54 ∷ 55 ∷ 56 ∷ 57 ∷ 65 ∷ 66 ∷ 80 ∷ []
 
 -- whether a mass cancel was accepted
-abbrev pub massResponseCode : MassResponse → ℕ
-massResponseCode massResponse.Rejected = 0
-massResponseCode massResponse.Accepted = 7
+abbrev pub mass_response_code : MassResponse → ℕ
+mass_response_code massResponse.Rejected = 0
+mass_response_code massResponse.Accepted = 7
 
-abbrev pub massResponseCodes : List ℕ
-massResponseCodes = 0 ∷ 7 ∷ []
+abbrev pub mass_response_codes : List ℕ
+mass_response_codes = 0 ∷ 7 ∷ []

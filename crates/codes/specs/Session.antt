@@ -10,36 +10,36 @@ use Rattle.codes.specs.declared.session.ReportResponse.{ReportResponse}
 use Rattle.codes.specs.declared.session.ReportResponse.TheVariants as reportResponse
 
 -- the one version of the messages
-abbrev pub versionCode : Version → ℕ
-versionCode version.One = 1
+abbrev pub version_code : Version → ℕ
+version_code version.One = 1
 
-abbrev pub versionCodes : List ℕ
-versionCodes = 1 ∷ []
+abbrev pub version_codes : List ℕ
+version_codes = 1 ∷ []
 
 -- a part of the matching system, with sequence numbers of its own
-abbrev pub partitionCode : Partition → ℕ
-partitionCode partition.One = 1
-partitionCode partition.Two = 2
-partitionCode partition.Three = 3
+abbrev pub partition_code : Partition → ℕ
+partition_code partition.One = 1
+partition_code partition.Two = 2
+partition_code partition.Three = 3
 
-abbrev pub partitionCodes : List ℕ
-partitionCodes = 1 ∷ 2 ∷ 3 ∷ []
+abbrev pub partition_codes : List ℕ
+partition_codes = 1 ∷ 2 ∷ 3 ∷ []
 
 -- the answer to a Missed Message Request
-abbrev pub ackResponseCode : AckResponse → ℕ
-ackResponseCode ackResponse.Successful = 0
-ackResponseCode ackResponse.LimitReached = 1
-ackResponseCode ackResponse.InvalidAppId = 2
-ackResponseCode ackResponse.ServiceUnavailable = 3
+abbrev pub ack_response_code : AckResponse → ℕ
+ack_response_code ackResponse.Successful = 0
+ack_response_code ackResponse.LimitReached = 1
+ack_response_code ackResponse.InvalidAppId = 2
+ack_response_code ackResponse.ServiceUnavailable = 3
 
-abbrev pub ackResponseCodes : List ℕ
-ackResponseCodes = 0 ∷ 1 ∷ 2 ∷ 3 ∷ []
+abbrev pub ack_response_codes : List ℕ
+ack_response_codes = 0 ∷ 1 ∷ 2 ∷ 3 ∷ []
 
 -- how a download ended
-abbrev pub reportResponseCode : ReportResponse → ℕ
-reportResponseCode reportResponse.Complete = 0
-reportResponseCode reportResponse.MessageLimit = 1
-reportResponseCode reportResponse.ServiceUnavailable = 3
+abbrev pub report_response_code : ReportResponse → ℕ
+report_response_code reportResponse.Complete = 0
+report_response_code reportResponse.MessageLimit = 1
+report_response_code reportResponse.ServiceUnavailable = 3
 
-abbrev pub reportResponseCodes : List ℕ
-reportResponseCodes = 0 ∷ 1 ∷ 3 ∷ []
+abbrev pub report_response_codes : List ℕ
+report_response_codes = 0 ∷ 1 ∷ 3 ∷ []

@@ -1,6 +1,6 @@
 // The codes of an order's terms.
 ghost use Rattle.std.specs.Prelude.{◌≡◌, ℕ, true, false};
-ghost use Rattle.codes.specs.Order.{sideCode, sideCodes, orderTypeCode, orderTypeCodes, timeInForceCode, timeInForceCodes, clearingAccountCode, clearingAccountCodes, orderCapacityCode, orderCapacityCodes, autoCancelCode, autoCancelCodes, orderSubTypeCode, orderSubTypeCodes, bookCode, bookCodes, execInstructionCode, execInstructionCodes, passiveOnlyCode, passiveOnlyCodes, massCancelTypeCode, massCancelTypeCodes};
+ghost use Rattle.codes.specs.Order.{side_code, side_codes, order_type_code, order_type_codes, time_in_force_code, time_in_force_codes, clearing_account_code, clearing_account_codes, order_capacity_code, order_capacity_codes, auto_cancel_code, auto_cancel_codes, order_sub_type_code, order_sub_type_codes, book_code, book_codes, exec_instruction_code, exec_instruction_codes, passive_only_code, passive_only_codes, mass_cancel_type_code, mass_cancel_type_codes};
 
 use crate::code::Code;
 
@@ -12,9 +12,9 @@ pub enum Side {
 }
 
 impl Code for Side {
-    ghost coded = { λ c. sideCode c };
+    ghost coded = { λ c. side_code c };
 
-    ghost codes = { sideCodes };
+    ghost codes = { side_codes };
 
     fn of(byte: u8) -> Option<Side> {
         match byte {
@@ -33,9 +33,9 @@ pub enum OrderType {
 }
 
 impl Code for OrderType {
-    ghost coded = { λ c. orderTypeCode c };
+    ghost coded = { λ c. order_type_code c };
 
-    ghost codes = { orderTypeCodes };
+    ghost codes = { order_type_codes };
 
     fn of(byte: u8) -> Option<OrderType> {
         match byte {
@@ -58,9 +58,9 @@ pub enum TimeInForce {
 }
 
 impl Code for TimeInForce {
-    ghost coded = { λ c. timeInForceCode c };
+    ghost coded = { λ c. time_in_force_code c };
 
-    ghost codes = { timeInForceCodes };
+    ghost codes = { time_in_force_codes };
 
     fn of(byte: u8) -> Option<TimeInForce> {
         match byte {
@@ -83,9 +83,9 @@ pub enum ClearingAccount {
 }
 
 impl Code for ClearingAccount {
-    ghost coded = { λ c. clearingAccountCode c };
+    ghost coded = { λ c. clearing_account_code c };
 
-    ghost codes = { clearingAccountCodes };
+    ghost codes = { clearing_account_codes };
 
     fn of(byte: u8) -> Option<ClearingAccount> {
         match byte {
@@ -106,9 +106,9 @@ pub enum OrderCapacity {
 }
 
 impl Code for OrderCapacity {
-    ghost coded = { λ c. orderCapacityCode c };
+    ghost coded = { λ c. order_capacity_code c };
 
-    ghost codes = { orderCapacityCodes };
+    ghost codes = { order_capacity_codes };
 
     fn of(byte: u8) -> Option<OrderCapacity> {
         match byte {
@@ -129,9 +129,9 @@ pub enum AutoCancel {
 }
 
 impl Code for AutoCancel {
-    ghost coded = { λ c. autoCancelCode c };
+    ghost coded = { λ c. auto_cancel_code c };
 
-    ghost codes = { autoCancelCodes };
+    ghost codes = { auto_cancel_codes };
 
     fn of(byte: u8) -> Option<AutoCancel> {
         match byte {
@@ -149,9 +149,9 @@ pub enum OrderSubType {
 }
 
 impl Code for OrderSubType {
-    ghost coded = { λ c. orderSubTypeCode c };
+    ghost coded = { λ c. order_sub_type_code c };
 
-    ghost codes = { orderSubTypeCodes };
+    ghost codes = { order_sub_type_codes };
 
     fn of(byte: u8) -> Option<OrderSubType> {
         match byte {
@@ -169,9 +169,9 @@ pub enum Book {
 }
 
 impl Code for Book {
-    ghost coded = { λ c. bookCode c };
+    ghost coded = { λ c. book_code c };
 
-    ghost codes = { bookCodes };
+    ghost codes = { book_codes };
 
     fn of(byte: u8) -> Option<Book> {
         match byte {
@@ -191,9 +191,9 @@ pub enum ExecInstruction {
 }
 
 impl Code for ExecInstruction {
-    ghost coded = { λ c. execInstructionCode c };
+    ghost coded = { λ c. exec_instruction_code c };
 
-    ghost codes = { execInstructionCodes };
+    ghost codes = { exec_instruction_codes };
 
     fn of(byte: u8) -> Option<ExecInstruction> {
         match byte {
@@ -217,9 +217,9 @@ pub enum PassiveOnly {
 }
 
 impl Code for PassiveOnly {
-    ghost coded = { λ c. passiveOnlyCode c };
+    ghost coded = { λ c. passive_only_code c };
 
-    ghost codes = { passiveOnlyCodes };
+    ghost codes = { passive_only_codes };
 
     fn of(byte: u8) -> Option<PassiveOnly> {
         match byte {
@@ -246,9 +246,9 @@ pub enum MassCancelType {
 }
 
 impl Code for MassCancelType {
-    ghost coded = { λ c. massCancelTypeCode c };
+    ghost coded = { λ c. mass_cancel_type_code c };
 
-    ghost codes = { massCancelTypeCodes };
+    ghost codes = { mass_cancel_type_codes };
 
     fn of(byte: u8) -> Option<MassCancelType> {
         match byte {

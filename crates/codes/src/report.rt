@@ -1,6 +1,6 @@
 // The codes of reports. `Unspecified` is a null byte.
 ghost use Rattle.std.specs.Prelude.{◌≡◌, ℕ, true, false};
-ghost use Rattle.codes.specs.Report.{execTypeCode, execTypeCodes, statusCode, statusCodes, liquidityCode, liquidityCodes, tradeTypeCode, tradeTypeCodes, capacityCode, capacityCodes, priceDifferentialCode, priceDifferentialCodes, massResponseCode, massResponseCodes};
+ghost use Rattle.codes.specs.Report.{exec_type_code, exec_type_codes, status_code, status_codes, liquidity_code, liquidity_codes, trade_type_code, trade_type_codes, capacity_code, capacity_codes, price_differential_code, price_differential_codes, mass_response_code, mass_response_codes};
 
 use crate::code::Code;
 
@@ -19,9 +19,9 @@ pub enum ExecType {
 }
 
 impl Code for ExecType {
-    ghost coded = { λ c. execTypeCode c };
+    ghost coded = { λ c. exec_type_code c };
 
-    ghost codes = { execTypeCodes };
+    ghost codes = { exec_type_codes };
 
     fn of(byte: u8) -> Option<ExecType> {
         match byte {
@@ -51,9 +51,9 @@ pub enum Status {
 }
 
 impl Code for Status {
-    ghost coded = { λ c. statusCode c };
+    ghost coded = { λ c. status_code c };
 
-    ghost codes = { statusCodes };
+    ghost codes = { status_codes };
 
     fn of(byte: u8) -> Option<Status> {
         match byte {
@@ -78,9 +78,9 @@ pub enum Liquidity {
 }
 
 impl Code for Liquidity {
-    ghost coded = { λ c. liquidityCode c };
+    ghost coded = { λ c. liquidity_code c };
 
-    ghost codes = { liquidityCodes };
+    ghost codes = { liquidity_codes };
 
     fn of(byte: u8) -> Option<Liquidity> {
         match byte {
@@ -101,9 +101,9 @@ pub enum TradeType {
 }
 
 impl Code for TradeType {
-    ghost coded = { λ c. tradeTypeCode c };
+    ghost coded = { λ c. trade_type_code c };
 
-    ghost codes = { tradeTypeCodes };
+    ghost codes = { trade_type_codes };
 
     fn of(byte: u8) -> Option<TradeType> {
         match byte {
@@ -123,9 +123,9 @@ pub enum Capacity {
 }
 
 impl Code for Capacity {
-    ghost coded = { λ c. capacityCode c };
+    ghost coded = { λ c. capacity_code c };
 
-    ghost codes = { capacityCodes };
+    ghost codes = { capacity_codes };
 
     fn of(byte: u8) -> Option<Capacity> {
         match byte {
@@ -156,9 +156,9 @@ pub enum PriceDifferential {
 }
 
 impl Code for PriceDifferential {
-    ghost coded = { λ c. priceDifferentialCode c };
+    ghost coded = { λ c. price_differential_code c };
 
-    ghost codes = { priceDifferentialCodes };
+    ghost codes = { price_differential_codes };
 
     fn of(byte: u8) -> Option<PriceDifferential> {
         match byte {
@@ -188,9 +188,9 @@ pub enum MassResponse {
 }
 
 impl Code for MassResponse {
-    ghost coded = { λ c. massResponseCode c };
+    ghost coded = { λ c. mass_response_code c };
 
-    ghost codes = { massResponseCodes };
+    ghost codes = { mass_response_codes };
 
     fn of(byte: u8) -> Option<MassResponse> {
         match byte {

@@ -1,6 +1,6 @@
 // The codes of sessions and of downloads.
 ghost use Rattle.std.specs.Prelude.{◌≡◌, ℕ, true, false};
-ghost use Rattle.codes.specs.Session.{versionCode, versionCodes, partitionCode, partitionCodes, ackResponseCode, ackResponseCodes, reportResponseCode, reportResponseCodes};
+ghost use Rattle.codes.specs.Session.{version_code, version_codes, partition_code, partition_codes, ack_response_code, ack_response_codes, report_response_code, report_response_codes};
 
 use crate::code::Code;
 
@@ -11,9 +11,9 @@ pub enum Version {
 }
 
 impl Code for Version {
-    ghost coded = { λ c. versionCode c };
+    ghost coded = { λ c. version_code c };
 
-    ghost codes = { versionCodes };
+    ghost codes = { version_codes };
 
     fn of(byte: u8) -> Option<Version> {
         match byte {
@@ -32,9 +32,9 @@ pub enum Partition {
 }
 
 impl Code for Partition {
-    ghost coded = { λ c. partitionCode c };
+    ghost coded = { λ c. partition_code c };
 
-    ghost codes = { partitionCodes };
+    ghost codes = { partition_codes };
 
     fn of(byte: u8) -> Option<Partition> {
         match byte {
@@ -56,9 +56,9 @@ pub enum AckResponse {
 }
 
 impl Code for AckResponse {
-    ghost coded = { λ c. ackResponseCode c };
+    ghost coded = { λ c. ack_response_code c };
 
-    ghost codes = { ackResponseCodes };
+    ghost codes = { ack_response_codes };
 
     fn of(byte: u8) -> Option<AckResponse> {
         match byte {
@@ -80,9 +80,9 @@ pub enum ReportResponse {
 }
 
 impl Code for ReportResponse {
-    ghost coded = { λ c. reportResponseCode c };
+    ghost coded = { λ c. report_response_code c };
 
-    ghost codes = { reportResponseCodes };
+    ghost codes = { report_response_codes };
 
     fn of(byte: u8) -> Option<ReportResponse> {
         match byte {

@@ -1,6 +1,6 @@
 -- Worked examples of the definitions. Assumes nothing.
 use Rattle.std.specs.Prelude.{◌≡◌, ℕ, List, [], ◌∷◌, ◌++◌, replicate, Some, None, Ok, codes}
-use Rattle.texts.specs.Identifiers.{orderId, executionId}
+use Rattle.texts.specs.Identifiers.{order_id_text, execution_id_text}
 use Rattle.lit_book.specs.Laws.{Worked}
 use Rattle.orders.specs.Examples.{Examples as OrdersWorked}
 use Rattle.wire.specs.declared.kinds.Channel.TheVariants.{RealTime}
@@ -8,8 +8,8 @@ use Rattle.wire.specs.declared.kinds.Kind.TheVariants.{Heartbeat}
 use Rattle.wire.specs.Messages.{opening, verdict}
 
 -- a cancel of an order that is named by these bytes: its Order ID stands at 44
-abbrev pub cancelOf : List ℕ → List ℕ
-cancelOf id =
+abbrev pub cancel_of : List ℕ → List ℕ
+cancel_of id =
     2 ∷ 70 ∷ 0 ∷ 70 ∷ codes "A2" ++ (replicate 18 0 ++ (codes "A1" ++ (replicate 18 0 ++ (id ++ (codes "VOD" ++ (replicate 3 0 ++ (1 ∷ 1 ∷ replicate 9 0)))))))
 
 abbrev pub Examples : Type 0
@@ -21,12 +21,12 @@ Examples =
     × (verdict RealTime (2 ∷ 2 ∷ 0 ∷ 48 ∷ []) ≡ Some (1, 1))
     × (verdict RealTime (2 ∷ 2 ∷ 0 ∷ 48 ∷ 0 ∷ []) ≡ Some (4, 1))
     -- identifiers of orders and of reports
-    × (orderId 10 ≡ codes "O0000000000A")
-    × (orderId 62 ≡ codes "O00000000010")
-    × (executionId 1 1 ≡ codes "E000004gfFC5")
+    × (order_id_text 10 ≡ codes "O0000000000A")
+    × (order_id_text 62 ≡ codes "O00000000010")
+    × (execution_id_text 1 1 ≡ codes "E000004gfFC5")
     -- a request may name any order below 2 ^ 64, and nothing beyond
-    × (verdict RealTime (cancelOf (codes "O0000000000A")) ≡ None)
-    × (verdict RealTime (cancelOf (codes "Ozzzzzzzzzzz")) ≡ Some (5, 44))
+    × (verdict RealTime (cancel_of (codes "O0000000000A")) ≡ None)
+    × (verdict RealTime (cancel_of (codes "Ozzzzzzzzzzz")) ≡ Some (5, 44))
     -- in the lit book, sells of 50 at 101 and 50 at 100 meet a buy of 80 at 101
     × Worked
     -- an order of 100 with 40 executed: cancelled and its fill undone; replaced by 40, and by 41

@@ -8,7 +8,7 @@ use Rattle.layout.specs.Values.{meant}
 use Rattle.wire.specs.declared.kinds.Kind.{Kind}
 use Rattle.wire.specs.declared.kinds.Kind.TheVariants as kind
 use Rattle.wire.specs.Kinds.{total_of}
-use Rattle.wire.specs.Messages.{Said, contentsOf, theLogon, theLogonReply, theLogout, theHeartbeat, theMissedMessageRequest, theMissedMessageRequestAck, theMissedMessageReport, theReject, theNewOrder, theOrderCancelRequest, theOrderCancelReplaceRequest, theOrderMassCancelRequest, theExecutionReport, theOrderCancelReject, theOrderMassCancelReport}
+use Rattle.wire.specs.Messages.{Said, contents_of, the_logon, the_logon_reply, the_logout, the_heartbeat, the_missed_message_request, the_missed_message_request_ack, the_missed_message_report, the_reject, the_new_order, the_order_cancel_request, the_order_cancel_replace_request, the_order_mass_cancel_request, the_execution_report, the_order_cancel_reject, the_order_mass_cancel_report}
 
 -- no message has more bytes than a report of an execution
 pub total-few : (k : Kind) → total_of k ≤ 145

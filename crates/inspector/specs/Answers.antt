@@ -5,13 +5,13 @@ use Rattle.wire.specs.declared.kinds.Channel.{Channel}
 use Rattle.wire.specs.declared.message.Message.{Message}
 use Rattle.layout.specs.declared.value.Value.{Value}
 use Rattle.layout.specs.Values.{meant}
-use Rattle.wire.specs.Messages.{Said, Reads, heardOf, kind_of, contentsOf, written, verdict}
+use Rattle.wire.specs.Messages.{Said, Reads, heard_of, kind_of, contents_of, written, verdict}
 use Rattle.inspector.specs.declared.account.Outcome.TheVariants as outcome
 use Rattle.inspector.specs.declared.answer.Answer.{Answer}
 use Rattle.inspector.specs.declared.line.Unclear.{Unclear}
 use Rattle.inspector.specs.declared.line.Unclear.TheVariants as why
 use Rattle.inspector.specs.Lines.{Given, skipped, message, unclear, given}
-use Rattle.inspector.specs.Shown.{lineText}
+use Rattle.inspector.specs.Shown.{line_text}
 
 abbrev pub sentenceOf : Unclear → List ℕ
 sentenceOf why.UnknownReader = codes "not understood: the reader is none of real-time, recovery and follower"
@@ -25,14 +25,14 @@ refusedText rule offset = codes "refused " ++ (decimal rule ++ (codes " at " ++ 
 
 -- the line of a message: its values mean what its fields hold
 abbrev pub Rendered : Said → List ℕ → Type 0
-Rendered m t = (vs : List Value) × ((map meant vs ≡ contentsOf m) × (t ≡ lineText (kind_of m) vs))
+Rendered m t = (vs : List Value) × ((map meant vs ≡ contents_of m) × (t ≡ line_text (kind_of m) vs))
 
 -- the answer to a message that was read
 pub record ReadAs (ch : Channel) (bs : List ℕ) (a : Answer) : Type 0 where
   pub read : Message
   pub reads : Reads ch bs read
-  pub shows : Rendered (heardOf read) (string_bytes a.text)
-  pub counts : a.outcome ≡ outcome.Read (bytes_eq (written (heardOf read)) bs)
+  pub shows : Rendered (heard_of read) (string_bytes a.text)
+  pub counts : a.outcome ≡ outcome.Read (bytes_eq (written (heard_of read)) bs)
 
 -- the answer to a message, by the first check that fails
 abbrev pub ByVerdict : Option (ℕ × ℕ) → Channel → List ℕ → Answer → Type 0

@@ -8,7 +8,7 @@ worth c =
     (cond (nat_le 97 c && nat_le c 102) (c - 87) 0))
 
 -- two digits to a byte
-abbrev pub hexBytes : List ℕ → List ℕ
-hexBytes [] = []
-hexBytes (a ∷ []) = []
-hexBytes (a ∷ b ∷ ds) = (worth a * 16 + worth b) ∷ hexBytes ds
+abbrev pub hex_bytes : List ℕ → List ℕ
+hex_bytes [] = []
+hex_bytes (a ∷ []) = []
+hex_bytes (a ∷ b ∷ ds) = (worth a * 16 + worth b) ∷ hex_bytes ds

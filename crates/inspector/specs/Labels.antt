@@ -8,22 +8,22 @@ use Rattle.wire.specs.declared.kinds.Kind.TheVariants as kind
 abbrev pub spelt : List (Bor (List ℕ)) → List (List ℕ)
 spelt ns = map (λ n. n.now) ns
 
-abbrev pub titleOf : Kind → List ℕ
-titleOf kind.Logon = codes "Logon"
-titleOf kind.LogonReply = codes "LogonReply"
-titleOf kind.Logout = codes "Logout"
-titleOf kind.Heartbeat = codes "Heartbeat"
-titleOf kind.MissedMessageRequest = codes "MissedMessageRequest"
-titleOf kind.MissedMessageRequestAck = codes "MissedMessageRequestAck"
-titleOf kind.MissedMessageReport = codes "MissedMessageReport"
-titleOf kind.Reject = codes "Reject"
-titleOf kind.NewOrder = codes "NewOrder"
-titleOf kind.OrderCancelRequest = codes "OrderCancelRequest"
-titleOf kind.OrderCancelReplaceRequest = codes "OrderCancelReplaceRequest"
-titleOf kind.OrderMassCancelRequest = codes "OrderMassCancelRequest"
-titleOf kind.ExecutionReport = codes "ExecutionReport"
-titleOf kind.OrderCancelReject = codes "OrderCancelReject"
-titleOf kind.OrderMassCancelReport = codes "OrderMassCancelReport"
+abbrev pub title_of : Kind → List ℕ
+title_of kind.Logon = codes "Logon"
+title_of kind.LogonReply = codes "LogonReply"
+title_of kind.Logout = codes "Logout"
+title_of kind.Heartbeat = codes "Heartbeat"
+title_of kind.MissedMessageRequest = codes "MissedMessageRequest"
+title_of kind.MissedMessageRequestAck = codes "MissedMessageRequestAck"
+title_of kind.MissedMessageReport = codes "MissedMessageReport"
+title_of kind.Reject = codes "Reject"
+title_of kind.NewOrder = codes "NewOrder"
+title_of kind.OrderCancelRequest = codes "OrderCancelRequest"
+title_of kind.OrderCancelReplaceRequest = codes "OrderCancelReplaceRequest"
+title_of kind.OrderMassCancelRequest = codes "OrderMassCancelRequest"
+title_of kind.ExecutionReport = codes "ExecutionReport"
+title_of kind.OrderCancelReject = codes "OrderCancelReject"
+title_of kind.OrderMassCancelReport = codes "OrderMassCancelReport"
 
 -- the names of the fields, in the order of the layout; a reserved field has none
 abbrev pub names_of : Kind → List (List ℕ)

@@ -1,6 +1,6 @@
 // The account of a run: how many lines there were, and what became of them.
 ghost use Rattle.std.specs.Prelude.{◌≡◌, true, Some};
-ghost use Rattle.inspector.specs.Account.{more, nothing, counted, summaryText};
+ghost use Rattle.inspector.specs.Account.{more, nothing, counted, summary_text};
 
 use std::fmt;
 
@@ -86,7 +86,7 @@ impl Account {
 
 // The account in one line.
 impl fmt::Display for Account {
-    ghost output = { λ account. Some (summaryText account) };
+    ghost output = { λ account. Some (summary_text account) };
 
     fn fmt<W: fmt::Write>(&self, f: &mut fmt::Formatter<W>) -> fmt::Result {
         write!(

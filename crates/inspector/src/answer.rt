@@ -2,7 +2,7 @@
 ghost use Rattle.std.specs.Prelude.{◌≡◌, map, IfOk, string_bytes};
 ghost use Rattle.std.specs.Str.{bytes_eq};
 ghost use Rattle.layout.specs.Values.{meant};
-ghost use Rattle.wire.specs.Messages.{keptOf, contentsOf, written};
+ghost use Rattle.wire.specs.Messages.{kept_of, contents_of, written};
 ghost use Rattle.inspector.specs.Answers.{Rendered, AnswersRead, Answered};
 
 use crate::account::Outcome;
@@ -23,7 +23,7 @@ pub struct Answer {
 
 // What the fields of a message hold, in the order of its layout. No message has more than 26.
 fn values<'a>(heap: Global, message: &'a OwnedMessage) -> Result<Vec<Value<'a>>, AllocError>
-    ensures { IfOk result (λ v. map meant v.items ≡ contentsOf (keptOf message.now)) }
+    ensures { IfOk result (λ v. map meant v.items ≡ contents_of (kept_of message.now)) }
 {
     let mut all = Vec::new(heap);
     for i in 0..26 {
@@ -37,7 +37,7 @@ fn values<'a>(heap: Global, message: &'a OwnedMessage) -> Result<Vec<Value<'a>>,
 
 // A message as a line of text.
 pub fn render(heap: Global, message: &OwnedMessage) -> Result<String, Failure>
-    ensures { IfOk result (λ s. Rendered (keptOf message.now) (string_bytes s)) }
+    ensures { IfOk result (λ s. Rendered (kept_of message.now) (string_bytes s)) }
 {
     let all = values(heap, message)?;
     let line = shown::Line {
@@ -49,7 +49,7 @@ pub fn render(heap: Global, message: &OwnedMessage) -> Result<String, Failure>
 
 // Whether a message that was read from these bytes is written to the very same.
 fn is_same_again(message: &OwnedMessage, bytes: &[u8]) -> bool
-    ensures { result ≡ bytes_eq (written (keptOf message.now)) bytes.now }
+    ensures { result ≡ bytes_eq (written (kept_of message.now)) bytes.now }
 {
     let mut out = [0; 145];
     match write(message, &mut out) {

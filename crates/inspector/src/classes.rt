@@ -1,7 +1,7 @@
 // The bytes of a line, by what they are for.
 ghost use Rattle.std.specs.Prelude.{◌≡◌, ◌≤◌, length};
 ghost use Rattle.std.specs.List.{prefix_len};
-ghost use Rattle.inspector.specs.Classes.{inClass, first_word, afterWord};
+ghost use Rattle.inspector.specs.Classes.{in_class, first_word, after_word};
 
 #[derive(Clone, Copy)]
 pub(crate) enum Class {
@@ -12,7 +12,7 @@ pub(crate) enum Class {
 
 impl Class {
     fn has(self, byte: u8) -> bool
-        ensures { result ≡ inClass self byte }
+        ensures { result ≡ in_class self byte }
     {
         match self {
             Class::Blank => matches!(byte, b' ' | b'\t' | b'\r' | b'\n'),
@@ -23,7 +23,7 @@ impl Class {
 
     // How many bytes at the front are of this class.
     pub(crate) fn front(self, bytes: &[u8]) -> usize
-        ensures value { result ≡ prefix_len (inClass self) bytes.now }
+        ensures value { result ≡ prefix_len (in_class self) bytes.now }
         ensures bound { result ≤ length bytes.now }
     {
         bytes.iter().take_while(|b| self.has(**b)).count()
@@ -33,7 +33,7 @@ impl Class {
 // The first word, and what stands behind it.
 pub(crate) fn word<'a>(bytes: &'a [u8]) -> (&'a [u8], &'a [u8])
     ensures first { result.0.now ≡ first_word bytes.now }
-    ensures after { result.1.now ≡ afterWord bytes.now }
+    ensures after { result.1.now ≡ after_word bytes.now }
 {
     let start = Class::Blank.front(bytes);
     let rest = &bytes[start..];

@@ -1,6 +1,6 @@
 // Bytes in hex digits of either case.
 ghost use Rattle.std.specs.Prelude.{◌≡◌, ◌<◌, IfOk};
-ghost use Rattle.inspector.specs.Hex.{worth, hexBytes};
+ghost use Rattle.inspector.specs.Hex.{worth, hex_bytes};
 
 use std::alloc::{AllocError, Global};
 
@@ -19,7 +19,7 @@ fn worth_of(digit: u8) -> u8
 
 // The bytes that pairs of digits write.
 pub(crate) fn decode(heap: Global, digits: &[u8]) -> Result<Vec<u8>, AllocError>
-    ensures { IfOk result (λ v. v.items ≡ hexBytes digits.now) }
+    ensures { IfOk result (λ v. v.items ≡ hex_bytes digits.now) }
 {
     let mut bytes = Vec::new(heap);
     let mut i = 0;

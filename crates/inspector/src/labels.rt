@@ -1,6 +1,6 @@
 // The names of the messages and of their fields, without blanks.
 ghost use Rattle.std.specs.Prelude.{◌≡◌};
-ghost use Rattle.inspector.specs.Labels.{titleOf, names_of, spelt};
+ghost use Rattle.inspector.specs.Labels.{title_of, names_of, spelt};
 
 use wire::kinds::Kind;
 
@@ -139,7 +139,7 @@ const ORDER_MASS_CANCEL_REPORT: [&str; 8] = [
 ];
 
 pub(crate) fn title(kind: Kind) -> &'static str
-    ensures { result.now ≡ titleOf kind }
+    ensures { result.now ≡ title_of kind }
 {
     match kind {
         Kind::Logon => "Logon",

@@ -1,7 +1,7 @@
 // One line of input: who reads, and the bytes of one message.
 ghost use Rattle.std.specs.Prelude.{◌≡◌, Some, IfOk};
 ghost use Rattle.std.specs.Str.{bytes_eq};
-ghost use Rattle.inspector.specs.Lines.{skips, readerOf, bytesGiven, given, says};
+ghost use Rattle.inspector.specs.Lines.{skips, reader_of, bytes_given, given, says};
 ghost use Rattle.inspector.specs.Answers.{sentenceOf};
 
 use crate::classes::{Class, word};
@@ -60,7 +60,7 @@ pub(crate) fn is_text(word: &[u8], text: &[u8]) -> bool
 }
 
 fn reader(name: &[u8]) -> Option<Channel>
-    ensures { result ≡ readerOf name.now }
+    ensures { result ≡ reader_of name.now }
 {
     if is_text(name, b"real-time") {
         Some(Channel::RealTime)
@@ -74,7 +74,7 @@ fn reader(name: &[u8]) -> Option<Channel>
 }
 
 fn bytes_of(heap: Global, channel: Channel, digits: &[u8]) -> Result<Line, AllocError>
-    ensures { IfOk result (λ l. says l ≡ bytesGiven channel digits.now) }
+    ensures { IfOk result (λ l. says l ≡ bytes_given channel digits.now) }
 {
     let n = digits.len();
     if is_text(digits, b"-") {

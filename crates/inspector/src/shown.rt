@@ -1,7 +1,7 @@
 // A message as a line of text.
 ghost use Rattle.std.specs.Prelude.{Some};
 ghost use Rattle.inspector.specs.Labels.{spelt};
-ghost use Rattle.inspector.specs.Shown.{fieldsText, lineText};
+ghost use Rattle.inspector.specs.Shown.{fields_text, line_text};
 
 use crate::labels::{names, title};
 use crate::values::Named;
@@ -17,7 +17,7 @@ struct Fields<'a> {
 }
 
 impl fmt::Display for Fields<'_> {
-    ghost output = { λ all. Some (fieldsText (spelt all.names.now) all.values.now) };
+    ghost output = { λ all. Some (fields_text (spelt all.names.now) all.values.now) };
 
     fn fmt<W: fmt::Write>(&self, f: &mut fmt::Formatter<W>) -> fmt::Result {
         for (name, value) in self.names.iter().zip(self.values) {
@@ -35,7 +35,7 @@ pub(crate) struct Line<'a> {
 }
 
 impl fmt::Display for Line<'_> {
-    ghost output = { λ line. Some (lineText line.kind line.values.now) };
+    ghost output = { λ line. Some (line_text line.kind line.values.now) };
 
     fn fmt<W: fmt::Write>(&self, f: &mut fmt::Formatter<W>) -> fmt::Result {
         let fields = Fields {

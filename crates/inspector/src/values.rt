@@ -2,7 +2,7 @@
 ghost use Rattle.std.specs.Prelude.{◌≡◌, ◌+◌, ◌*◌, ◌<◌, Some};
 ghost use Rattle.std.proofs.Math.Utf8.{encodes};
 ghost use Rattle.std.specs.Option.{option_map};
-ghost use Rattle.inspector.specs.Shown.{hexGlyph, quoted, four, amount, priceText, alphaText, orderText, valueText, isReserved, fieldText};
+ghost use Rattle.inspector.specs.Shown.{hex_glyph, quoted, four, amount, price_text, alpha_text, order_text, value_text, is_reserved, field_text};
 
 use layout::value::Value;
 use std::fmt;
@@ -41,7 +41,7 @@ impl fmt::Display for Quoted<'_> {
 struct Identifier(Option<OrderId>);
 
 impl fmt::Display for Identifier {
-    ghost output = { λ order. Some (orderText (option_map (λ i. i.number) order.0)) };
+    ghost output = { λ order. Some (order_text (option_map (λ i. i.number) order.0)) };
 
     fn fmt<W: fmt::Write>(&self, f: &mut fmt::Formatter<W>) -> fmt::Result {
         match self.0 {
@@ -97,7 +97,7 @@ impl fmt::Display for Amount {
 struct Signed(Price);
 
 impl fmt::Display for Signed {
-    ghost output = { λ price. Some (priceText price.0.raw) };
+    ghost output = { λ price. Some (price_text price.0.raw) };
 
     fn fmt<W: fmt::Write>(&self, f: &mut fmt::Formatter<W>) -> fmt::Result {
         let n = Amount(self.0.raw.unsigned_abs());
@@ -111,7 +111,7 @@ impl fmt::Display for Signed {
 
 fn hex_digit(d: u8) -> char
     requires { d < 16 }
-    ensures value { result ≡ hexGlyph d }
+    ensures value { result ≡ hex_glyph d }
     ensures ascii { result < 128 }
 {
     if d < 10 {
@@ -126,7 +126,7 @@ fn hex_digit(d: u8) -> char
 struct Alpha(u8);
 
 impl fmt::Display for Alpha {
-    ghost output = { λ byte. Some (alphaText byte.0) };
+    ghost output = { λ byte. Some (alpha_text byte.0) };
 
     fn fmt<W: fmt::Write>(&self, f: &mut fmt::Formatter<W>) -> fmt::Result {
         match self.0 {
@@ -149,7 +149,7 @@ fn stamp(time: Time) -> u64
 struct Shown<'a>(&'a Value<'a>);
 
 impl fmt::Display for Shown<'_> {
-    ghost output = { λ value. Some (valueText value.0.now) };
+    ghost output = { λ value. Some (value_text value.0.now) };
 
     fn fmt<W: fmt::Write>(&self, f: &mut fmt::Formatter<W>) -> fmt::Result {
         match *self.0 {
@@ -169,7 +169,7 @@ impl fmt::Display for Shown<'_> {
 }
 
 fn is_reserved(value: &Value<'_>) -> bool
-    ensures { result ≡ isReserved value.now }
+    ensures { result ≡ is_reserved value.now }
 {
     matches!(*value, Value::Reserved)
 }
@@ -182,7 +182,7 @@ pub(crate) struct Named<'a> {
 }
 
 impl fmt::Display for Named<'_> {
-    ghost output = { λ field. Some (fieldText field.name.now field.value.now) };
+    ghost output = { λ field. Some (field_text field.name.now field.value.now) };
 
     fn fmt<W: fmt::Write>(&self, f: &mut fmt::Formatter<W>) -> fmt::Result {
         if is_reserved(self.value) {

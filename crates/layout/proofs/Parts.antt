@@ -3,7 +3,7 @@ use Rattle.std.proofs.Common.{◌≡◌, ℕ, suc, ◌+◌, ◌-◌, ◌*◌, �
 use Rattle.std.specs.List.{prefix_len}
 use Rattle.std.proofs.lemmas.Slice.{between_to_end}
 use Rattle.std.proofs.lemmas.List.{take-take, drop-take, drop-drop}
-use Rattle.texts.specs.Bytes.{part, le, allNull, printable, isText}
+use Rattle.texts.specs.Bytes.{part, le, all_null, printable, is_text}
 
 pub part-more : (w at : ℕ) (bs : List ℕ) → at < length bs → part at (suc w) bs ≡ get_or bs at 0 ∷ part (at + 1) w bs
 part-more w at bs h = rw (add-one, drop-cons bs at 0 h)
@@ -44,9 +44,9 @@ pub cut : (at w : ℕ) (bs : List ℕ) → take (at + w - at) (drop at bs) ≡ p
 cut at w bs = let e : at + w - at ≡ w = omega arith in rw e
 
 -- the test of a field that `text` makes, past its n printable bytes
-pub isText-is : (f : List ℕ) (n : ℕ) → n ≡ prefix_len printable f → allNull (take (length f - n) (drop n f)) ≡ isText f
-unfolding isText
-isText-is f n e = let le : length f ≤ length f = omega arith in rw (between_to_end f n (length f) le, e)
+pub is_text-is : (f : List ℕ) (n : ℕ) → n ≡ prefix_len printable f → all_null (take (length f - n) (drop n f)) ≡ is_text f
+unfolding is_text
+is_text-is f n e = let le : length f ≤ length f = omega arith in rw (between_to_end f n (length f) le, e)
 
 -- a field of eight bytes as two of four
 pub first-half : (at : ℕ) (bs : List ℕ) → take 4 (part at 8 bs) ≡ part at 4 bs

@@ -3,29 +3,29 @@ use Rattle.std.proofs.Common.{◌&&◌, ◌≡◌, ℕ, ◌+◌, ◌<◌, ◌≤
 use Rattle.std.proofs.lemmas.List.{drop_all}
 use Rattle.layout.specs.declared.field.Field.{Field}
 use Rattle.layout.specs.declared.field.Fault.{Fault}
-use Rattle.layout.specs.Layout.{Content, Body, firstBad, within, ok, place, span, AllOk}
+use Rattle.layout.specs.Layout.{Content, Body, first_bad, within, ok, place, span, AllOk}
 
-pub firstBad-drop : (fs : List Field) (bs : List ℕ) (i : ℕ) (d : Field) → i < length fs → firstBad (drop i fs) bs ≡ cond (ok bs (get_or fs i d)) (firstBad (drop (i + 1) fs) bs) (Some (place (get_or fs i d)))
-unfolding firstBad
-firstBad-drop fs bs i d h = rw (add-one, drop-cons fs i d h)
+pub first_bad-drop : (fs : List Field) (bs : List ℕ) (i : ℕ) (d : Field) → i < length fs → first_bad (drop i fs) bs ≡ cond (ok bs (get_or fs i d)) (first_bad (drop (i + 1) fs) bs) (Some (place (get_or fs i d)))
+unfolding first_bad
+first_bad-drop fs bs i d h = rw (add-one, drop-cons fs i d h)
 
 pub within-drop : (fs : List Field) (n i : ℕ) (d : Field) → i < length fs → within n (drop i fs) ≡ (leb (span (get_or fs i d)) n && within n (drop (i + 1) fs))
 within-drop fs n i d h = rw (add-one, drop-cons fs i d h)
 
-pub firstBad-end : (fs : List Field) (bs : List ℕ) (i : ℕ) → length fs ≤ i → firstBad (drop i fs) bs ≡ None
-unfolding firstBad
-firstBad-end fs bs i h = rw (drop_all i fs h)
+pub first_bad-end : (fs : List Field) (bs : List ℕ) (i : ℕ) → length fs ≤ i → first_bad (drop i fs) bs ≡ None
+unfolding first_bad
+first_bad-end fs bs i h = rw (drop_all i fs h)
 
-allOk-more : (b : Bool) (r : Option ℕ) (n : ℕ) → cond b r (Some n) ≡ None → (b ≡ true) × (r ≡ None)
-allOk-more true r n e = (refl, e)
-allOk-more false r n e = let z : ◌≡◌ {A = ℕ} 0 1 = cc in absurd (omega arith)
+all_ok-more : (b : Bool) (r : Option ℕ) (n : ℕ) → cond b r (Some n) ≡ None → (b ≡ true) × (r ≡ None)
+all_ok-more true r n e = (refl, e)
+all_ok-more false r n e = let z : ◌≡◌ {A = ℕ} 0 1 = cc in absurd (omega arith)
 
-pub allOk : (fs : List Field) (bs : List ℕ) → firstBad fs bs ≡ None → AllOk fs bs
-unfolding firstBad
-allOk [] bs e = tt
-allOk (f ∷ fs) bs e = let p = allOk-more (ok bs f) (firstBad fs bs) (place f) e in (p.0, allOk fs bs p.1)
+pub all_ok : (fs : List Field) (bs : List ℕ) → first_bad fs bs ≡ None → AllOk fs bs
+unfolding first_bad
+all_ok [] bs e = tt
+all_ok (f ∷ fs) bs e = let p = all_ok-more (ok bs f) (first_bad fs bs) (place f) e in (p.0, all_ok fs bs p.1)
 
 -- a refusal of the table is handed on
-pub broken : {M : Type 0} (fs : List Field) (contents : M → List Content) (places : M → List ℕ) (bs : List ℕ) (r : Result M Fault) (e : Fault) → IsErrAnd r (λ y. y ≡ e) → (firstBad fs bs ≡ Some e.offset) × (e.rule ≡ 5) → Body fs contents places bs r
+pub broken : {M : Type 0} (fs : List Field) (contents : M → List Content) (places : M → List ℕ) (bs : List ℕ) (r : Result M Fault) (e : Fault) → IsErrAnd r (λ y. y ≡ e) → (first_bad fs bs ≡ Some e.offset) × (e.rule ≡ 5) → Body fs contents places bs r
 broken fs v p bs (Ok m) e h k = absurd h
 broken fs v p bs (Err y) e h k = rw h k

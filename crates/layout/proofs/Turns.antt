@@ -5,15 +5,15 @@ use Rattle.texts.proofs.Padding.{both_true}
 use Rattle.layout.specs.declared.field.Field.{Field}
 use Rattle.layout.specs.declared.field.Field.TheVariants.{Always, When}
 use Rattle.layout.specs.declared.value.Value.{Value}
-use Rattle.layout.specs.Layout.{Content, place, width, wide, span, within, isWords, words_of, taken}
+use Rattle.layout.specs.Layout.{Content, place, width, wide, span, within, is_words, words_of, taken}
 use Rattle.layout.specs.Layout.Content.{nothing}
-use Rattle.layout.specs.Holding.{HoldsForm, If, Holds, HoldsAll, figureAt, HoldsIn}
+use Rattle.layout.specs.Holding.{HoldsForm, If, Holds, HoldsAll, figure_at, HoldsIn}
 use Rattle.codes.specs.Lists.{listed}
 use Rattle.std.proofs.lemmas.List.{length-map}
 use Rattle.layout.specs.declared.field.Form.{Form}
 use Rattle.layout.specs.declared.field.Form.TheVariants.{Text, Name, Order, Number, Sequence, Int8, Int32, Price, Time, Code, Reserved}
 use Rattle.layout.specs.Values.{meant, Means}
-use Rattle.layout.specs.Writing.{over, overAll, fieldBytes, encode, header, fits, fitsAll}
+use Rattle.layout.specs.Writing.{over, over_all, field_bytes, encode, header, fits, all_fit}
 use Rattle.layout.proofs.Tables.{within-drop}
 
 drop-map : {X Y : Type 0} (g : X → Y) (xs : List X) (i : ℕ) (d : X) → i < length xs → drop i (map g xs) ≡ g (get_or xs i d) ∷ drop (suc i) (map g xs)
@@ -33,15 +33,15 @@ reach fs n i d h e =
     let l = leb-true (span f) n q.0 in
     (omega (arith, ends f), q.1)
 
-pub fits-turn : (fs : List Field) (vs : List Value) (i : ℕ) (d : Field) (e : Value) → i < length fs → i < length vs → fitsAll (drop i fs) (drop i (map meant vs)) ≡ true
-    → (fits (get_or fs i d) (meant (get_or vs i e)) ≡ true) × (fitsAll (drop (i + 1) fs) (drop (i + 1) (map meant vs)) ≡ true)
+pub fits-turn : (fs : List Field) (vs : List Value) (i : ℕ) (d : Field) (e : Value) → i < length fs → i < length vs → all_fit (drop i fs) (drop i (map meant vs)) ≡ true
+    → (fits (get_or fs i d) (meant (get_or vs i e)) ≡ true) × (all_fit (drop (i + 1) fs) (drop (i + 1) (map meant vs)) ≡ true)
 fits-turn fs vs i d e h k p =
-    let p' : fitsAll (get_or fs i d ∷ drop (suc i) fs) (meant (get_or vs i e) ∷ drop (suc i) (map meant vs)) ≡ true = rw (drop-cons fs i d h, drop-map meant vs i e k) at p in
-    let q = both_true (fits (get_or fs i d) (meant (get_or vs i e))) (fitsAll (drop (suc i) fs) (drop (suc i) (map meant vs))) p' in
+    let p' : all_fit (get_or fs i d ∷ drop (suc i) fs) (meant (get_or vs i e) ∷ drop (suc i) (map meant vs)) ≡ true = rw (drop-cons fs i d h, drop-map meant vs i e k) at p in
+    let q = both_true (fits (get_or fs i d) (meant (get_or vs i e))) (all_fit (drop (suc i) fs) (drop (suc i) (map meant vs))) p' in
     (q.0, rw add-one q.1)
 
 pub over-turn : (fs : List Field) (vs : List Value) (b : List ℕ) (i : ℕ) (d : Field) (e : Value) → i < length fs → i < length vs
-    → overAll (drop i fs) (drop i (map meant vs)) b ≡ overAll (drop (i + 1) fs) (drop (i + 1) (map meant vs)) (over b (place (get_or fs i d)) (fieldBytes (get_or fs i d) (meant (get_or vs i e))))
+    → over_all (drop i fs) (drop i (map meant vs)) b ≡ over_all (drop (i + 1) fs) (drop (i + 1) (map meant vs)) (over b (place (get_or fs i d)) (field_bytes (get_or fs i d) (meant (get_or vs i e))))
 over-turn fs vs b i d e h k = rw (add-one, drop-cons fs i d h, drop-map meant vs i e k)
 
 -- values by what they mean
@@ -55,7 +55,7 @@ pub means-long : (vs : List Value) (ws : List Content) → Means vs ws → lengt
 means-long vs ws h = sym (length-map vs meant) ∙ ap length (means_is vs ws h)
 
 -- what can be held fits
-fits-form : (f : Form) (v : Content) → HoldsForm f v → cond (isWords f) (leb (length (words_of v)) (wide f)) true ≡ true
+fits-form : (f : Form) (v : Content) → HoldsForm f v → cond (is_words f) (leb (length (words_of v)) (wide f)) true ≡ true
 fits-form (Text w) v h = le-leb (length (words_of v)) w h.1
 fits-form (Name w) v h = le-leb (length (words_of v)) w h.1
 fits-form Order v h = refl
@@ -68,7 +68,7 @@ fits-form Time v h = refl
 fits-form (Code cs) v h = refl
 fits-form (Reserved w) v h = refl
 
-fits-nothing : (f : Form) → cond (isWords f) (leb (length (words_of nothing)) (wide f)) true ≡ true
+fits-nothing : (f : Form) → cond (is_words f) (leb (length (words_of nothing)) (wide f)) true ≡ true
 fits-nothing (Text w) = le-leb 0 w (omega arith)
 fits-nothing (Name w) = le-leb 0 w (omega arith)
 fits-nothing Order = refl
@@ -81,7 +81,7 @@ fits-nothing Time = refl
 fits-nothing (Code cs) = refl
 fits-nothing (Reserved w) = refl
 
-fits-if : (b : Bool) (f : Form) (v : Content) → If b (HoldsForm f v) (v ≡ nothing) → cond (isWords f) (leb (length (words_of v)) (wide f)) true ≡ true
+fits-if : (b : Bool) (f : Form) (v : Content) → If b (HoldsForm f v) (v ≡ nothing) → cond (is_words f) (leb (length (words_of v)) (wide f)) true ≡ true
 fits-if true f v h = fits-form f v h
 fits-if false f v h = rw h (fits-nothing f)
 
@@ -89,13 +89,13 @@ fits-held : (at : ℕ → ℕ) (f : Field) (v : Content) → Holds at f v → fi
 fits-held at (Always here f) v h = fits-form f v h
 fits-held at (When here f other cs) v h = fits-if (taken (at other) (listed cs)) f v h
 
-pub fits_all : (at : ℕ → ℕ) (fs : List Field) (vs : List Content) → HoldsAll at fs vs → fitsAll fs vs ≡ true
+pub fits_all : (at : ℕ → ℕ) (fs : List Field) (vs : List Content) → HoldsAll at fs vs → all_fit fs vs ≡ true
 fits_all at [] vs h = refl
 fits_all at (f ∷ fs) [] h = refl
 fits_all at (f ∷ fs) (v ∷ vs) h = rw (fits-held at f v h.0) (fits_all at fs vs h.1)
 
-pub fits-means : (fs : List Field) (vs : List Value) (ws : List Content) → Means vs ws → HoldsIn fs ws → fitsAll fs (map meant vs) ≡ true
-fits-means fs vs ws m h = rw (means_is vs ws m) (fits_all (figureAt fs ws) fs ws h)
+pub fits-means : (fs : List Field) (vs : List Value) (ws : List Content) → Means vs ws → HoldsIn fs ws → all_fit fs (map meant vs) ≡ true
+fits-means fs vs ws m h = rw (means_is vs ws m) (fits_all (figure_at fs ws) fs ws h)
 
 pub wrote-means : (letter total : ℕ) (fs : List Field) (vs : List Value) (ws : List Content) (b : List ℕ) {b' : List ℕ} → Means vs ws → b' ≡ header letter total ++ (encode fs (map meant vs) ++ drop total b) → b' ≡ header letter total ++ (encode fs ws ++ drop total b)
 wrote-means letter total fs vs ws b m e = e ∙ ap (λ x. header letter total ++ (encode fs x ++ drop total b)) (means_is vs ws m)

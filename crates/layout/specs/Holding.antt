@@ -2,12 +2,12 @@
 use Rattle.std.specs.Prelude.{◌≡◌, ℕ, ◌^◌, ◌<◌, ◌≤◌, Bool, true, false, cond, List, [], ◌∷◌, length, Some, None, Option, FitsSigned, ◌==◌}
 use Rattle.std.specs.Int.{w8, w32, w64}
 use Rattle.codes.specs.Lists.{listed}
-use Rattle.texts.specs.Bytes.{allPrintable}
+use Rattle.texts.specs.Bytes.{all_printable}
 use Rattle.layout.specs.declared.field.Form.{Form}
 use Rattle.layout.specs.declared.field.Form.TheVariants.{Text, Name, Order, Number, Sequence, Int8, Int32, Price, Time, Code, Reserved}
 use Rattle.layout.specs.declared.field.Field.{Field}
 use Rattle.layout.specs.declared.field.Field.TheVariants.{Always, When}
-use Rattle.layout.specs.Layout.{Content, place, taken, words_of, order_of, figureOf, int8Of, int32Of, priceOf, secondsOf, microsOf}
+use Rattle.layout.specs.Layout.{Content, place, taken, words_of, order_of, figure_of, int8_of, int32_of, price_of, seconds_of, micros_of}
 use Rattle.layout.specs.Layout.Content.{words, order, figure, int8, int32, price, clock, nothing}
 
 abbrev pub Below : Option ℕ → Type 0
@@ -16,16 +16,16 @@ Below (Some n) = n < 18446744073709551616
 
 -- a content that a field of a form can hold
 abbrev pub HoldsForm : Form → Content → Type 0
-HoldsForm (Text w) v = (v ≡ words (words_of v)) × (length (words_of v) ≤ w) × (allPrintable (words_of v) ≡ true)
-HoldsForm (Name w) v = (v ≡ words (words_of v)) × (length (words_of v) ≤ w) × (allPrintable (words_of v) ≡ true) × (0 < length (words_of v))
+HoldsForm (Text w) v = (v ≡ words (words_of v)) × (length (words_of v) ≤ w) × (all_printable (words_of v) ≡ true)
+HoldsForm (Name w) v = (v ≡ words (words_of v)) × (length (words_of v) ≤ w) × (all_printable (words_of v) ≡ true) × (0 < length (words_of v))
 HoldsForm Order v = (v ≡ order (order_of v)) × Below (order_of v)
-HoldsForm (Number w) v = (v ≡ figure (figureOf v)) × (figureOf v < 256 ^ w)
-HoldsForm Sequence v = (v ≡ figure (figureOf v)) × (figureOf v < 2147483648)
-HoldsForm Int8 v = (v ≡ int8 (int8Of v)) × FitsSigned w8 (int8Of v)
-HoldsForm Int32 v = (v ≡ int32 (int32Of v)) × FitsSigned w32 (int32Of v)
-HoldsForm Price v = (v ≡ price (priceOf v)) × FitsSigned w64 (priceOf v)
-HoldsForm Time v = (v ≡ clock (secondsOf v) (microsOf v)) × (secondsOf v < 4294967296) × (microsOf v < 4294967296)
-HoldsForm (Code cs) v = (v ≡ figure (figureOf v)) × (taken (figureOf v) (listed cs) ≡ true)
+HoldsForm (Number w) v = (v ≡ figure (figure_of v)) × (figure_of v < 256 ^ w)
+HoldsForm Sequence v = (v ≡ figure (figure_of v)) × (figure_of v < 2147483648)
+HoldsForm Int8 v = (v ≡ int8 (int8_of v)) × FitsSigned w8 (int8_of v)
+HoldsForm Int32 v = (v ≡ int32 (int32_of v)) × FitsSigned w32 (int32_of v)
+HoldsForm Price v = (v ≡ price (price_of v)) × FitsSigned w64 (price_of v)
+HoldsForm Time v = (v ≡ clock (seconds_of v) (micros_of v)) × (seconds_of v < 4294967296) × (micros_of v < 4294967296)
+HoldsForm (Code cs) v = (v ≡ figure (figure_of v)) × (taken (figure_of v) (listed cs) ≡ true)
 HoldsForm (Reserved w) v = v ≡ nothing
 
 abbrev pub If : Bool → Type 0 → Type 0 → Type 0
@@ -44,10 +44,10 @@ HoldsAll at (f ∷ fs) [] = ⊥
 HoldsAll at (f ∷ fs) (v ∷ vs) = Holds at f v × HoldsAll at fs vs
 
 -- the number that the field at a place holds
-abbrev pub figureAt : List Field → List Content → ℕ → ℕ
-figureAt [] vs n = 0
-figureAt (f ∷ fs) [] n = 0
-figureAt (f ∷ fs) (v ∷ vs) n = cond (place f == n) (figureOf v) (figureAt fs vs n)
+abbrev pub figure_at : List Field → List Content → ℕ → ℕ
+figure_at [] vs n = 0
+figure_at (f ∷ fs) [] n = 0
+figure_at (f ∷ fs) (v ∷ vs) n = cond (place f == n) (figure_of v) (figure_at fs vs n)
 
 abbrev pub HoldsIn : List Field → List Content → Type 0
-HoldsIn fs vs = HoldsAll (figureAt fs vs) fs vs
+HoldsIn fs vs = HoldsAll (figure_at fs vs) fs vs

@@ -6,7 +6,7 @@ use Rattle.std.specs.Int.{w8, w32, w64}
 use Rattle.codes.specs.Member.{member}
 use Rattle.codes.specs.Lists.{listed}
 use Rattle.texts.specs.Bytes as bytes
-use Rattle.texts.specs.Bytes.{le, allNull, said, isText, named}
+use Rattle.texts.specs.Bytes.{le, all_null, said, is_text, named}
 use Rattle.texts.specs.Identifiers.{number_of}
 use Rattle.layout.specs.declared.field.Fault.{Fault}
 use Rattle.layout.specs.declared.field.Form.{Form}
@@ -52,21 +52,21 @@ order_at f = number_of 79 f
 
 -- a field that names an order, or is null
 unfoldable pub is_order : List ℕ → Bool
-is_order f = cond (allNull f) true (is_some (number_of 79 f))
+is_order f = cond (all_null f) true (is_some (number_of 79 f))
 
 -- whether a field's bytes are of its form
-abbrev pub okForm : Form → List ℕ → Bool
-okForm (Text w) f = isText f
-okForm (Name w) f = isText f && named f
-okForm Order f = is_order f
-okForm (Number w) f = true
-okForm Sequence f = nat_lt (le f) 2147483648
-okForm Int8 f = true
-okForm Int32 f = true
-okForm Price f = true
-okForm Time f = true
-okForm (Code cs) f = taken (le f) (listed cs)
-okForm (Reserved w) f = true
+abbrev pub ok_form : Form → List ℕ → Bool
+ok_form (Text w) f = is_text f
+ok_form (Name w) f = is_text f && named f
+ok_form Order f = is_order f
+ok_form (Number w) f = true
+ok_form Sequence f = nat_lt (le f) 2147483648
+ok_form Int8 f = true
+ok_form Int32 f = true
+ok_form Price f = true
+ok_form Time f = true
+ok_form (Code cs) f = taken (le f) (listed cs)
+ok_form (Reserved w) f = true
 
 -- what they then hold
 abbrev pub content : Form → List ℕ → Content
@@ -104,7 +104,7 @@ matters bs (Always at f) = true
 matters bs (When at f other cs) = taken (le (part other 1 bs)) (listed cs)
 
 abbrev pub ok : List ℕ → Field → Bool
-ok bs f = cond (matters bs f) (okForm (form_of f) (part (place f) (width f) bs)) true
+ok bs f = cond (matters bs f) (ok_form (form_of f) (part (place f) (width f) bs)) true
 
 abbrev pub got : List ℕ → Field → Content
 got bs f = cond (matters bs f) (content (form_of f) (part (place f) (width f) bs)) nothing
@@ -114,9 +114,9 @@ within n [] = true
 within n (f ∷ fs) = nat_le (span f) n && within n fs
 
 -- the offset of the first field that is refused
-unfoldable pub firstBad : List Field → List ℕ → Option ℕ
-firstBad [] bs = None
-firstBad (f ∷ fs) bs = cond (ok bs f) (firstBad fs bs) (Some (place f))
+unfoldable pub first_bad : List Field → List ℕ → Option ℕ
+first_bad [] bs = None
+first_bad (f ∷ fs) bs = cond (ok bs f) (first_bad fs bs) (Some (place f))
 
 -- each field is taken
 abbrev pub AllOk : List Field → List ℕ → Type 0
@@ -130,34 +130,34 @@ Says [] (f ∷ fs) bs = ⊥
 Says (v ∷ vs) [] bs = ⊥
 Says (v ∷ vs) (f ∷ fs) bs = (v ≡ got bs f) × Says vs fs bs
 
-abbrev pub isWords : Form → Bool
-isWords (Text w) = true
-isWords (Name w) = true
-isWords Order = false
-isWords (Number w) = false
-isWords Sequence = false
-isWords Int8 = false
-isWords Int32 = false
-isWords Price = false
-isWords Time = false
-isWords (Code cs) = false
-isWords (Reserved w) = false
+abbrev pub is_words : Form → Bool
+is_words (Text w) = true
+is_words (Name w) = true
+is_words Order = false
+is_words (Number w) = false
+is_words Sequence = false
+is_words Int8 = false
+is_words Int32 = false
+is_words Price = false
+is_words Time = false
+is_words (Code cs) = false
+is_words (Reserved w) = false
 
 -- where the texts of a message stand
-abbrev pub textPlaces : List Field → List ℕ → List ℕ
-textPlaces [] bs = []
-textPlaces (f ∷ fs) bs = cond (isWords (form_of f) && matters bs f) (place f ∷ textPlaces fs bs) (textPlaces fs bs)
+abbrev pub text_places : List Field → List ℕ → List ℕ
+text_places [] bs = []
+text_places (f ∷ fs) bs = cond (is_words (form_of f) && matters bs f) (place f ∷ text_places fs bs) (text_places fs bs)
 
 -- a table was gone through
 abbrev pub Checked : List Field → List ℕ → {X : Type 0} → Result X Fault → Type 0
 Checked fs bs r =
-    MatchResult r (λ _. (firstBad fs bs ≡ None) × AllOk fs bs) (λ e. (firstBad fs bs ≡ Some e.offset) × (e.rule ≡ 5))
+    MatchResult r (λ _. (first_bad fs bs ≡ None) × AllOk fs bs) (λ e. (first_bad fs bs ≡ Some e.offset) × (e.rule ≡ 5))
 
 -- a message's fields were read: all of them, or the first refusal
 abbrev pub Body : {M : Type 0} → List Field → (M → List Content) → (M → List ℕ) → List ℕ → Result M Fault → Type 0
 Body fs contents places bs r =
-    MatchResult r (λ m. (firstBad fs bs ≡ None) × Says (contents m) fs bs × (places m ≡ textPlaces fs bs))
-    (λ e. (firstBad fs bs ≡ Some e.offset) × (e.rule ≡ 5))
+    MatchResult r (λ m. (first_bad fs bs ≡ None) × Says (contents m) fs bs × (places m ≡ text_places fs bs))
+    (λ e. (first_bad fs bs ≡ Some e.offset) × (e.rule ≡ 5))
 
 -- a content as what a form asks for
 abbrev pub words_of : Content → List ℕ
@@ -180,65 +180,65 @@ order_of (price z) = None
 order_of (clock s u) = None
 order_of nothing = None
 
-abbrev pub figureOf : Content → ℕ
-figureOf (words t) = 0
-figureOf (order o) = 0
-figureOf (figure n) = n
-figureOf (int8 z) = 0
-figureOf (int32 z) = 0
-figureOf (price z) = 0
-figureOf (clock s u) = 0
-figureOf nothing = 0
+abbrev pub figure_of : Content → ℕ
+figure_of (words t) = 0
+figure_of (order o) = 0
+figure_of (figure n) = n
+figure_of (int8 z) = 0
+figure_of (int32 z) = 0
+figure_of (price z) = 0
+figure_of (clock s u) = 0
+figure_of nothing = 0
 
-abbrev pub int8Of : Content → ℤ
-int8Of (words t) = pos 0
-int8Of (order o) = pos 0
-int8Of (figure n) = pos 0
-int8Of (int8 z) = z
-int8Of (int32 z) = pos 0
-int8Of (price z) = pos 0
-int8Of (clock s u) = pos 0
-int8Of nothing = pos 0
+abbrev pub int8_of : Content → ℤ
+int8_of (words t) = pos 0
+int8_of (order o) = pos 0
+int8_of (figure n) = pos 0
+int8_of (int8 z) = z
+int8_of (int32 z) = pos 0
+int8_of (price z) = pos 0
+int8_of (clock s u) = pos 0
+int8_of nothing = pos 0
 
-abbrev pub int32Of : Content → ℤ
-int32Of (words t) = pos 0
-int32Of (order o) = pos 0
-int32Of (figure n) = pos 0
-int32Of (int8 z) = pos 0
-int32Of (int32 z) = z
-int32Of (price z) = pos 0
-int32Of (clock s u) = pos 0
-int32Of nothing = pos 0
+abbrev pub int32_of : Content → ℤ
+int32_of (words t) = pos 0
+int32_of (order o) = pos 0
+int32_of (figure n) = pos 0
+int32_of (int8 z) = pos 0
+int32_of (int32 z) = z
+int32_of (price z) = pos 0
+int32_of (clock s u) = pos 0
+int32_of nothing = pos 0
 
-abbrev pub priceOf : Content → ℤ
-priceOf (words t) = pos 0
-priceOf (order o) = pos 0
-priceOf (figure n) = pos 0
-priceOf (int8 z) = pos 0
-priceOf (int32 z) = pos 0
-priceOf (price z) = z
-priceOf (clock s u) = pos 0
-priceOf nothing = pos 0
+abbrev pub price_of : Content → ℤ
+price_of (words t) = pos 0
+price_of (order o) = pos 0
+price_of (figure n) = pos 0
+price_of (int8 z) = pos 0
+price_of (int32 z) = pos 0
+price_of (price z) = z
+price_of (clock s u) = pos 0
+price_of nothing = pos 0
 
-abbrev pub secondsOf : Content → ℕ
-secondsOf (words t) = 0
-secondsOf (order o) = 0
-secondsOf (figure n) = 0
-secondsOf (int8 z) = 0
-secondsOf (int32 z) = 0
-secondsOf (price z) = 0
-secondsOf (clock s u) = s
-secondsOf nothing = 0
+abbrev pub seconds_of : Content → ℕ
+seconds_of (words t) = 0
+seconds_of (order o) = 0
+seconds_of (figure n) = 0
+seconds_of (int8 z) = 0
+seconds_of (int32 z) = 0
+seconds_of (price z) = 0
+seconds_of (clock s u) = s
+seconds_of nothing = 0
 
-abbrev pub microsOf : Content → ℕ
-microsOf (words t) = 0
-microsOf (order o) = 0
-microsOf (figure n) = 0
-microsOf (int8 z) = 0
-microsOf (int32 z) = 0
-microsOf (price z) = 0
-microsOf (clock s u) = u
-microsOf nothing = 0
+abbrev pub micros_of : Content → ℕ
+micros_of (words t) = 0
+micros_of (order o) = 0
+micros_of (figure n) = 0
+micros_of (int8 z) = 0
+micros_of (int32 z) = 0
+micros_of (price z) = 0
+micros_of (clock s u) = u
+micros_of nothing = 0
 
 abbrev pub absent : Content → Bool
 absent (words t) = false

@@ -2,63 +2,63 @@
 use Rattle.std.specs.Prelude.{◌&&◌, ◌≡◌, ℕ, ◌+◌, ◌-◌, Bool, true, cond, List, [], ◌∷◌, ◌++◌, length, take, drop, replicate, Some, None, Option, ◌==◌, nat_le}
 use Rattle.std.proofs.Common.{of_z}
 use Rattle.std.specs.Int.{w8, w32, w64}
-use Rattle.texts.specs.Bytes.{toLe, padded}
-use Rattle.texts.specs.Identifiers.{orderId}
+use Rattle.texts.specs.Bytes.{to_le, padded}
+use Rattle.texts.specs.Identifiers.{order_id_text}
 use Rattle.layout.specs.declared.field.Form.{Form}
 use Rattle.layout.specs.declared.field.Form.TheVariants.{Text, Name, Order, Number, Sequence, Int8, Int32, Price, Time, Code, Reserved}
 use Rattle.layout.specs.declared.field.Field.{Field}
-use Rattle.layout.specs.Layout.{Content, place, width, form_of, isWords, words_of, order_of, figureOf, int8Of, int32Of, priceOf, secondsOf, microsOf, absent}
+use Rattle.layout.specs.Layout.{Content, place, width, form_of, is_words, words_of, order_of, figure_of, int8_of, int32_of, price_of, seconds_of, micros_of, absent}
 
 -- an order's identifier, or nulls
-abbrev pub orderBytes : Option ℕ → List ℕ
-orderBytes None = replicate 12 0
-orderBytes (Some n) = orderId n
+abbrev pub order_bytes : Option ℕ → List ℕ
+order_bytes None = replicate 12 0
+order_bytes (Some n) = order_id_text n
 
 -- a form's bytes
 abbrev pub bytes_of : Form → Content → List ℕ
 bytes_of (Text w) v = padded w (words_of v)
 bytes_of (Name w) v = padded w (words_of v)
-bytes_of Order v = orderBytes (order_of v)
-bytes_of (Number w) v = toLe w (figureOf v)
-bytes_of Sequence v = toLe 4 (figureOf v)
-bytes_of Int8 v = toLe 1 (of_z w8 (int8Of v))
-bytes_of Int32 v = toLe 4 (of_z w32 (int32Of v))
-bytes_of Price v = toLe 8 (of_z w64 (priceOf v))
-bytes_of Time v = toLe 4 (secondsOf v) ++ toLe 4 (microsOf v)
-bytes_of (Code cs) v = toLe 1 (figureOf v)
+bytes_of Order v = order_bytes (order_of v)
+bytes_of (Number w) v = to_le w (figure_of v)
+bytes_of Sequence v = to_le 4 (figure_of v)
+bytes_of Int8 v = to_le 1 (of_z w8 (int8_of v))
+bytes_of Int32 v = to_le 4 (of_z w32 (int32_of v))
+bytes_of Price v = to_le 8 (of_z w64 (price_of v))
+bytes_of Time v = to_le 4 (seconds_of v) ++ to_le 4 (micros_of v)
+bytes_of (Code cs) v = to_le 1 (figure_of v)
 bytes_of (Reserved w) v = replicate w 0
 
 -- a field's bytes: nulls where it holds nothing
-unfoldable pub fieldBytes : Field → Content → List ℕ
-fieldBytes f v = cond (absent v) (replicate (width f) 0) (bytes_of (form_of f) v)
+unfoldable pub field_bytes : Field → Content → List ℕ
+field_bytes f v = cond (absent v) (replicate (width f) 0) (bytes_of (form_of f) v)
 
 -- the bytes of all fields, in their order
 unfoldable pub encode : List Field → List Content → List ℕ
 encode [] vs = []
 encode (f ∷ fs) [] = []
-encode (f ∷ fs) (v ∷ vs) = fieldBytes f v ++ encode fs vs
+encode (f ∷ fs) (v ∷ vs) = field_bytes f v ++ encode fs vs
 
 -- a message begins with the start byte, its length from the type on, and the type
 abbrev pub header : ℕ → ℕ → List ℕ
-header letter total = 2 ∷ toLe 2 (total - 3) ++ (letter ∷ [])
+header letter total = 2 ∷ to_le 2 (total - 3) ++ (letter ∷ [])
 
 -- the texts are no longer than their fields
 abbrev pub fits : Field → Content → Bool
-fits f v = cond (isWords (form_of f)) (nat_le (length (words_of v)) (width f)) true
+fits f v = cond (is_words (form_of f)) (nat_le (length (words_of v)) (width f)) true
 
-abbrev pub fitsAll : List Field → List Content → Bool
-fitsAll [] vs = true
-fitsAll (f ∷ fs) [] = true
-fitsAll (f ∷ fs) (v ∷ vs) = fits f v && fitsAll fs vs
+abbrev pub all_fit : List Field → List Content → Bool
+all_fit [] vs = true
+all_fit (f ∷ fs) [] = true
+all_fit (f ∷ fs) (v ∷ vs) = fits f v && all_fit fs vs
 
 -- what a buffer holds once bytes are written at a place
 unfoldable pub over : List ℕ → ℕ → List ℕ → List ℕ
 over b at s = (take at b ++ s) ++ drop (at + length s) b
 
-abbrev pub overAll : List Field → List Content → List ℕ → List ℕ
-overAll [] vs b = b
-overAll (f ∷ fs) [] b = b
-overAll (f ∷ fs) (v ∷ vs) b = overAll fs vs (over b (place f) (fieldBytes f v))
+abbrev pub over_all : List Field → List Content → List ℕ → List ℕ
+over_all [] vs b = b
+over_all (f ∷ fs) [] b = b
+over_all (f ∷ fs) (v ∷ vs) b = over_all fs vs (over b (place f) (field_bytes f v))
 
 -- a buffer once a message is written at its front: all past the message is as it was
 abbrev pub Wrote : ℕ → ℕ → List Field → List Content → List ℕ → List ℕ → Type 0

@@ -1,6 +1,6 @@
 // The check of bytes against a message's layout.
 ghost use Rattle.std.specs.Prelude.{◌≡◌, ℕ, ◌+◌, ◌≤◌, true, length};
-ghost use Rattle.layout.specs.Layout.{okForm, ok, wide, within, place, form_of, span, Checked, part};
+ghost use Rattle.layout.specs.Layout.{ok_form, ok, wide, within, place, form_of, span, Checked, part};
 
 use crate::field::{Fault, Field, Form};
 use crate::reader::Reader;
@@ -22,7 +22,7 @@ impl Form {
     // Whether the bytes at a place are of this form.
     fn good(self, at: usize, r: &Reader<'_>) -> bool
         requires { at + wide self ≤ length r.now.src.now }
-        ensures { result ≡ okForm self (part at (wide self) r.now.src.now) }
+        ensures { result ≡ ok_form self (part at (wide self) r.now.src.now) }
     {
         match self {
             Form::Text(width) => r.is_text(at, width),

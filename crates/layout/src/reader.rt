@@ -3,7 +3,7 @@ ghost use Rattle.std.specs.Prelude.{◌≡◌, ℕ, ◌+◌, ◌≤◌, true, le
 ghost use Rattle.std.proofs.Common.{to_z, of_z};
 ghost use Rattle.std.specs.Int.{w8, w32, w64};
 ghost use Rattle.std.specs.Option.{option_map};
-ghost use Rattle.texts.specs.Bytes.{part, le, allNull, said, isText, named};
+ghost use Rattle.texts.specs.Bytes.{part, le, all_null, said, is_text, named};
 ghost use Rattle.layout.specs.Layout.{taken, is_order, order_at};
 
 use codes::code::Code;
@@ -18,7 +18,7 @@ pub struct Reader<'a> {
 }
 
 fn all_null(field: &[u8]) -> bool
-    ensures { result ≡ allNull field.now }
+    ensures { result ≡ all_null field.now }
 {
     field.iter().all(|b| *b == 0)
 }
@@ -104,7 +104,7 @@ impl<'a> Reader<'a> {
     // Whether a field holds text: printable bytes, and then nothing but nulls.
     pub(crate) fn is_text(&self, at: usize, width: usize) -> bool
         requires { at + width ≤ length self.now.src.now }
-        ensures { result ≡ isText (part at width self.now.src.now) }
+        ensures { result ≡ is_text (part at width self.now.src.now) }
     {
         let src = self.src;
         let field = &src[at..at + width];

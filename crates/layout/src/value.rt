@@ -5,7 +5,7 @@ ghost use Rattle.std.specs.Option.{option_map};
 ghost use Rattle.layout.specs.Layout.Content.{order, figure, price, clock};
 ghost use Rattle.layout.specs.Holding.{Below};
 ghost use Rattle.layout.specs.Values.{meant};
-ghost use Rattle.layout.specs.Layout.{words_of, order_of, figureOf, int8Of, int32Of, priceOf, secondsOf, microsOf, absent};
+ghost use Rattle.layout.specs.Layout.{words_of, order_of, figure_of, int8_of, int32_of, price_of, seconds_of, micros_of, absent};
 
 use texts::identifiers::OrderId;
 use texts::values::{Price, Time};
@@ -83,7 +83,7 @@ impl<'a> Value<'a> {
     }
 
     pub(crate) fn figure(&self) -> u64
-        ensures { result ≡ figureOf (meant self.now) }
+        ensures { result ≡ figure_of (meant self.now) }
     {
         match *self {
             Value::Number(n) => n,
@@ -93,7 +93,7 @@ impl<'a> Value<'a> {
     }
 
     pub(crate) fn int8(&self) -> i8
-        ensures { result ≡ int8Of (meant self.now) }
+        ensures { result ≡ int8_of (meant self.now) }
     {
         match *self {
             Value::Int8(n) => n,
@@ -102,7 +102,7 @@ impl<'a> Value<'a> {
     }
 
     pub(crate) fn int32(&self) -> i32
-        ensures { result ≡ int32Of (meant self.now) }
+        ensures { result ≡ int32_of (meant self.now) }
     {
         match *self {
             Value::Int32(n) => n,
@@ -111,7 +111,7 @@ impl<'a> Value<'a> {
     }
 
     pub(crate) fn price(&self) -> i64
-        ensures { result ≡ priceOf (meant self.now) }
+        ensures { result ≡ price_of (meant self.now) }
     {
         match *self {
             Value::Price(price) => price.raw,
@@ -120,8 +120,8 @@ impl<'a> Value<'a> {
     }
 
     pub(crate) fn time(&self) -> Time
-        ensures seconds { result.seconds ≡ secondsOf (meant self.now) }
-        ensures micros { result.microseconds ≡ microsOf (meant self.now) }
+        ensures seconds { result.seconds ≡ seconds_of (meant self.now) }
+        ensures micros { result.microseconds ≡ micros_of (meant self.now) }
     {
         match *self {
             Value::Time(time) => time,

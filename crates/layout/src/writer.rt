@@ -1,10 +1,10 @@
 // A message's fields, written at their places.
 ghost use Rattle.std.specs.Prelude.{◌≡◌, ℕ, ◌+◌, ◌-◌, ◌^◌, ◌<◌, ◌≤◌, true, List, [], ◌∷◌, ◌++◌, map, length, replicate};
 ghost use Rattle.std.specs.Option.{option_map};
-ghost use Rattle.texts.specs.Bytes.{toLe, padded};
+ghost use Rattle.texts.specs.Bytes.{to_le, padded};
 ghost use Rattle.layout.specs.Layout.{place, width, wide, within};
 ghost use Rattle.layout.specs.Values.{meant};
-ghost use Rattle.layout.specs.Writing.{over, overAll, orderBytes, bytes_of, fieldBytes, fits, fitsAll, header, tiled, Wrote};
+ghost use Rattle.layout.specs.Writing.{over, over_all, order_bytes, bytes_of, field_bytes, fits, all_fit, header, tiled, Wrote};
 
 use crate::field::{Field, Form};
 use crate::value::Value;
@@ -40,7 +40,7 @@ fn put_text(out: &mut [u8], at: usize, width: usize, text: &[u8])
 // The lowest bytes of a number, the lowest first.
 fn put_number(out: &mut [u8], at: usize, width: usize, number: u64)
     requires { at + width ≤ length out.old }
-    ensures { out.new ≡ over out.old at (toLe width number) }
+    ensures { out.new ≡ over out.old at (to_le width number) }
 {
     let mut n = number;
     for i in 0..width {
@@ -51,7 +51,7 @@ fn put_number(out: &mut [u8], at: usize, width: usize, number: u64)
 
 fn put_order(out: &mut [u8], at: usize, order: Option<OrderId>)
     requires { at + 12 ≤ length out.old }
-    ensures { out.new ≡ over out.old at (orderBytes (option_map (λ i. i.number) order)) }
+    ensures { out.new ≡ over out.old at (order_bytes (option_map (λ i. i.number) order)) }
 {
     match order {
         None => put_blank(out, at, 12),
@@ -89,7 +89,7 @@ fn put_form(out: &mut [u8], at: usize, form: Form, value: &Value<'_>)
 fn put_field(out: &mut [u8], field: Field, value: &Value<'_>)
     requires room { place field + width field ≤ length out.old }
     requires fitting { fits field (meant value.now) ≡ true }
-    ensures { out.new ≡ over out.old (place field) (fieldBytes field (meant value.now)) }
+    ensures { out.new ≡ over out.old (place field) (field_bytes field (meant value.now)) }
 {
     let at = field.at();
     let form = field.form();
@@ -114,7 +114,7 @@ pub fn put_header(out: &mut [u8], letter: u8, total: u16)
 pub fn write_fields(out: &mut [u8], letter: u8, total: u16, fields: &[Field], values: &[Value<'_>])
     requires room { (total ≤ length out.old) × (4 ≤ total) }
     requires table { (within total fields.now ≡ true) × (tiled 4 total fields.now ≡ true) }
-    requires each { (length values.now ≡ length fields.now) × (fitsAll fields.now (map meant values.now) ≡ true) }
+    requires each { (length values.now ≡ length fields.now) × (all_fit fields.now (map meant values.now) ≡ true) }
     ensures { Wrote letter total fields.now (map meant values.now) out.old out.new }
 {
     put_header(out, letter, total);

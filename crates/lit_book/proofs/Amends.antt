@@ -10,30 +10,30 @@ use Rattle.matching.specs.declared.matcher.Held.{Held}
 use Rattle.matching.proofs.Looks.{passes}
 use Rattle.lit_book.specs.declared.order.Order.{Order}
 use Rattle.lit_book.specs.Orders.{repriced, sized}
-use Rattle.lit_book.specs.Lists.{FoundOrder, order-held, order-in, order-number}
-use Rattle.lit_book.specs.Rules.{Lit, altered, amended, entered, goes_back, order-under}
+use Rattle.lit_book.specs.Lists.{FoundOrder, order_held, order_in, order_number}
+use Rattle.lit_book.specs.Rules.{Lit, altered, amended, entered, goes_back, order_under}
 
 -- the order that is found at a place, as a whole
-pub in-at : (xs : List Order) (i n : ℕ) (y : Order) → FoundOrder xs n (Some i) → y ≡ get_or xs i y → order-in xs n ≡ Some y
+pub in-at : (xs : List Order) (i n : ℕ) (y : Order) → FoundOrder xs n (Some i) → y ≡ get_or xs i y → order_in xs n ≡ Some y
 in-at [] i n y f read = absurd (let l = f.0 in let z : ⊥ = omega arith in z)
 in-at (x ∷ xs) zero n y f read = cond-true (eqb n x.number) _ _ (eq-eqb n x.number (sym (f.2 x))) ∙ ap Some (sym read)
 in-at (x ∷ xs) (suc i) n y f read =
-    let p = passes order-number order-held (eqb n x.number) (order-held x) (look order-number order-held (take i xs) n) f.1 in
+    let p = passes order_number order_held (eqb n x.number) (order_held x) (look order_number order_held (take i xs) n) f.1 in
     cond-false (eqb n x.number) _ _ p.0 ∙ in-at xs i n y (omega arith, p.1, f.2) read
 
-pub under_at : (xs : List Order) (k i n : ℕ) (y : Order) → FoundOrder xs n (Some i) → y ≡ get_or xs i y → order-under (record { resting = take k xs; waiting = drop k xs }) n ≡ Some y
-under_at xs k i n y f read = ap (λ (l : List Order). order-in l n) (take-append-drop k xs) ∙ in-at xs i n y f read
+pub under_at : (xs : List Order) (k i n : ℕ) (y : Order) → FoundOrder xs n (Some i) → y ≡ get_or xs i y → order_under (record { resting = take k xs; waiting = drop k xs }) n ≡ Some y
+under_at xs k i n y f read = ap (λ (l : List Order). order_in l n) (take-append-drop k xs) ∙ in-at xs i n y f read
 
 -- it goes to the back, or keeps its place
-pub amended-back : (b b' b'' : Lit) (o x : Order) (n q : ℕ) (p : ℤ) → order-under b n ≡ Some o → o.number ≡ n → goes_back o q p ≡ true → x ≡ repriced (sized o q) p
-    → b' ≡ altered b n None → b'' ≡ entered b' x → b'' ≡ amended b (order-under b n) q p
+pub amended-back : (b b' b'' : Lit) (o x : Order) (n q : ℕ) (p : ℤ) → order_under b n ≡ Some o → o.number ≡ n → goes_back o q p ≡ true → x ≡ repriced (sized o q) p
+    → b' ≡ altered b n None → b'' ≡ entered b' x → b'' ≡ amended b (order_under b n) q p
 amended-back b b' b'' o x n q p u e g r f h =
     h
     ∙ ap (λ (y : Lit). entered y x) (f ∙ ap (λ (m : ℕ). altered b m None) (sym e))
     ∙ ap (entered (altered b o.number None)) r
     ∙ sym (ap (λ (w : Option Order). amended b w q p) u ∙ cond-true (goes_back o q p) _ _ g)
 
-pub amended-stays : (b b' : Lit) (o : Order) (n q : ℕ) (p : ℤ) → order-under b n ≡ Some o → o.number ≡ n → goes_back o q p ≡ false → b' ≡ altered b n (Some q) → b' ≡ amended b (order-under b n) q p
+pub amended-stays : (b b' : Lit) (o : Order) (n q : ℕ) (p : ℤ) → order_under b n ≡ Some o → o.number ≡ n → goes_back o q p ≡ false → b' ≡ altered b n (Some q) → b' ≡ amended b (order_under b n) q p
 amended-stays b b' o n q p u e g f =
     f
     ∙ ap (λ (m : ℕ). altered b m (Some q)) (sym e)

@@ -7,7 +7,7 @@ use Rattle.matching.specs.declared.terms.Side.{Side}
 use Rattle.matching.specs.declared.terms.Side.TheVariants.{Buy, Sell}
 use Rattle.lit_book.specs.declared.order.Order.{Order}
 use Rattle.lit_book.specs.Orders.{better, crosses, price}
-use Rattle.lit_book.specs.Lists.{best, best-from, chosen, improves}
+use Rattle.lit_book.specs.Lists.{best, best_from, chosen, improves}
 use Rattle.lit_book.proofs.Settles.{Misses}
 
 -- every order of the list that a crosses is priced worse than o
@@ -100,10 +100,10 @@ sofar-more a x xs (Some o) false e m =
     second true d t h = h
     second false d t h = absurd (both_ways false refl t)
 
-sofar-all : (a : Order) (xs ys : List Order) (r : Option Order) → Sofar a xs r → Sofar a (xs ++ ys) (best-from a r ys)
+sofar-all : (a : Order) (xs ys : List Order) (r : Option Order) → Sofar a xs r → Sofar a (xs ++ ys) (best_from a r ys)
 sofar-all a xs [] r s = subst (λ (l : List Order). Sofar a l r) (sym (append-nil xs)) s
 sofar-all a xs (y ∷ ys) r s =
-    subst (λ (l : List Order). Sofar a l (best-from a (chosen a y r) ys)) (append_assoc xs (y ∷ []) ys)
+    subst (λ (l : List Order). Sofar a l (best_from a (chosen a y r) ys)) (append_assoc xs (y ∷ []) ys)
     (sofar-all a (xs ++ y ∷ []) ys (chosen a y r) (sofar-more a y xs r (crosses a y && improves a y r) refl s))
 
 pub best-some : (a o : Order) (xs : List Order) → best a xs ≡ Some o → Best a o xs

@@ -8,15 +8,15 @@ use Rattle.matching.proofs.Looks.{passes}
 use Rattle.matching.specs.declared.matcher.Held.{Held}
 use Rattle.lit_book.specs.declared.order.Order.{Order}
 use Rattle.lit_book.specs.Orders.{sized}
-use Rattle.lit_book.specs.Lists.{FoundOrder, changed, order-held, order-number, remains}
+use Rattle.lit_book.specs.Lists.{FoundOrder, changed, order_held, order_number, remains}
 
 abbrev at : List Order → ℕ → Option Held
-at os n = look order-number order-held os n
+at os n = look order_number order_held os n
 
 -- one order further
 past : (x : Order) (xs : List Order) (i n : ℕ) → FoundOrder (x ∷ xs) n (Some (suc i)) → (eqb n x.number ≡ false) × FoundOrder xs n (Some i)
 past x xs i n (l, k, is) =
-    let p = passes order-number order-held (eqb n x.number) (order-held x) (at (take i xs) n) k in
+    let p = passes order_number order_held (eqb n x.number) (order_held x) (at (take i xs) n) k in
     (p.0, (omega arith, p.1, is))
 
 here : (x : Order) (xs : List Order) (n : ℕ) → FoundOrder (x ∷ xs) n (Some zero) → eqb n x.number ≡ true
@@ -25,7 +25,7 @@ here x xs n (l, k, is) = eq-eqb n x.number (sym (is x))
 pub absent : (n : ℕ) (w : Option ℕ) (xs : List Order) → at xs n ≡ None → changed n w xs ≡ xs
 absent n w [] h = refl
 absent n w (x ∷ xs) h =
-    let p = passes order-number order-held (eqb n x.number) (order-held x) (at xs n) h in
+    let p = passes order_number order_held (eqb n x.number) (order_held x) (at xs n) h in
     cond-false (eqb n x.number) _ _ p.0 ∙ ap (λ (l : List Order). x ∷ l) (absent n w xs p.1)
 
 -- by its place
@@ -71,10 +71,10 @@ behind w (x ∷ xs) (suc i) (suc k) n f le =
 drop-absent : (xs : List Order) (k n : ℕ) → at xs n ≡ None → at (drop k xs) n ≡ None
 drop-absent xs zero n h = h
 drop-absent [] (suc k) n h = refl
-drop-absent (x ∷ xs) (suc k) n h = drop-absent xs k n (passes order-number order-held (eqb n x.number) (order-held x) (at xs n) h).1
+drop-absent (x ∷ xs) (suc k) n h = drop-absent xs k n (passes order_number order_held (eqb n x.number) (order_held x) (at xs n) h).1
 
 -- numbers are apart, so the other part has no such order
-pub rest-absent : (xs : List Order) (i k n : ℕ) → Distinct order-number order-held xs → FoundOrder xs n (Some i) → i < k → at (drop k xs) n ≡ None
+pub rest-absent : (xs : List Order) (i k n : ℕ) → Distinct order_number order_held xs → FoundOrder xs n (Some i) → i < k → at (drop k xs) n ≡ None
 rest-absent [] i k n u f lt = absurd (let l = f.0 in let z : ⊥ = omega arith in z)
 rest-absent (x ∷ xs) i zero n u f lt = absurd (let z : ⊥ = omega arith in z)
 rest-absent (x ∷ xs) zero (suc k) n u f lt = drop-absent xs k n (ap (at xs) (sym (f.2 x)) ∙ u.0)
@@ -109,25 +109,25 @@ as_long n q (x ∷ xs) = go (eqb n x.number) (as_long n q xs)
     go false h = ap suc h
 
 -- the numbers of the orders
-pub same_numbers : (n q : ℕ) (xs : List Order) → map order-number (changed n (Some q) xs) ≡ map order-number xs
+pub same_numbers : (n q : ℕ) (xs : List Order) → map order_number (changed n (Some q) xs) ≡ map order_number xs
 same_numbers n q [] = refl
 same_numbers n q (x ∷ xs) = go (eqb n x.number) (same_numbers n q xs)
   where
-    go : (b : Bool) → map order-number (changed n (Some q) xs) ≡ map order-number xs → map order-number (cond b (remains x (Some q) ++ xs) (x ∷ changed n (Some q) xs)) ≡ map order-number (x ∷ xs)
+    go : (b : Bool) → map order_number (changed n (Some q) xs) ≡ map order_number xs → map order_number (cond b (remains x (Some q) ++ xs) (x ∷ changed n (Some q) xs)) ≡ map order_number (x ∷ xs)
     go true h = refl
     go false h = ap (λ (l : List ℕ). x.number ∷ l) h
 
-one_less : (xs : List Order) (i n : ℕ) → FoundOrder xs n (Some i) → remove (map order-number xs) i ≡ map order-number (changed n None xs)
+one_less : (xs : List Order) (i n : ℕ) → FoundOrder xs n (Some i) → remove (map order_number xs) i ≡ map order_number (changed n None xs)
 one_less [] i n f = absurd (let l = f.0 in let z : ⊥ = omega arith in z)
-one_less (x ∷ xs) zero n f = sym (ap (map order-number) (cond-true (eqb n x.number) xs (x ∷ changed n None xs) (here x xs n f)))
+one_less (x ∷ xs) zero n f = sym (ap (map order_number) (cond-true (eqb n x.number) xs (x ∷ changed n None xs) (here x xs n f)))
 one_less (x ∷ xs) (suc i) n f =
     let p = past x xs i n f in
     ap (λ (l : List ℕ). x.number ∷ l) (one_less xs i n p.1)
-    ∙ sym (ap (map order-number) (cond-false (eqb n x.number) xs (x ∷ changed n None xs) p.0))
+    ∙ sym (ap (map order_number) (cond-false (eqb n x.number) xs (x ∷ changed n None xs) p.0))
 
-pub fewer-numbers : (xs : List Order) (i k n : ℕ) → FoundOrder xs n (Some i) → k ≤ i → remove (map order-number (drop k xs)) (i - k) ≡ map order-number (changed n None (drop k xs))
-fewer-numbers xs i zero n f le = ap (remove (map order-number xs)) (omega arith) ∙ one_less xs i n f
+pub fewer-numbers : (xs : List Order) (i k n : ℕ) → FoundOrder xs n (Some i) → k ≤ i → remove (map order_number (drop k xs)) (i - k) ≡ map order_number (changed n None (drop k xs))
+fewer-numbers xs i zero n f le = ap (remove (map order_number xs)) (omega arith) ∙ one_less xs i n f
 fewer-numbers [] i (suc k) n f le = absurd (let l = f.0 in let z : ⊥ = omega arith in z)
 fewer-numbers (x ∷ xs) zero (suc k) n f le = absurd (let z : ⊥ = omega arith in z)
 fewer-numbers (x ∷ xs) (suc i) (suc k) n f le =
-    ap (remove (map order-number (drop k xs))) (omega arith) ∙ fewer-numbers xs i k n (past x xs i n f).1 (omega arith)
+    ap (remove (map order_number (drop k xs))) (omega arith) ∙ fewer-numbers xs i k n (past x xs i n f).1 (omega arith)

@@ -7,15 +7,15 @@ use Rattle.matching.specs.Look.{look}
 use Rattle.matching.specs.declared.matcher.Event.{Event}
 use Rattle.matching.specs.declared.matcher.Event.TheVariants.{Nothing}
 use Rattle.lit_book.specs.declared.order.Order.{Order}
-use Rattle.lit_book.specs.Laws.{Enough, Idle, after-events, open-orders}
-use Rattle.lit_book.specs.Lists.{best, changed, order-held, order-number, remains}
-use Rattle.lit_book.specs.Rules.{Lit, altered, left-of, next, size_of, traded}
+use Rattle.lit_book.specs.Laws.{Enough, Idle, after_events, open_orders}
+use Rattle.lit_book.specs.Lists.{best, changed, order_held, order_number, remains}
+use Rattle.lit_book.specs.Rules.{Lit, altered, left_of, next, size_of, traded}
 use Rattle.lit_book.proofs.Bests.{best-some}
 use Rattle.lit_book.proofs.Nexts.{next-idle}
 use Rattle.lit_book.proofs.Stops.{Ends, stop}
 
 abbrev known : List Order → ℕ → Bool
-known xs n = is_some (look order-number order-held xs n)
+known xs n = is_some (look order_number order_held xs n)
 
 no_more : (n : ℕ) (w : Option ℕ) (xs : List Order) → length (changed n w xs) ≤ length xs
 no_more n w [] = omega arith
@@ -30,7 +30,7 @@ one_less : (n : ℕ) (xs : List Order) → known xs n ≡ true → length (chang
 one_less n [] h = absurd (both_ways false refl h)
 one_less n (x ∷ xs) h = go (eqb n x.number) h (one_less n xs)
   where
-    go : (b : Bool) → is_some (cond b (Some (order-held x)) (look order-number order-held xs n)) ≡ true → (known xs n ≡ true → length (changed n None xs) + 1 ≡ length xs)
+    go : (b : Bool) → is_some (cond b (Some (order_held x)) (look order_number order_held xs n)) ≡ true → (known xs n ≡ true → length (changed n None xs) + 1 ≡ length xs)
         → length (cond b (remains x None ++ xs) (x ∷ changed n None xs)) + 1 ≡ length (x ∷ xs)
     go true h ih = omega arith
     go false h ih = let e = ih h in omega arith
@@ -39,74 +39,74 @@ still-known : (m n q : ℕ) (xs : List Order) → known (changed m (Some q) xs) 
 still-known m n q [] = refl
 still-known m n q (x ∷ xs) = go (eqb m x.number) (still-known m n q xs)
   where
-    more : (b : Bool) (v w : Option _) → is_some v ≡ is_some w → is_some (cond b (Some (order-held x)) v) ≡ is_some (cond b (Some (order-held x)) w)
+    more : (b : Bool) (v w : Option _) → is_some v ≡ is_some w → is_some (cond b (Some (order_held x)) v) ≡ is_some (cond b (Some (order_held x)) w)
     more true v w e = refl
     more false v w e = e
 
-    same : (b : Bool) (v : Option _) → is_some (cond b (Some (order-held x)) v) ≡ is_some (cond b (Some (order-held x)) v)
+    same : (b : Bool) (v : Option _) → is_some (cond b (Some (order_held x)) v) ≡ is_some (cond b (Some (order_held x)) v)
     same b v = refl
 
     go : (b : Bool) → known (changed m (Some q) xs) n ≡ known xs n → known (cond b (remains x (Some q) ++ xs) (x ∷ changed m (Some q) xs)) n ≡ known (x ∷ xs) n
     go true h = over (eqb n x.number)
       where
-        over : (b : Bool) → is_some (cond b (Some (record { instrument = x.instrument; quantity = q })) (look order-number order-held xs n)) ≡ is_some (cond b (Some (order-held x)) (look order-number order-held xs n))
+        over : (b : Bool) → is_some (cond b (Some (record { instrument = x.instrument; quantity = q })) (look order_number order_held xs n)) ≡ is_some (cond b (Some (order_held x)) (look order_number order_held xs n))
         over true = refl
         over false = refl
-    go false h = more (eqb n x.number) (look order-number order-held (changed m (Some q) xs) n) (look order-number order-held xs n) h
+    go false h = more (eqb n x.number) (look order_number order_held (changed m (Some q) xs) n) (look order_number order_held xs n) h
 
 mid-known : (xs ys : List Order) (o : Order) → known (xs ++ o ∷ ys) o.number ≡ true
 mid-known [] ys o = ap is_some (cond-true (eqb o.number o.number) _ _ (eq-eqb o.number o.number refl))
 mid-known (x ∷ xs) ys o = go (eqb o.number x.number) (mid-known xs ys o)
   where
-    go : (b : Bool) → known (xs ++ o ∷ ys) o.number ≡ true → is_some (cond b (Some (order-held x)) (look order-number order-held (xs ++ o ∷ ys) o.number)) ≡ true
+    go : (b : Bool) → known (xs ++ o ∷ ys) o.number ≡ true → is_some (cond b (Some (order_held x)) (look order_number order_held (xs ++ o ∷ ys) o.number)) ≡ true
     go true h = refl
     go false h = h
 
-fewer-after : (b : Lit) (n : ℕ) (w : Option ℕ) → open-orders (altered b n w) ≤ open-orders b
+fewer-after : (b : Lit) (n : ℕ) (w : Option ℕ) → open_orders (altered b n w) ≤ open_orders b
 fewer-after b n w = let p = no_more n w b.resting in let q = no_more n w b.waiting in omega arith
 
-resting-ends : (b : Lit) (n : ℕ) → known b.resting n ≡ true → open-orders (altered b n None) + 1 ≤ open-orders b
+resting-ends : (b : Lit) (n : ℕ) → known b.resting n ≡ true → open_orders (altered b n None) + 1 ≤ open_orders b
 resting-ends b n h = let p = one_less n b.resting h in let q = no_more n None b.waiting in omega arith
 
-waiting-ends : (b : Lit) (n : ℕ) → known b.waiting n ≡ true → open-orders (altered b n None) + 1 ≤ open-orders b
+waiting-ends : (b : Lit) (n : ℕ) → known b.waiting n ≡ true → open_orders (altered b n None) + 1 ≤ open_orders b
 waiting-ends b n h = let p = one_less n b.waiting h in let q = no_more n None b.resting in omega arith
 
 -- a trade ends one of the two orders
-trade-ends : (rs ws : List Order) (a o : Order) → best a rs ≡ Some o → open-orders (traded (record { resting = rs; waiting = a ∷ ws }) a o) + 1 ≤ length rs + length (a ∷ ws)
+trade-ends : (rs ws : List Order) (a o : Order) → best a rs ≡ Some o → open_orders (traded (record { resting = rs; waiting = a ∷ ws }) a o) + 1 ≤ length rs + length (a ∷ ws)
 trade-ends rs ws a o f =
     let b : Lit = record { resting = rs; waiting = a ∷ ws } in
     let q = size_of a o in
     elim (cases_lt a.quantity o.quantity) [
       | inr le ↦
-          (let none : left-of q o.quantity ≡ None = cond-false (ltb q o.quantity) _ _ (le-ltb _ _ (omega arith)) in
+          (let none : left_of q o.quantity ≡ None = cond-false (ltb q o.quantity) _ _ (le-ltb _ _ (omega arith)) in
           let t = best-some a o rs f in
           let k : known rs o.number ≡ true = ap (λ (l : List Order). known l o.number) t.split ∙ mid-known t.before t.after o in
-          let one : open-orders (altered b o.number (left-of q o.quantity)) + 1 ≤ open-orders b =
-          subst (λ (w : Option ℕ). open-orders (altered b o.number w) + 1 ≤ open-orders b) (sym none) (resting-ends b o.number k) in
-          let two = fewer-after (altered b o.number (left-of q o.quantity)) a.number (left-of q a.quantity) in
+          let one : open_orders (altered b o.number (left_of q o.quantity)) + 1 ≤ open_orders b =
+          subst (λ (w : Option ℕ). open_orders (altered b o.number w) + 1 ≤ open_orders b) (sym none) (resting-ends b o.number k) in
+          let two = fewer-after (altered b o.number (left_of q o.quantity)) a.number (left_of q a.quantity) in
           omega arith)
       | inl lt ↦
-          (let none : left-of q a.quantity ≡ None = cond-false (ltb q a.quantity) _ _ (le-ltb _ _ (omega arith)) in
-          let some : left-of q o.quantity ≡ Some (o.quantity - q) = cond-true (ltb q o.quantity) _ _ (lt-ltb _ _ (omega arith)) in
-          let b' : Lit = altered b o.number (left-of q o.quantity) in
+          (let none : left_of q a.quantity ≡ None = cond-false (ltb q a.quantity) _ _ (le-ltb _ _ (omega arith)) in
+          let some : left_of q o.quantity ≡ Some (o.quantity - q) = cond-true (ltb q o.quantity) _ _ (lt-ltb _ _ (omega arith)) in
+          let b' : Lit = altered b o.number (left_of q o.quantity) in
           let k : known b'.waiting a.number ≡ true =
           ap (λ (w : Option ℕ). known (changed o.number w (a ∷ ws)) a.number) some
           ∙ still-known o.number a.number (o.quantity - q) (a ∷ ws) ∙ mid-known [] ws a in
-          let one = fewer-after b o.number (left-of q o.quantity) in
-          let two : open-orders (altered b' a.number (left-of q a.quantity)) + 1 ≤ open-orders b' =
-          subst (λ (w : Option ℕ). open-orders (altered b' a.number w) + 1 ≤ open-orders b') (sym none) (waiting-ends b' a.number k) in
+          let one = fewer-after b o.number (left_of q o.quantity) in
+          let two : open_orders (altered b' a.number (left_of q a.quantity)) + 1 ≤ open_orders b' =
+          subst (λ (w : Option ℕ). open_orders (altered b' a.number w) + 1 ≤ open_orders b') (sym none) (waiting-ends b' a.number k) in
           omega arith)
     ]
 
 -- an event that is one leaves fewer orders open
-spends-of : (rs ws : List Order) (p : Event × Lit) → Ends rs ws p → (p.0 ≡ Nothing) ⊎ (open-orders p.1 + 1 ≤ length rs + length ws)
+spends-of : (rs ws : List Order) (p : Event × Lit) → Ends rs ws p → (p.0 ≡ Nothing) ⊎ (open_orders p.1 + 1 ≤ length rs + length ws)
 spends-of rs [] p h = inl (ap (λ (x : Event × Lit). x.0) h)
-spends-of rs (a ∷ ws) p (inl (o, f, h)) = inr (subst (λ (x : Event × Lit). open-orders x.1 + 1 ≤ length rs + length (a ∷ ws)) (sym h) (trade-ends rs ws a o f))
+spends-of rs (a ∷ ws) p (inl (o, f, h)) = inr (subst (λ (x : Event × Lit). open_orders x.1 + 1 ≤ length rs + length (a ∷ ws)) (sym h) (trade-ends rs ws a o f))
 spends-of rs (a ∷ ws) p (inr h) =
-    inr (subst (λ (x : Event × Lit). open-orders x.1 + 1 ≤ length rs + length (a ∷ ws)) (sym h)
+    inr (subst (λ (x : Event × Lit). open_orders x.1 + 1 ≤ length rs + length (a ∷ ws)) (sym h)
     (waiting-ends (record { resting = rs; waiting = a ∷ ws }) a.number (mid-known [] ws a)))
 
-spends : (b : Lit) → ((next b).0 ≡ Nothing) ⊎ (open-orders (next b).1 + 1 ≤ open-orders b)
+spends : (b : Lit) → ((next b).0 ≡ Nothing) ⊎ (open_orders (next b).1 + 1 ≤ open_orders b)
 spends b =
     let s = stop b.resting b.waiting in
     let l = sym (length-append s.at_rest s.in-wait) ∙ ap length s.all ∙ length-append b.resting b.waiting in
@@ -125,8 +125,8 @@ stays-idle : (n : ℕ) (b : Lit) → b.waiting ≡ [] → Enough n b
 stays-idle zero b e = ap (λ (x : Event × Lit). x.0) (next-idle b (sym (ap (λ (l : List Order). slice_get l 0) e)))
 stays-idle (suc n) b e =
     let i = next-idle b (sym (ap (λ (l : List Order). slice_get l 0) e)) in
-    ap (λ (x : Event × Lit). (next (after-events n x.1)).0) i ∙ stays-idle n b e
+    ap (λ (x : Event × Lit). (next (after_events n x.1)).0) i ∙ stays-idle n b e
 
-pub enough : (n : ℕ) (b : Lit) → open-orders b ≤ n → Enough n b
+pub enough : (n : ℕ) (b : Lit) → open_orders b ≤ n → Enough n b
 enough zero b le = elim (spends b) [ inl e ↦ e | inr h ↦ absurd (let z : ⊥ = omega arith in z) ]
 enough (suc n) b le = elim (spends b) [ inl e ↦ stays-idle n (next b).1 (nothing-waits b e) | inr h ↦ enough n (next b).1 (omega arith) ]

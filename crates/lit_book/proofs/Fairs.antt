@@ -15,8 +15,8 @@ use Rattle.matching.specs.RowsFinite.{distinct_from}
 use Rattle.lit_book.specs.declared.order.Order.{Order}
 use Rattle.lit_book.specs.Orders.{accepts, better, crosses, lasting, limit, opposes, price, rests, takes}
 use Rattle.lit_book.specs.Laws.{AllWorse, Fair, InLine, NoneBetter, Served, Uncrossed, alike}
-use Rattle.lit_book.specs.Lists.{all_apart, changed, clear_of, order-held, order-in, order-number, remains, settled}
-use Rattle.lit_book.specs.Rules.{Lit, left-of, order-under, size_of}
+use Rattle.lit_book.specs.Lists.{all_apart, changed, clear_of, order_held, order_in, order_number, remains, settled}
+use Rattle.lit_book.specs.Rules.{Lit, left_of, order_under, size_of}
 use Rattle.lit_book.proofs.Amends.{in-at}
 use Rattle.lit_book.proofs.Bests.{NoBetter, Worse, best-some}
 use Rattle.lit_book.proofs.Changes.{absent}
@@ -25,9 +25,9 @@ use Rattle.lit_book.proofs.Stops.{Ends}
 
 -- ---- orders under their numbers
 
-pub mid-under : (xs ys : List Order) (o : Order) → all_apart (xs ++ o ∷ ys) ≡ true → order-in (xs ++ o ∷ ys) o.number ≡ Some o
+pub mid-under : (xs ys : List Order) (o : Order) → all_apart (xs ++ o ∷ ys) ≡ true → order_in (xs ++ o ∷ ys) o.number ≡ Some o
 mid-under xs ys o u =
-    let d = distinct_from order-number order-held (xs ++ o ∷ ys) u in
+    let d = distinct_from order_number order_held (xs ++ o ∷ ys) u in
     let l = length-append xs (o ∷ ys) in
     let r : o ≡ get_or (xs ++ o ∷ ys) (length xs) o = sym (get_or_at xs o ys o (length xs) refl) in
     in-at (xs ++ o ∷ ys) (length xs) o.number o (apart-found (xs ++ o ∷ ys) (length xs) o d (omega arith) r) r
@@ -50,7 +50,7 @@ crosses-accepts a o h = takes-price a.side a.order_type o.order_type (crossed-pa
 pub fair-of : (b : Lit) (rs ws : List Order) (p : Event × Lit) → all_apart (rs ++ ws) ≡ true → rs ++ ws ≡ b.resting ++ b.waiting → Ends rs ws p → Fair b p.0
 fair-of b rs [] p u e h = subst (λ (x : Event × Lit). Fair b x.0) (sym h) tt
 fair-of b rs (a ∷ ws) p u e (inl (o, f, h)) =
-    let under : order-under b a.number ≡ Some a = ap (λ (l : List Order). order-in l a.number) (sym e) ∙ mid-under rs ws a u in
+    let under : order_under b a.number ≡ Some a = ap (λ (l : List Order). order_in l a.number) (sym e) ∙ mid-under rs ws a u in
     subst (λ (x : Event × Lit). Fair b x.0) (sym h)
     (subst (λ (w : Option Order). MatchOption w ⊥ (λ x. accepts x.side x.order_type (price o) ≡ true)) (sym under) (crosses-accepts a o (best-some a o rs f).crossed))
 fair-of b rs (a ∷ ws) p u e (inr h) = subst (λ (x : Event × Lit). Fair b x.0) (sym h) tt
@@ -122,43 +122,43 @@ none-better a o (x ∷ xs) c r w =
     ((λ l. elim (cases_Bool (crosses a x)) [ inl t ↦ w.0 t | inr n ↦ better-one-way a.side (price o) (price x) (uncrossed-worse a o x c r.0 l n) ]), none-better a o xs c r.1 w.1)
 
 -- the lists after the trade
-mid-changed : (w : Option ℕ) (xs ys : List Order) (o : Order) → look order-number order-held xs o.number ≡ None → changed o.number w (xs ++ o ∷ ys) ≡ xs ++ (remains o w ++ ys)
+mid-changed : (w : Option ℕ) (xs ys : List Order) (o : Order) → look order_number order_held xs o.number ≡ None → changed o.number w (xs ++ o ∷ ys) ≡ xs ++ (remains o w ++ ys)
 mid-changed w [] ys o h = cond-true (eqb o.number o.number) _ _ (eq-eqb o.number o.number refl)
 mid-changed w (x ∷ xs) ys o h =
-    let p = passes order-number order-held (eqb o.number x.number) (order-held x) (look order-number order-held xs o.number) h in
+    let p = passes order_number order_held (eqb o.number x.number) (order_held x) (look order_number order_held xs o.number) h in
     cond-false (eqb o.number x.number) _ _ p.0 ∙ ap (λ (l : List Order). x ∷ l) (mid-changed w xs ys o p.1)
 
-stays-absent : (m n : ℕ) (w : Option ℕ) (xs : List Order) → look order-number order-held xs n ≡ None → look order-number order-held (changed m w xs) n ≡ None
+stays-absent : (m n : ℕ) (w : Option ℕ) (xs : List Order) → look order_number order_held xs n ≡ None → look order_number order_held (changed m w xs) n ≡ None
 stays-absent m n w [] h = refl
 stays-absent m n w (x ∷ xs) h =
-    let p = passes order-number order-held (eqb n x.number) (order-held x) (look order-number order-held xs n) h in
+    let p = passes order_number order_held (eqb n x.number) (order_held x) (look order_number order_held xs n) h in
     go (eqb m x.number) w p.0 p.1 (stays-absent m n w xs p.1)
   where
-    go : (b : Bool) (v : Option ℕ) → eqb n x.number ≡ false → look order-number order-held xs n ≡ None → look order-number order-held (changed m w xs) n ≡ None
-        → look order-number order-held (cond b (remains x v ++ xs) (x ∷ changed m w xs)) n ≡ None
+    go : (b : Bool) (v : Option ℕ) → eqb n x.number ≡ false → look order_number order_held xs n ≡ None → look order_number order_held (changed m w xs) n ≡ None
+        → look order_number order_held (cond b (remains x v ++ xs) (x ∷ changed m w xs)) n ≡ None
     go true None f g ih = g
     go true (Some q) f g ih = cond-false (eqb n x.number) _ _ f ∙ g
     go false v f g ih = cond-false (eqb n x.number) _ _ f ∙ ih
 
 -- nothing of its number before an order
-before-absent : (xs ys : List Order) (o : Order) → all_apart (xs ++ o ∷ ys) ≡ true → look order-number order-held xs o.number ≡ None
+before-absent : (xs ys : List Order) (o : Order) → all_apart (xs ++ o ∷ ys) ≡ true → look order_number order_held xs o.number ≡ None
 before-absent xs ys o u =
-    let d = distinct_from order-number order-held (xs ++ o ∷ ys) u in
+    let d = distinct_from order_number order_held (xs ++ o ∷ ys) u in
     let l = length-append xs (o ∷ ys) in
     let f = apart-found (xs ++ o ∷ ys) (length xs) o d (omega arith) (sym (get_or_at xs o ys o (length xs) refl)) in
-    ap (λ (k : List Order). look order-number order-held k o.number) (sym (take_at xs (o ∷ ys) (length xs) refl)) ∙ f.1
+    ap (λ (k : List Order). look order_number order_held k o.number) (sym (take_at xs (o ∷ ys) (length xs) refl)) ∙ f.1
 
 pub served-of : (b : Lit) (rs ws : List Order) (p : Event × Lit) → all_apart (rs ++ ws) ≡ true → settled rs ≡ true → rs ++ ws ≡ b.resting ++ b.waiting → Ends rs ws p → Served b p.0 p.1
 served-of b rs [] p u s e h = subst (λ (x : Event × Lit). Served b x.0 x.1) (sym h) tt
 served-of b rs (a ∷ ws) p u s e (inr h) = subst (λ (x : Event × Lit). Served b x.0 x.1) (sym h) tt
 served-of b rs (a ∷ ws) p u s e (inl (o, f, h)) =
     let t = best-some a o rs f in
-    let w = left-of (size_of a o) o.quantity in
-    let v = left-of (size_of a o) a.quantity in
+    let w = left_of (size_of a o) o.quantity in
+    let v = left_of (size_of a o) a.quantity in
     let whole : rs ++ a ∷ ws ≡ t.before ++ o ∷ (t.after ++ a ∷ ws) = ap (λ (l : List Order). l ++ a ∷ ws) t.split ∙ append_assoc t.before (o ∷ t.after) (a ∷ ws) in
     let u' : all_apart (t.before ++ o ∷ (t.after ++ a ∷ ws)) ≡ true = ap all_apart (sym whole) ∙ u in
-    let under-o : order-under b o.number ≡ Some o = ap (λ (l : List Order). order-in l o.number) (sym e ∙ whole) ∙ mid-under t.before (t.after ++ a ∷ ws) o u' in
-    let under-a : order-under b a.number ≡ Some a = ap (λ (l : List Order). order-in l a.number) (sym e) ∙ mid-under rs ws a u in
+    let under-o : order_under b o.number ≡ Some o = ap (λ (l : List Order). order_in l o.number) (sym e ∙ whole) ∙ mid-under t.before (t.after ++ a ∷ ws) o u' in
+    let under-a : order_under b a.number ≡ Some a = ap (λ (l : List Order). order_in l a.number) (sym e) ∙ mid-under rs ws a u in
     let r = subst AllRest t.split (all_rest rs s) in
     let line : changed a.number v (changed o.number w rs) ≡ t.before ++ (remains o w ++ t.after) =
     absent a.number v (changed o.number w rs) (stays-absent o.number a.number w rs (before-absent rs ws a u))
@@ -173,7 +173,7 @@ served-of b rs (a ∷ ws) p u s e (inl (o, f, h)) =
       no-better = none-better a o t.after t.crossed (rest_back t.before (o ∷ t.after) r).1 t.later;
     } in
     subst (λ (x : Event × Lit). Served b x.0 x.1) (sym h)
-    (subst (λ (y : Option Order). MatchOption y ⊥ (λ o'. MatchOption (order-under b a.number) ⊥ (λ a'. InLine a' o' (changed a.number v (changed o.number w rs))))) (sym under-o)
+    (subst (λ (y : Option Order). MatchOption y ⊥ (λ o'. MatchOption (order_under b a.number) ⊥ (λ a'. InLine a' o' (changed a.number v (changed o.number w rs))))) (sym under-o)
     (subst (λ (y : Option Order). MatchOption y ⊥ (λ a'. InLine a' o (changed a.number v (changed o.number w rs)))) (sym under-a) l))
 
 -- ---- no two at rest cross

@@ -6,7 +6,7 @@ use Rattle.matching.specs.declared.matcher.Event.TheVariants.{Nothing, Expired}
 use Rattle.lit_book.specs.declared.order.Order.{Order}
 use Rattle.lit_book.specs.Orders.{rests}
 use Rattle.lit_book.specs.Lists.{best}
-use Rattle.lit_book.specs.Rules.{Lit, altered, next, next_of, outcome, trade-of, traded}
+use Rattle.lit_book.specs.Rules.{Lit, altered, next, next_of, outcome, trade_of, traded}
 
 clash : {X : Type 0} (x : X) → ◌≡◌ {A = Option X} None (Some x) → ⊥
 clash x e = let z : ◌≡◌ {A = ℕ} 0 1 = cc in omega arith
@@ -32,7 +32,7 @@ unrolled b a e = go b.resting b.waiting e
         let s : w ≡ a = cc in
         ap (λ (x : Order). outcome (record { resting = rs; waiting = w ∷ ws }) x (best x rs) (next_of (rs ++ x ∷ []) ws)) s
 
-pub next-trade : (b : Lit) (a o : Order) → Some a ≡ slice_get b.waiting 0 → Some o ≡ best a b.resting → next b ≡ (trade-of a o, traded b a o)
+pub next-trade : (b : Lit) (a o : Order) → Some a ≡ slice_get b.waiting 0 → Some o ≡ best a b.resting → next b ≡ (trade_of a o, traded b a o)
 next-trade b a o e f =
     unrolled b a e ∙ ap (λ (r : Option Order). outcome b a r (next_of (b.resting ++ a ∷ []) (drop 1 b.waiting))) (sym f)
 

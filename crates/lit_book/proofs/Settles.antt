@@ -3,7 +3,7 @@ use Rattle.std.proofs.Common.{◌≡◌, ℕ, Bool, true, false, cond, not, ◌&
 use Rattle.std.proofs.lemmas.Bool.{and_from, and_parts}
 use Rattle.lit_book.specs.declared.order.Order.{Order}
 use Rattle.lit_book.specs.Orders.{crosses, rests}
-use Rattle.lit_book.specs.Lists.{best, best-from, changed, chosen, clear_of, improves, remains, settled}
+use Rattle.lit_book.specs.Lists.{best, best_from, changed, chosen, clear_of, improves, remains, settled}
 
 -- a change of one order
 clear-changed : (o : Order) (n : ℕ) (w : Option ℕ) (xs : List Order) → clear_of o xs ≡ true → clear_of o (changed n w xs) ≡ true
@@ -54,7 +54,7 @@ none-chosen : (b : Bool) (o : Order) (r : Option Order) → cond b (Some o) r �
 none-chosen true o r h = absurd (let z : ◌≡◌ {A = ℕ} 0 1 = cc in let no : ⊥ = omega arith in no)
 none-chosen false o r h = (refl, h)
 
-none-crossed : (a : Order) (r : Option Order) (xs : List Order) → best-from a r xs ≡ None → (r ≡ None) × Misses a xs
+none-crossed : (a : Order) (r : Option Order) (xs : List Order) → best_from a r xs ≡ None → (r ≡ None) × Misses a xs
 none-crossed a r [] h = (h, tt)
 none-crossed a r (o ∷ xs) h =
     let ih = none-crossed a (chosen a o r) xs h in

@@ -7,14 +7,14 @@ use Rattle.matching.specs.declared.matcher.Event.TheVariants.{Nothing, Expired}
 use Rattle.lit_book.specs.declared.order.Order.{Order}
 use Rattle.lit_book.specs.Orders.{rests}
 use Rattle.lit_book.specs.Lists.{best, settled}
-use Rattle.lit_book.specs.Rules.{Lit, altered, next_of, outcome, trade-of, traded}
+use Rattle.lit_book.specs.Rules.{Lit, altered, next_of, outcome, trade_of, traded}
 use Rattle.lit_book.proofs.Settles.{best_none, settled-push}
 
 -- the orders at rest and the waiting ones when it stops, and what then comes
 abbrev pub Ends : List Order → List Order → Event × Lit → Type 0
 Ends rs [] p = p ≡ (Nothing, record { resting = rs; waiting = [] })
 Ends rs (a ∷ ws) p =
-    ((o : Order) × (best a rs ≡ Some o) × (p ≡ (trade-of a o, traded (record { resting = rs; waiting = a ∷ ws }) a o)))
+    ((o : Order) × (best a rs ≡ Some o) × (p ≡ (trade_of a o, traded (record { resting = rs; waiting = a ∷ ws }) a o)))
     ⊎ (p ≡ (Expired a.number, altered (record { resting = rs; waiting = a ∷ ws }) a.number None))
 
 pub record Stop (rs ws : List Order) (p : Event × Lit) : Type 0 where

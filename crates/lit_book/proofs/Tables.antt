@@ -6,7 +6,7 @@ use Rattle.std.specs.List.{slice_get, remove}
 use Rattle.matching.specs.RowsFinite.{distinct_from}
 use Rattle.lit_book.specs.declared.order.Order.{Order}
 use Rattle.lit_book.specs.Orders.{rests, sized}
-use Rattle.lit_book.specs.Lists.{FoundOrder, all_apart, all-open, best, changed, in-turn, order-held, order-number, settled}
+use Rattle.lit_book.specs.Lists.{FoundOrder, all_apart, all_open, best, changed, in_turn, order_held, order_number, settled}
 use Rattle.lit_book.specs.Rules.{Lit}
 use Rattle.lit_book.proofs.Changes.{absent, as_long, behind, fewer-numbers, front-absent, in-front, removed-is, rest-absent, same_numbers, set_is, shorter}
 use Rattle.lit_book.proofs.Queues.{turn-from, turn-to}
@@ -17,36 +17,36 @@ same-lit r r' w w' e f = cc
 
 -- ---- one more at the end
 
-pub joined : (ns : List ℕ) (n m : ℕ) (os : List Order) → in-turn ns os ≡ true → length os ≤ m → m < 256 → cond (ltb (length ns) 256) (ns ++ n ∷ []) ns ≡ ns ++ n ∷ []
+pub joined : (ns : List ℕ) (n m : ℕ) (os : List Order) → in_turn ns os ≡ true → length os ≤ m → m < 256 → cond (ltb (length ns) 256) (ns ++ n ∷ []) ns ≡ ns ++ n ∷ []
 joined ns n m os t le lt =
-    let e = ap length (turn-from ns os t) ∙ length-map os order-number in
+    let e = ap length (turn-from ns os t) ∙ length-map os order_number in
     cond-true (ltb (length ns) 256) _ _ (lt-ltb _ _ (omega arith))
 
-pub add_turn : (xs : List Order) (k : ℕ) (ns : List ℕ) (o : Order) → k ≤ length xs → in-turn ns (drop k xs) ≡ true → in-turn (ns ++ o.number ∷ []) (drop k (xs ++ o ∷ [])) ≡ true
+pub add_turn : (xs : List Order) (k : ℕ) (ns : List ℕ) (o : Order) → k ≤ length xs → in_turn ns (drop k xs) ≡ true → in_turn (ns ++ o.number ∷ []) (drop k (xs ++ o ∷ [])) ≡ true
 add_turn xs k ns o le t =
     turn-to _ _
     (ap (λ (l : List ℕ). l ++ o.number ∷ []) (turn-from ns (drop k xs) t)
-    ∙ sym (map_push order-number (drop k xs) o)
-    ∙ ap (map order-number) (sym (drop-append-le k xs (o ∷ []) le)))
+    ∙ sym (map_push order_number (drop k xs) o)
+    ∙ ap (map order_number) (sym (drop-append-le k xs (o ∷ []) le)))
 
 pub add-settled : (xs : List Order) (k : ℕ) (o : Order) → k ≤ length xs → settled (take k xs) ≡ true → settled (take k (xs ++ o ∷ [])) ≡ true
 add-settled xs k o le s = ap settled (take-append-le k xs (o ∷ []) le) ∙ s
 
 -- every order has some quantity open
-pub add_open : (xs : List Order) (o : Order) → all-open xs ≡ true → 0 < o.quantity → all-open (xs ++ o ∷ []) ≡ true
+pub add_open : (xs : List Order) (o : Order) → all_open xs ≡ true → 0 < o.quantity → all_open (xs ++ o ∷ []) ≡ true
 add_open [] o h lt = and_from _ _ (lt-ltb _ _ lt) refl
-add_open (x ∷ xs) o h lt = let p = and_parts (ltb 0 x.quantity) (all-open xs) h in and_from _ _ p.0 (add_open xs o p.1 lt)
+add_open (x ∷ xs) o h lt = let p = and_parts (ltb 0 x.quantity) (all_open xs) h in and_from _ _ p.0 (add_open xs o p.1 lt)
 
-pub removed-open : (xs : List Order) (i : ℕ) → all-open xs ≡ true → all-open (remove xs i) ≡ true
+pub removed-open : (xs : List Order) (i : ℕ) → all_open xs ≡ true → all_open (remove xs i) ≡ true
 removed-open [] zero h = refl
 removed-open [] (suc i) h = refl
-removed-open (x ∷ xs) zero h = (and_parts (ltb 0 x.quantity) (all-open xs) h).1
-removed-open (x ∷ xs) (suc i) h = let p = and_parts (ltb 0 x.quantity) (all-open xs) h in and_from _ _ p.0 (removed-open xs i p.1)
+removed-open (x ∷ xs) zero h = (and_parts (ltb 0 x.quantity) (all_open xs) h).1
+removed-open (x ∷ xs) (suc i) h = let p = and_parts (ltb 0 x.quantity) (all_open xs) h in and_from _ _ p.0 (removed-open xs i p.1)
 
-pub set-open : (xs : List Order) (i : ℕ) (o : Order) → all-open xs ≡ true → 0 < o.quantity → all-open (set xs i o) ≡ true
+pub set-open : (xs : List Order) (i : ℕ) (o : Order) → all_open xs ≡ true → 0 < o.quantity → all_open (set xs i o) ≡ true
 set-open [] i o h lt = refl
-set-open (x ∷ xs) zero o h lt = and_from _ _ (lt-ltb _ _ lt) (and_parts (ltb 0 x.quantity) (all-open xs) h).1
-set-open (x ∷ xs) (suc i) o h lt = let p = and_parts (ltb 0 x.quantity) (all-open xs) h in and_from _ _ p.0 (set-open xs i o p.1 lt)
+set-open (x ∷ xs) zero o h lt = and_from _ _ (lt-ltb _ _ lt) (and_parts (ltb 0 x.quantity) (all_open xs) h).1
+set-open (x ∷ xs) (suc i) o h lt = let p = and_parts (ltb 0 x.quantity) (all_open xs) h in and_from _ _ p.0 (set-open xs i o p.1 lt)
 
 -- ---- one order changed
 
@@ -67,7 +67,7 @@ removed-front xs i k n u f lt le =
     let t = length-take-le k xs le in
     cut xs (remove xs i) (changed n None (take k xs)) (drop k xs) k (k - 1) n None
     (removed-is xs i n f ∙ sym (in-front None xs i k n f lt)) (omega arith) refl
-    (sym (absent n None (drop k xs) (rest-absent xs i k n (distinct_from order-number order-held xs u) f lt)))
+    (sym (absent n None (drop k xs) (rest-absent xs i k n (distinct_from order_number order_held xs u) f lt)))
 
 pub removed-back : (xs : List Order) (i k n : ℕ) → FoundOrder xs n (Some i) → k ≤ i → k ≤ length xs → Parts xs (remove xs i) k k n None
 removed-back xs i k n f ge le =
@@ -81,7 +81,7 @@ set-parts xs i k n q x u f read le =
       | inl lt ↦
           cut xs (set xs i (sized x q)) (changed n (Some q) (take k xs)) (drop k xs) k k n (Some q)
           (set_is xs i n q x f read ∙ sym (in-front (Some q) xs i k n f lt)) (as_long n q (take k xs) ∙ length-take-le k xs le) refl
-          (sym (absent n (Some q) (drop k xs) (rest-absent xs i k n (distinct_from order-number order-held xs u) f lt)))
+          (sym (absent n (Some q) (drop k xs) (rest-absent xs i k n (distinct_from order_number order_held xs u) f lt)))
       | inr ge ↦
           cut xs (set xs i (sized x q)) (take k xs) (changed n (Some q) (drop k xs)) k k n (Some q)
           (set_is xs i n q x f read ∙ sym (behind (Some q) xs i k n f ge)) (length-take-le k xs le)
@@ -95,16 +95,16 @@ pub parts-lit : (xs ys : List Order) (k k' n : ℕ) (w : Option ℕ) → Parts x
     → ◌≡◌ {A = Lit} (record { resting = take k' ys; waiting = drop k' ys }) (record { resting = changed n w (take k xs); waiting = changed n w (drop k xs) })
 parts-lit xs ys k k' n w p = same-lit _ _ _ _ p.front p.back
 
-pub front-turn : (xs ys : List Order) (i k k' n : ℕ) (ns : List ℕ) → all_apart xs ≡ true → FoundOrder xs n (Some i) → i < k → Parts xs ys k k' n None → in-turn ns (drop k xs) ≡ true → in-turn ns (drop k' ys) ≡ true
+pub front-turn : (xs ys : List Order) (i k k' n : ℕ) (ns : List ℕ) → all_apart xs ≡ true → FoundOrder xs n (Some i) → i < k → Parts xs ys k k' n None → in_turn ns (drop k xs) ≡ true → in_turn ns (drop k' ys) ≡ true
 front-turn xs ys i k k' n ns u f lt p t =
-    ap (in-turn ns) (p.back ∙ absent n None (drop k xs) (rest-absent xs i k n (distinct_from order-number order-held xs u) f lt)) ∙ t
+    ap (in_turn ns) (p.back ∙ absent n None (drop k xs) (rest-absent xs i k n (distinct_from order_number order_held xs u) f lt)) ∙ t
 
-pub back-turn : (xs ys : List Order) (i k n : ℕ) (ns : List ℕ) → FoundOrder xs n (Some i) → k ≤ i → Parts xs ys k k n None → in-turn ns (drop k xs) ≡ true → in-turn (remove ns (i - k)) (drop k ys) ≡ true
+pub back-turn : (xs ys : List Order) (i k n : ℕ) (ns : List ℕ) → FoundOrder xs n (Some i) → k ≤ i → Parts xs ys k k n None → in_turn ns (drop k xs) ≡ true → in_turn (remove ns (i - k)) (drop k ys) ≡ true
 back-turn xs ys i k n ns f ge p t =
-    turn-to _ _ (ap (λ (l : List ℕ). remove l (i - k)) (turn-from ns (drop k xs) t) ∙ fewer-numbers xs i k n f ge ∙ ap (map order-number) (sym p.back))
+    turn-to _ _ (ap (λ (l : List ℕ). remove l (i - k)) (turn-from ns (drop k xs) t) ∙ fewer-numbers xs i k n f ge ∙ ap (map order_number) (sym p.back))
 
-pub set-turn : (xs ys : List Order) (k n q : ℕ) (ns : List ℕ) → Parts xs ys k k n (Some q) → in-turn ns (drop k xs) ≡ true → in-turn ns (drop k ys) ≡ true
-set-turn xs ys k n q ns p t = turn-to _ _ (turn-from ns (drop k xs) t ∙ sym (same_numbers n q (drop k xs)) ∙ ap (map order-number) (sym p.back))
+pub set-turn : (xs ys : List Order) (k n q : ℕ) (ns : List ℕ) → Parts xs ys k k n (Some q) → in_turn ns (drop k xs) ≡ true → in_turn ns (drop k ys) ≡ true
+set-turn xs ys k n q ns p t = turn-to _ _ (turn-from ns (drop k xs) t ∙ sym (same_numbers n q (drop k xs)) ∙ ap (map order_number) (sym p.back))
 
 -- ---- the oldest waiting order comes to rest
 
@@ -130,9 +130,9 @@ rest-front xs k o e =
     let s : get_or xs k o ≡ o = cc in
     take_more xs k o lt ∙ ap (λ (y : Order). take k xs ++ y ∷ []) s
 
-pub rest-turn : (xs : List Order) (k : ℕ) (ns : List ℕ) → in-turn ns (drop k xs) ≡ true → in-turn (remove ns 0) (drop (k + 1) xs) ≡ true
+pub rest-turn : (xs : List Order) (k : ℕ) (ns : List ℕ) → in_turn ns (drop k xs) ≡ true → in_turn (remove ns 0) (drop (k + 1) xs) ≡ true
 rest-turn xs k ns t =
-    turn-to _ _ (ap (drop 1) (turn-from ns (drop k xs) t) ∙ drop-map order-number 1 (drop k xs) ∙ ap (map order-number) (sym (rest_back xs k)))
+    turn-to _ _ (ap (drop 1) (turn-from ns (drop k xs) t) ∙ drop-map order_number 1 (drop k xs) ∙ ap (map order_number) (sym (rest_back xs k)))
 
 pub rest-settled : (xs : List Order) (k : ℕ) (o : Order) → slice_get (drop k xs) 0 ≡ Some o → rests o ≡ true → best o (take k xs) ≡ None → settled (take k xs) ≡ true → settled (take (k + 1) xs) ≡ true
 rest-settled xs k o e r b s = ap settled (rest-front xs k o e) ∙ settled-push o (take k xs) s r (best_none o (take k xs) b)

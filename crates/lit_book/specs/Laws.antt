@@ -9,7 +9,7 @@ use Rattle.matching.specs.declared.terms.TimeInForce.TheVariants.{Day}
 use Rattle.lit_book.specs.declared.order.Order.{Order}
 use Rattle.lit_book.specs.Orders.{accepts, better, crosses, opposes, price}
 use Rattle.lit_book.specs.Lists.{remains}
-use Rattle.lit_book.specs.Rules.{Lit, next, order-under}
+use Rattle.lit_book.specs.Rules.{Lit, next, order_under}
 
 -- ---- the price of a trade is never worse than the aggressive order's limit
 
@@ -17,7 +17,7 @@ abbrev pub Fair : Lit → Event → Type 0
 Fair b Nothing = Unit {0}
 Fair b (Expired n) = Unit {0}
 Fair b (Trade p None q z) = Unit {0}
-Fair b (Trade p (Some n) q z) = MatchOption (order-under b n) ⊥ (λ a. accepts a.side a.order_type z ≡ true)
+Fair b (Trade p (Some n) q z) = MatchOption (order_under b n) ⊥ (λ a. accepts a.side a.order_type z ≡ true)
 
 -- ---- no order at rest that is better priced, or as good and earlier, is passed over
 
@@ -48,7 +48,7 @@ pub record InLine (a o : Order) (now-resting : List Order) : Type 0 where
 abbrev pub Served : Lit → Event → Lit → Type 0
 Served b Nothing b' = Unit {0}
 Served b (Expired n) b' = Unit {0}
-Served b (Trade (Some p) (Some n) q z) b' = MatchOption (order-under b p) ⊥ (λ o. MatchOption (order-under b n) ⊥ (λ a. InLine a o b'.resting))
+Served b (Trade (Some p) (Some n) q z) b' = MatchOption (order_under b p) ⊥ (λ o. MatchOption (order_under b n) ⊥ (λ a. InLine a o b'.resting))
 Served b (Trade (Some p) None q z) b' = ⊥
 Served b (Trade None n q z) b' = ⊥
 
@@ -64,28 +64,28 @@ Idle (Trade p n q z) b = Unit {0}
 
 -- ---- events come to an end
 
-abbrev pub open-orders : Lit → ℕ
-open-orders b = length b.resting + length b.waiting
+abbrev pub open_orders : Lit → ℕ
+open_orders b = length b.resting + length b.waiting
 
 -- the book after so many events
-abbrev pub after-events : ℕ → Lit → Lit
-after-events zero b = b
-after-events (suc n) b = after-events n (next b).1
+abbrev pub after_events : ℕ → Lit → Lit
+after_events zero b = b
+after_events (suc n) b = after_events n (next b).1
 
 -- n events are enough: then there is none
 abbrev pub Enough : ℕ → Lit → Type 0
-Enough n b = (next (after-events n b)).0 ≡ Nothing
+Enough n b = (next (after_events n b)).0 ≡ Nothing
 
 -- ---- a worked example: sells of 50 at 101 and 50 at 100, then a buy of 80 at 101, trade 50 at 100 and 30 at 101
 
-abbrev pub day-order : ℕ → Side → ℕ → ℕ → Order
-day-order n s p q = record { number = n; instrument = 0; side = s; order_type = Limit (pos p); time_in_force = Day; quantity = q }
+abbrev pub day_order : ℕ → Side → ℕ → ℕ → Order
+day_order n s p q = record { number = n; instrument = 0; side = s; order_type = Limit (pos p); time_in_force = Day; quantity = q }
 
 abbrev pub example : Lit
-example = record { resting = []; waiting = day-order 1 Sell 101 50 ∷ day-order 2 Sell 100 50 ∷ day-order 3 Buy 101 80 ∷ [] }
+example = record { resting = []; waiting = day_order 1 Sell 101 50 ∷ day_order 2 Sell 100 50 ∷ day_order 3 Buy 101 80 ∷ [] }
 
 abbrev pub Worked : Type 0
 Worked =
     ((next example).0 ≡ Trade (Some 2) (Some 3) 50 (pos 100))
     × ((next (next example).1).0 ≡ Trade (Some 1) (Some 3) 30 (pos 101))
-    × (next (next (next example).1).1 ≡ (Nothing, record { resting = day-order 1 Sell 101 20 ∷ []; waiting = [] }))
+    × (next (next (next example).1).1 ≡ (Nothing, record { resting = day_order 1 Sell 101 20 ∷ []; waiting = [] }))

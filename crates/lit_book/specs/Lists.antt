@@ -5,23 +5,23 @@ use Rattle.matching.specs.declared.matcher.Held.{Held}
 use Rattle.lit_book.specs.declared.order.Order.{Order}
 use Rattle.lit_book.specs.Orders.{better, crosses, price, rests, sized}
 
-abbrev pub order-number : Order → ℕ
-order-number o = o.number
+abbrev pub order_number : Order → ℕ
+order_number o = o.number
 
-abbrev pub order-held : Order → Held
-order-held o = record { instrument = o.instrument; quantity = o.quantity }
+abbrev pub order_held : Order → Held
+order_held o = record { instrument = o.instrument; quantity = o.quantity }
 
 -- the order of a number
-abbrev pub order-in : List Order → ℕ → Option Order
-order-in os n = look order-number (λ o. o) os n
+abbrev pub order_in : List Order → ℕ → Option Order
+order_in os n = look order_number (λ o. o) os n
 
 -- no two orders have one number
 abbrev pub all_apart : List Order → Bool
-all_apart os = distinct order-number order-held os
+all_apart os = distinct order_number order_held os
 
 -- r is the place of the order of the number n
 abbrev pub FoundOrder : List Order → ℕ → Option ℕ → Type 0
-FoundOrder os n r = Found order-number order-held os n r
+FoundOrder os n r = Found order_number order_held os n r
 
 -- ---- the best order for a among those at rest: the best priced that it crosses, and the first of equals
 
@@ -33,11 +33,11 @@ improves a o (Some x) = better a.side (price o) (price x)
 abbrev pub chosen : Order → Order → Option Order → Option Order
 chosen a o r = cond (crosses a o && improves a o r) (Some o) r
 
-abbrev pub best-from : Order → Option Order → List Order → Option Order
-best-from a r os = fold (λ b o. chosen a o b) r os
+abbrev pub best_from : Order → Option Order → List Order → Option Order
+best_from a r os = fold (λ b o. chosen a o b) r os
 
 abbrev pub best : Order → List Order → Option Order
-best a os = best-from a None os
+best a os = best_from a None os
 
 -- ---- one order of a list changed
 
@@ -54,9 +54,9 @@ changed n w (o ∷ os) = cond (n == o.number) (remains o w ++ os) (o ∷ changed
 -- ---- tests that hold of the book at all times
 
 -- every order has some quantity open
-abbrev pub all-open : List Order → Bool
-all-open [] = true
-all-open (o ∷ os) = nat_lt 0 o.quantity && all-open os
+abbrev pub all_open : List Order → Bool
+all_open [] = true
+all_open (o ∷ os) = nat_lt 0 o.quantity && all_open os
 
 -- no order of the list crosses o
 abbrev pub clear_of : Order → List Order → Bool
@@ -69,8 +69,8 @@ settled [] = true
 settled (o ∷ os) = rests o && (clear_of o os && settled os)
 
 -- the numbers are those of the orders, in turn
-abbrev pub in-turn : List ℕ → List Order → Bool
-in-turn [] [] = true
-in-turn [] (o ∷ os) = false
-in-turn (n ∷ ns) [] = false
-in-turn (n ∷ ns) (o ∷ os) = n == o.number && in-turn ns os
+abbrev pub in_turn : List ℕ → List Order → Bool
+in_turn [] [] = true
+in_turn [] (o ∷ os) = false
+in_turn (n ∷ ns) [] = false
+in_turn (n ∷ ns) (o ∷ os) = n == o.number && in_turn ns os

@@ -5,7 +5,7 @@ use Rattle.matching.specs.declared.matcher.Event.TheVariants.{Nothing, Expired, 
 use Rattle.matching.specs.declared.terms.Terms.{Terms}
 use Rattle.lit_book.specs.declared.order.Order.{Order}
 use Rattle.lit_book.specs.Orders.{price, repriced, reprices, rests, sized}
-use Rattle.lit_book.specs.Lists.{best, changed, order-in}
+use Rattle.lit_book.specs.Lists.{best, changed, order_in}
 
 -- the orders at rest, the first to rest first, and the waiting ones, the oldest first
 pub record Lit : Type 0 where
@@ -13,12 +13,12 @@ pub record Lit : Type 0 where
   pub waiting : List Order
 
 -- the open order of a number
-abbrev pub order-under : Lit → ℕ → Option Order
-order-under b n = order-in (b.resting ++ b.waiting) n
+abbrev pub order_under : Lit → ℕ → Option Order
+order_under b n = order_in (b.resting ++ b.waiting) n
 
 -- an order of these terms under a number
-abbrev pub order-of : ℕ → Terms → Order
-order-of n t = record { number = n; instrument = t.instrument; side = t.side; order_type = t.order_type; time_in_force = t.time_in_force; quantity = t.quantity }
+abbrev pub order_of : ℕ → Terms → Order
+order_of n t = record { number = n; instrument = t.instrument; side = t.side; order_type = t.order_type; time_in_force = t.time_in_force; quantity = t.quantity }
 
 -- an entered order waits behind all others
 abbrev pub entered : Lit → Order → Lit
@@ -39,23 +39,23 @@ amended b (Some o) q p = cond (goes_back o q p) (entered (altered b o.number Non
 -- ---- events
 
 -- what is left of an open quantity when q is traded
-abbrev pub left-of : ℕ → ℕ → Option ℕ
-left-of q open-now = cond (nat_lt q open-now) (Some (open-now - q)) None
+abbrev pub left_of : ℕ → ℕ → Option ℕ
+left_of q open-now = cond (nat_lt q open-now) (Some (open-now - q)) None
 
 -- a trades with o at rest, for the smaller quantity at the resting price
 abbrev pub size_of : Order → Order → ℕ
 size_of a o = min a.quantity o.quantity
 
-abbrev pub trade-of : Order → Order → Event
-trade-of a o = Trade (Some o.number) (Some a.number) (size_of a o) (price o)
+abbrev pub trade_of : Order → Order → Event
+trade_of a o = Trade (Some o.number) (Some a.number) (size_of a o) (price o)
 
 abbrev pub traded : Lit → Order → Order → Lit
-traded b a o = altered (altered b o.number (left-of (size_of a o) o.quantity)) a.number (left-of (size_of a o) a.quantity)
+traded b a o = altered (altered b o.number (left_of (size_of a o) o.quantity)) a.number (left_of (size_of a o) a.quantity)
 
 -- what becomes of the oldest waiting order a, where o is the best for it: it trades, or comes to rest so that later is
 -- what comes, or expires
 abbrev pub outcome : Lit → Order → Option Order → Event × Lit → Event × Lit
-outcome b a (Some o) later = (trade-of a o, traded b a o)
+outcome b a (Some o) later = (trade_of a o, traded b a o)
 outcome b a None later = cond (rests a) later (Expired a.number, altered b a.number None)
 
 -- the next event, and the book after it

@@ -1,6 +1,6 @@
 // The lit book's state.
 ghost use Rattle.std.specs.Prelude.{◌≡◌, ◌≤◌, true, take, drop, vec_len, vec_capacity};
-ghost use Rattle.lit_book.specs.Lists.{all_apart, all-open, in-turn, settled};
+ghost use Rattle.lit_book.specs.Lists.{all_apart, all_open, in_turn, settled};
 ghost use Rattle.lit_book.specs.Turns.{queued};
 
 use crate::order::Order;
@@ -19,7 +19,7 @@ pub struct LitBook {
     ghost limited: { vec_len orders ≤ 256 },
     ghost within: { resting ≤ vec_len orders },
     ghost apart: { all_apart orders.items ≡ true },
-    ghost nonzero: { all-open orders.items ≡ true },
-    ghost kept_in_turn: { in-turn (queued turns) (drop resting orders.items) ≡ true },
+    ghost nonzero: { all_open orders.items ≡ true },
+    ghost kept_in_turn: { in_turn (queued turns) (drop resting orders.items) ≡ true },
     ghost uncrossed: { settled (take resting orders.items) ≡ true },
 }

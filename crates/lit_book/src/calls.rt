@@ -2,11 +2,11 @@
 // orders that wait, by the rules of the book.
 ghost use Rattle.std.specs.Prelude.{◌≡◌, ◌≤◌, [], is_ok, IfOk, if◌then◌else◌, None};
 ghost use Rattle.std.specs.Result.{result_err};
-ghost use Rattle.matching.specs.Meaning.{Allowed, amend-refusal, cancel-refusal, closed, enter-refusal, happened, opened, resized};
-ghost use Rattle.lit_book.specs.Books.{lit, lit-meaning, lit-serves};
-ghost use Rattle.lit_book.specs.Laws.{Enough, Fair, Idle, Served, Uncrossed, Worked, open-orders};
-ghost use Rattle.lit_book.specs.Rules.{Lit, altered, amended, entered, next, order-of, order-under};
-ghost use Rattle.lit_book.specs.Lists.{order-held, order-number};
+ghost use Rattle.matching.specs.Meaning.{Allowed, amend_refusal, cancel_refusal, closed, enter_refusal, happened, opened, resized};
+ghost use Rattle.lit_book.specs.Books.{lit, lit_meaning, lit_serves};
+ghost use Rattle.lit_book.specs.Laws.{Enough, Fair, Idle, Served, Uncrossed, Worked, open_orders};
+ghost use Rattle.lit_book.specs.Rules.{Lit, altered, amended, entered, next, order_of, order_under};
+ghost use Rattle.lit_book.specs.Lists.{order_held, order_number};
 ghost use Rattle.matching.specs.RowsFinite.{rows-finite};
 ghost use Rattle.std.proofs.Common.{rules};
 
@@ -36,7 +36,7 @@ impl LitBook {
 
     // How many events come at most before there is none: each leaves fewer orders open.
     pub fn most_events(&self) -> usize
-        ensures count { result ≡ open-orders (lit self.now) }
+        ensures count { result ≡ open_orders (lit self.now) }
         ensures enough { Enough result (lit self.now) }
     {
         self.events_bound()
@@ -60,16 +60,16 @@ impl LitBook {
 }
 
 impl Matcher for LitBook {
-    ghost meaning = { lit-meaning };
+    ghost meaning = { lit_meaning };
 
-    ghost finite = { λ m. rows-finite order-number order-held 256 lit-serves m.orders.items m.apart };
+    ghost finite = { λ m. rows-finite order_number order_held 256 lit_serves m.orders.items m.apart };
 
     ghost bounded = { Prim.search rules };
 
     fn enter(&mut self, number: u64, terms: Terms) -> Result<(), Refusal>
-        ensures refusal { result_err result ≡ enter-refusal (lit-meaning self.old) number terms.quantity }
-        ensures after { lit-meaning self.new ≡ (if is_ok result then opened (lit-meaning self.old) number (record { instrument = terms.instrument; quantity = terms.quantity }) else lit-meaning self.old) }
-        ensures lists { lit self.new ≡ (if is_ok result then entered (lit self.old) (order-of number terms) else lit self.old) }
+        ensures refusal { result_err result ≡ enter_refusal (lit_meaning self.old) number terms.quantity }
+        ensures after { lit_meaning self.new ≡ (if is_ok result then opened (lit_meaning self.old) number (record { instrument = terms.instrument; quantity = terms.quantity }) else lit_meaning self.old) }
+        ensures lists { lit self.new ≡ (if is_ok result then entered (lit self.old) (order_of number terms) else lit self.old) }
     {
         if terms.quantity == 0 {
             return Err(Refusal::NoQuantity);
@@ -92,8 +92,8 @@ impl Matcher for LitBook {
     }
 
     fn cancel(&mut self, number: u64) -> Result<(), Refusal>
-        ensures refusal { result_err result ≡ cancel-refusal (lit-meaning self.old) number }
-        ensures after { lit-meaning self.new ≡ (if is_ok result then closed (lit-meaning self.old) number else lit-meaning self.old) }
+        ensures refusal { result_err result ≡ cancel_refusal (lit_meaning self.old) number }
+        ensures after { lit_meaning self.new ≡ (if is_ok result then closed (lit_meaning self.old) number else lit_meaning self.old) }
         ensures lists { lit self.new ≡ (if is_ok result then altered (lit self.old) number None else lit self.old) }
     {
         let i = self.find(number).ok_or(Refusal::NotOpen)?;
@@ -102,9 +102,9 @@ impl Matcher for LitBook {
     }
 
     fn amend(&mut self, number: u64, quantity: u32, price: i64) -> Result<(), Refusal>
-        ensures refusal { result_err result ≡ amend-refusal (lit-meaning self.old) number quantity }
-        ensures after { lit-meaning self.new ≡ (if is_ok result then resized (lit-meaning self.old) number quantity else lit-meaning self.old) }
-        ensures lists { lit self.new ≡ (if is_ok result then amended (lit self.old) (order-under (lit self.old) number) quantity price else lit self.old) }
+        ensures refusal { result_err result ≡ amend_refusal (lit_meaning self.old) number quantity }
+        ensures after { lit_meaning self.new ≡ (if is_ok result then resized (lit_meaning self.old) number quantity else lit_meaning self.old) }
+        ensures lists { lit self.new ≡ (if is_ok result then amended (lit self.old) (order_under (lit self.old) number) quantity price else lit self.old) }
     {
         let i = self.find(number).ok_or(Refusal::NotOpen)?;
         if quantity == 0 {
@@ -115,8 +115,8 @@ impl Matcher for LitBook {
     }
 
     fn next_event(&mut self) -> Event
-        ensures allowed { Allowed (lit-meaning self.old).orders result }
-        ensures after { lit-meaning self.new ≡ happened (lit-meaning self.old) result }
+        ensures allowed { Allowed (lit_meaning self.old).orders result }
+        ensures after { lit_meaning self.new ≡ happened (lit_meaning self.old) result }
         ensures event { result ≡ (next (lit self.old)).0 }
         ensures lists { lit self.new ≡ (next (lit self.old)).1 }
         ensures fair { Fair (lit self.old) result }

@@ -1,6 +1,6 @@
 // An order of the book, and the questions that matching asks of it.
 ghost use Rattle.std.specs.Prelude.{◌≡◌, Some};
-ghost use Rattle.lit_book.specs.Lists.{chosen, order-number};
+ghost use Rattle.lit_book.specs.Lists.{chosen, order_number};
 ghost use Rattle.lit_book.specs.Texts.{order_text};
 ghost use Rattle.lit_book.specs.Rules.{goes_back};
 ghost use Rattle.lit_book.specs.Orders.{accepts, better, crosses, opposes, price, repriced, reprices, rests, sized};
@@ -20,7 +20,7 @@ pub struct Order {
 }
 
 impl Numbered for Order {
-    ghost key = { order-number };
+    ghost key = { order_number };
 
     fn number(&self) -> u64 {
         self.number

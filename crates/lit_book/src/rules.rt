@@ -3,9 +3,9 @@ ghost use Rattle.std.specs.Prelude.{◌≡◌, ◌<◌, true, is_some, IfSome, S
 ghost use Rattle.std.specs.List.{slice_get};
 ghost use Rattle.matching.specs.Meaning.{Allowed, happened, resized};
 ghost use Rattle.matching.specs.declared.matcher.Event.TheVariants.{Expired};
-ghost use Rattle.lit_book.specs.Books.{lit, lit-meaning, table};
+ghost use Rattle.lit_book.specs.Books.{lit, lit_meaning, table};
 ghost use Rattle.lit_book.specs.Lists.{FoundOrder, best};
-ghost use Rattle.lit_book.specs.Rules.{altered, amended, left-of, next, order-under, trade-of, traded};
+ghost use Rattle.lit_book.specs.Rules.{altered, amended, left_of, next, order_under, trade_of, traded};
 ghost use Rattle.lit_book.specs.Steps.{TurnIs, remaining};
 
 use crate::book::LitBook;
@@ -25,7 +25,7 @@ pub(crate) enum Turn {
 
 // What is left of an open quantity after a trade.
 fn left(open: u32, traded: u32) -> Option<u32>
-    ensures value { result ≡ left-of traded «open» }
+    ensures value { result ≡ left_of traded «open» }
     ensures some { IfSome result (λ q. 0 < q) }
 {
     if traded < open {
@@ -40,7 +40,7 @@ impl LitBook {
     fn oldest(&mut self) -> Option<Order>
         ensures value { result ≡ slice_get (lit self.old).waiting 0 }
         ensures lists { lit self.new ≡ lit self.old }
-        ensures after { lit-meaning self.new ≡ lit-meaning self.old }
+        ensures after { lit_meaning self.new ≡ lit_meaning self.old }
     {
         match self.turns.front() {
             Some(_) => Some(self.orders[self.resting]),
@@ -60,10 +60,10 @@ impl LitBook {
 
     // Leaves of the order of a number what is left of it.
     pub(crate) fn alter(&mut self, number: u64, left: Option<u32>)
-        requires known { is_some ((lit-meaning self.old).orders number) ≡ true }
+        requires known { is_some ((lit_meaning self.old).orders number) ≡ true }
         requires some { IfSome left (λ q. 0 < q) }
         ensures lists { lit self.new ≡ altered (lit self.old) number left }
-        ensures after { lit-meaning self.new ≡ remaining (lit-meaning self.old) number left }
+        ensures after { lit_meaning self.new ≡ remaining (lit_meaning self.old) number left }
     {
         if let Some(i) = self.find(number) {
             match left {
@@ -76,7 +76,7 @@ impl LitBook {
     // Goes on until the oldest waiting order trades or expires, or none waits; those before it come to rest.
     fn next_turn(&mut self) -> Turn
         ensures turn { TurnIs (next (lit self.old)) (lit self.new) result }
-        ensures after { lit-meaning self.new ≡ lit-meaning self.old }
+        ensures after { lit_meaning self.new ≡ lit_meaning self.old }
     {
         while let Some(order) = self.oldest() {
             if let Some(other) = self.best_for(order) {
@@ -94,10 +94,10 @@ impl LitBook {
     fn trade(&mut self, order: Order, other: Order) -> Event
         requires oldest { slice_get (lit self.old).waiting 0 ≡ Some order }
         requires best { best order (lit self.old).resting ≡ Some other }
-        ensures event { result ≡ trade-of order other }
+        ensures event { result ≡ trade_of order other }
         ensures lists { lit self.new ≡ traded (lit self.old) order other }
-        ensures allowed { Allowed (lit-meaning self.old).orders result }
-        ensures after { lit-meaning self.new ≡ happened (lit-meaning self.old) result }
+        ensures allowed { Allowed (lit_meaning self.old).orders result }
+        ensures after { lit_meaning self.new ≡ happened (lit_meaning self.old) result }
     {
         let quantity = order.quantity.min(other.quantity);
         let price = other.price();
@@ -116,8 +116,8 @@ impl LitBook {
         requires { slice_get (lit self.old).waiting 0 ≡ Some order }
         ensures event { result ≡ Expired order.number }
         ensures lists { lit self.new ≡ altered (lit self.old) order.number None }
-        ensures allowed { Allowed (lit-meaning self.old).orders result }
-        ensures after { lit-meaning self.new ≡ happened (lit-meaning self.old) result }
+        ensures allowed { Allowed (lit_meaning self.old).orders result }
+        ensures after { lit_meaning self.new ≡ happened (lit_meaning self.old) result }
     {
         self.alter(order.number, None);
         Event::Expired(order.number)
@@ -127,8 +127,8 @@ impl LitBook {
     pub(crate) fn revise(&mut self, i: usize, number: u64, quantity: u32, price: i64)
         requires found { FoundOrder (table self.old) number (Some i) }
         requires some { 0 < quantity }
-        ensures lists { lit self.new ≡ amended (lit self.old) (order-under (lit self.old) number) quantity price }
-        ensures after { lit-meaning self.new ≡ resized (lit-meaning self.old) number quantity }
+        ensures lists { lit self.new ≡ amended (lit self.old) (order_under (lit self.old) number) quantity price }
+        ensures after { lit_meaning self.new ≡ resized (lit_meaning self.old) number quantity }
     {
         let order = self.orders[i];
         if order.goes_back(quantity, price) {
@@ -144,8 +144,8 @@ impl LitBook {
     pub(crate) fn step(&mut self) -> Event
         ensures event { result ≡ (next (lit self.old)).0 }
         ensures lists { lit self.new ≡ (next (lit self.old)).1 }
-        ensures allowed { Allowed (lit-meaning self.old).orders result }
-        ensures after { lit-meaning self.new ≡ happened (lit-meaning self.old) result }
+        ensures allowed { Allowed (lit_meaning self.old).orders result }
+        ensures after { lit_meaning self.new ≡ happened (lit_meaning self.old) result }
     {
         match self.next_turn() {
             Turn::Idle => Event::Nothing,

@@ -3,9 +3,9 @@
 ghost use Rattle.std.specs.Prelude.{◌≡◌, ◌+◌, ◌<◌, ◌≤◌, true, false, [], ◌∷◌, ◌++◌, length, drop, is_some, Some, None, vec_len};
 ghost use Rattle.std.specs.List.{slice_get};
 ghost use Rattle.matching.specs.Meaning.{closed, opened, resized};
-ghost use Rattle.lit_book.specs.Books.{lit, lit-meaning, table};
-ghost use Rattle.lit_book.specs.Laws.{Enough, open-orders};
-ghost use Rattle.lit_book.specs.Lists.{FoundOrder, best, order-held};
+ghost use Rattle.lit_book.specs.Books.{lit, lit_meaning, table};
+ghost use Rattle.lit_book.specs.Laws.{Enough, open_orders};
+ghost use Rattle.lit_book.specs.Lists.{FoundOrder, best, order_held};
 ghost use Rattle.lit_book.specs.Orders.{rests};
 ghost use Rattle.lit_book.specs.Rules.{altered, entered};
 
@@ -18,14 +18,14 @@ impl LitBook {
     // The place of the order of a number.
     pub(crate) fn find(&self, number: u64) -> Option<usize>
         ensures found { FoundOrder (table self.now) number result }
-        ensures test { is_some result ≡ is_some ((lit-meaning self.now).orders number) }
+        ensures test { is_some result ≡ is_some ((lit_meaning self.now).orders number) }
     {
         place_of(&self.orders, number)
     }
 
     // How many orders are open, which is how many events can come.
     pub(crate) fn events_bound(&self) -> usize
-        ensures count { result ≡ open-orders (lit self.now) }
+        ensures count { result ≡ open_orders (lit self.now) }
         ensures enough { Enough result (lit self.now) }
     {
         self.orders.len()
@@ -34,7 +34,7 @@ impl LitBook {
     // What is open under the number of the order at a place.
     pub(crate) fn held_at(&self, i: usize, number: u64) -> Held
         requires { FoundOrder (table self.now) number (Some i) }
-        ensures { (lit-meaning self.now).orders number ≡ Some result }
+        ensures { (lit_meaning self.now).orders number ≡ Some result }
     {
         let order = self.orders[i];
         Held {
@@ -45,11 +45,11 @@ impl LitBook {
 
     // One more order, which waits behind all others; its number has none open.
     pub(crate) fn add(&mut self, order: Order)
-        requires new { is_some ((lit-meaning self.old).orders order.number) ≡ false }
+        requires new { is_some ((lit_meaning self.old).orders order.number) ≡ false }
         requires room { vec_len self.old.orders < 256 }
         requires some { 0 < order.quantity }
         ensures lists { lit self.new ≡ entered (lit self.old) order }
-        ensures after { lit-meaning self.new ≡ opened (lit-meaning self.old) order.number (order-held order) }
+        ensures after { lit_meaning self.new ≡ opened (lit_meaning self.old) order.number (order_held order) }
     {
         self.orders.push_reserved(order);
         self.turns.join(order.number);
@@ -59,7 +59,7 @@ impl LitBook {
     pub(crate) fn remove(&mut self, i: usize, number: u64)
         requires { FoundOrder (table self.old) number (Some i) }
         ensures lists { lit self.new ≡ altered (lit self.old) number None }
-        ensures after { lit-meaning self.new ≡ closed (lit-meaning self.old) number }
+        ensures after { lit_meaning self.new ≡ closed (lit_meaning self.old) number }
     {
         let resting = self.resting;
         let _ = self.orders.remove(i);
@@ -75,7 +75,7 @@ impl LitBook {
         requires found { FoundOrder (table self.old) number (Some i) }
         requires some { 0 < quantity }
         ensures lists { lit self.new ≡ altered (lit self.old) number (Some quantity) }
-        ensures after { lit-meaning self.new ≡ resized (lit-meaning self.old) number quantity }
+        ensures after { lit_meaning self.new ≡ resized (lit_meaning self.old) number quantity }
     {
         let order = self.orders[i];
         let sized = order.sized(quantity);
@@ -89,7 +89,7 @@ impl LitBook {
         requires clear { best order (lit self.old).resting ≡ None }
         ensures resting { (lit self.new).resting ≡ (lit self.old).resting ++ order ∷ [] }
         ensures waiting { (lit self.new).waiting ≡ drop 1 (lit self.old).waiting }
-        ensures after { lit-meaning self.new ≡ lit-meaning self.old }
+        ensures after { lit_meaning self.new ≡ lit_meaning self.old }
     {
         self.resting += 1;
         self.turns.leave(0);

@@ -4,7 +4,7 @@ use Rattle.std.proofs.lemmas.List.{drop_more, drop_all}
 use Rattle.std.proofs.lemmas.Bool.{cond-true, cond-false, eqb-false, leb-true, both_ways}
 use Rattle.matching.specs.declared.matcher.Event.TheVariants.{Nothing}
 use Rattle.matching.specs.declared.tape.Line.{Line}
-use Rattle.matching.specs.Meaning.{Allowed, Orders, open-quantity}
+use Rattle.matching.specs.Meaning.{Allowed, Orders, open_quantity}
 use Rattle.matching.specs.Tapes.{fits, played, trade}
 
 -- the lines from a place on, by the line that is read there
@@ -22,7 +22,7 @@ played-none os ls at le = ap (played os) (drop_all at ls le) ∙ ap (λ (x : Lis
 
 -- a line that fits is a trade that may come
 pub fits-allowed : (os : Orders) (l : Line) → fits os l ≡ true → Allowed os (trade l)
-fits-allowed os l h = go l.quantity (open-quantity os l.number) (eqb l.quantity 0) refl h
+fits-allowed os l h = go l.quantity (open_quantity os l.number) (eqb l.quantity 0) refl h
   where
     go : (q o : ℕ) (b : Bool) → eqb q 0 ≡ b → cond b false (leb q o) ≡ true → (1 ≤ q) × (q ≤ o)
     go q o true e f = absurd (both_ways false refl f)

@@ -21,16 +21,16 @@ pub record Meaning : Type 0 where
   pub serves : Book → Bool
 
 -- the open quantity under a number, 0 where none is open
-abbrev pub quantity-of : Option Held → ℕ
-quantity-of None = 0
-quantity-of (Some h) = h.quantity
+abbrev pub quantity_of : Option Held → ℕ
+quantity_of None = 0
+quantity_of (Some h) = h.quantity
 
-abbrev pub open-quantity : Orders → ℕ → ℕ
-open-quantity os n = quantity-of (os n)
+abbrev pub open_quantity : Orders → ℕ → ℕ
+open_quantity os n = quantity_of (os n)
 
-abbrev pub instrument-of : Option Held → ℕ
-instrument-of None = 0
-instrument-of (Some h) = h.instrument
+abbrev pub instrument_of : Option Held → ℕ
+instrument_of None = 0
+instrument_of (Some h) = h.instrument
 
 -- the orders with w under n, and all else as it was
 abbrev pub put : Orders → ℕ → Option Held → Orders
@@ -71,24 +71,24 @@ resized m n q = record { orders = put m.orders n (sized q (m.orders n)); count =
 
 -- ---- when a call is refused, and with which refusal
 
-abbrev pub enter-refusal : Meaning → ℕ → ℕ → Option Refusal
-enter-refusal m n q =
+abbrev pub enter_refusal : Meaning → ℕ → ℕ → Option Refusal
+enter_refusal m n q =
     cond (q == 0) (Some NoQuantity) (cond (is_some (m.orders n)) (Some NumberOpen) (cond (nat_le m.capacity m.count) (Some Full) None))
 
-abbrev pub cancel-refusal : Meaning → ℕ → Option Refusal
-cancel-refusal m n = cond (is_some (m.orders n)) None (Some NotOpen)
+abbrev pub cancel_refusal : Meaning → ℕ → Option Refusal
+cancel_refusal m n = cond (is_some (m.orders n)) None (Some NotOpen)
 
-abbrev pub amend-refusal : Meaning → ℕ → ℕ → Option Refusal
-amend-refusal m n q = cond (is_some (m.orders n)) (cond (q == 0) (Some NoQuantity) None) (Some NotOpen)
+abbrev pub amend_refusal : Meaning → ℕ → ℕ → Option Refusal
+amend_refusal m n q = cond (is_some (m.orders n)) (cond (q == 0) (Some NoQuantity) None) (Some NotOpen)
 
 -- ---- events
 
 -- a trade names one order, or two of one instrument, and each has as much open
 abbrev pub Parties : Orders → ℕ → Option ℕ → Option ℕ → Type 0
 Parties os q None None = ⊥
-Parties os q (Some p) None = q ≤ open-quantity os p
-Parties os q None (Some a) = q ≤ open-quantity os a
-Parties os q (Some p) (Some a) = (q ≤ open-quantity os p) × (q ≤ open-quantity os a) × (p ≢ a) × (instrument-of (os p) ≡ instrument-of (os a))
+Parties os q (Some p) None = q ≤ open_quantity os p
+Parties os q None (Some a) = q ≤ open_quantity os a
+Parties os q (Some p) (Some a) = (q ≤ open_quantity os p) × (q ≤ open_quantity os a) × (p ≢ a) × (instrument_of (os p) ≡ instrument_of (os a))
 
 -- the events that may come
 abbrev pub Allowed : Orders → Event → Type 0
@@ -99,7 +99,7 @@ Allowed os (Trade p a q price) = (1 ≤ q) × Parties os q p a
 -- the orders and their count when q comes off the order of a number, which ends with none left
 abbrev pub filled : Meaning → ℕ → Option ℕ → Meaning
 filled m q None = m
-filled m q (Some n) = cond (nat_lt q (open-quantity m.orders n)) (resized m n (open-quantity m.orders n - q)) (closed m n)
+filled m q (Some n) = cond (nat_lt q (open_quantity m.orders n)) (resized m n (open_quantity m.orders n - q)) (closed m n)
 
 abbrev pub happened : Meaning → Event → Meaning
 happened m Nothing = m

@@ -5,13 +5,13 @@ use Rattle.matching.specs.declared.matcher.Event.TheVariants.{Nothing, Trade}
 use Rattle.matching.specs.declared.tape.Line.{Line}
 use Rattle.matching.specs.declared.tape.Row.{Row}
 use Rattle.matching.specs.declared.tape.Tape.{Tape}
-use Rattle.matching.specs.Meaning.{Allowed, Meaning, Orders, open-quantity}
+use Rattle.matching.specs.Meaning.{Allowed, Meaning, Orders, open_quantity}
 use Rattle.matching.specs.Rows.{meant}
-use Rattle.matching.specs.TapeRows.{FoundRow, row_number, row-held}
+use Rattle.matching.specs.TapeRows.{FoundRow, row_number, row_held}
 
 -- 64 orders at a time, of either book
-abbrev pub tape-meaning : Tape → Meaning
-tape-meaning t = meant row_number row-held 64 (λ _. true) (vec_items t.rows)
+abbrev pub tape_meaning : Tape → Meaning
+tape_meaning t = meant row_number row_held 64 (λ _. true) (vec_items t.rows)
 
 -- the lines that are still to be played
 abbrev pub ahead : Tape → List Line
@@ -19,7 +19,7 @@ ahead t = drop t.at (vec_items t.lines)
 
 -- a line fits where its order has as much open, and at least 1
 abbrev pub fits : Orders → Line → Bool
-fits os l = cond (l.quantity == 0) false (nat_le l.quantity (open-quantity os l.number))
+fits os l = cond (l.quantity == 0) false (nat_le l.quantity (open_quantity os l.number))
 
 abbrev pub trade : Line → Event
 trade l = Trade (Some l.number) None l.quantity l.price

@@ -6,7 +6,7 @@
 ghost use Rattle.std.specs.Prelude.{◌≡◌, ◌≤◌, Some, is_some, is_ok, if◌then◌else◌, ◌==◌};
 ghost use Rattle.std.specs.Result.{result_err};
 ghost use Rattle.matching.specs.Texts.{event_text, party_text, refusal_text};
-ghost use Rattle.matching.specs.Meaning.{Meaning, Finite, open-quantity, opened, closed, resized, enter-refusal, cancel-refusal, amend-refusal, Allowed, happened};
+ghost use Rattle.matching.specs.Meaning.{Meaning, Finite, open_quantity, opened, closed, resized, enter_refusal, cancel_refusal, amend_refusal, Allowed, happened};
 
 use crate::terms::{Book, Terms};
 use std::fmt;
@@ -98,17 +98,17 @@ pub trait Matcher {
 
     // Opens an order under a number. Refused exactly at quantity 0, an open number or a full engine, tried in this order.
     fn enter(&mut self, number: u64, terms: Terms) -> Result<(), Refusal>
-        ensures refusal { result_err result ≡ enter-refusal (meaning self.old) number terms.quantity }
+        ensures refusal { result_err result ≡ enter_refusal (meaning self.old) number terms.quantity }
         ensures after { meaning self.new ≡ (if is_ok result then opened (meaning self.old) number (record { instrument = terms.instrument; quantity = terms.quantity }) else meaning self.old) };
 
     // Ends an open order. Refused exactly where it is not open.
     fn cancel(&mut self, number: u64) -> Result<(), Refusal>
-        ensures refusal { result_err result ≡ cancel-refusal (meaning self.old) number }
+        ensures refusal { result_err result ≡ cancel_refusal (meaning self.old) number }
         ensures after { meaning self.new ≡ (if is_ok result then closed (meaning self.old) number else meaning self.old) };
 
     // Sets the open quantity and the price of an open order. Refused exactly where it is not open or the quantity is 0.
     fn amend(&mut self, number: u64, quantity: u32, price: i64) -> Result<(), Refusal>
-        ensures refusal { result_err result ≡ amend-refusal (meaning self.old) number quantity }
+        ensures refusal { result_err result ≡ amend_refusal (meaning self.old) number quantity }
         ensures after { meaning self.new ≡ (if is_ok result then resized (meaning self.old) number quantity else meaning self.old) };
 
     // The next event, and what it changes.
@@ -139,7 +139,7 @@ pub trait Matcher {
 
     // The open quantity under a number, 0 where none is open.
     fn open_quantity(&self, number: u64) -> u32
-        ensures { result ≡ open-quantity (meaning self.now).orders number }
+        ensures { result ≡ open_quantity (meaning self.now).orders number }
     {
         match self.open_order(number) {
             Some(order) => order.quantity,

@@ -2,9 +2,9 @@
 // event says which line is played.
 ghost use Rattle.std.specs.Prelude.{◌≡◌, true, [], is_some, is_ok, IfOk, if◌then◌else◌, vec_len};
 ghost use Rattle.std.specs.Result.{result_err};
-ghost use Rattle.matching.specs.Meaning.{Allowed, amend-refusal, cancel-refusal, closed, enter-refusal, happened, opened, resized};
-ghost use Rattle.matching.specs.Tapes.{ahead, played, tape-meaning};
-ghost use Rattle.matching.specs.TapeRows.{row_number, row-held};
+ghost use Rattle.matching.specs.Meaning.{Allowed, amend_refusal, cancel_refusal, closed, enter_refusal, happened, opened, resized};
+ghost use Rattle.matching.specs.Tapes.{ahead, played, tape_meaning};
+ghost use Rattle.matching.specs.TapeRows.{row_number, row_held};
 ghost use Rattle.matching.specs.RowsFinite.{rows-finite};
 ghost use Rattle.std.proofs.Common.{rules};
 
@@ -19,7 +19,7 @@ const CAPACITY: usize = 64;
 impl Tape {
     // A tape with no order open that is to play the lines.
     pub fn new(heap: Global, lines: Vec<Line>) -> Result<Tape, AllocError>
-        ensures { IfOk result (λ t. ((tape-meaning t).count ≡ 0) × (ahead t ≡ lines.items)) }
+        ensures { IfOk result (λ t. ((tape_meaning t).count ≡ 0) × (ahead t ≡ lines.items)) }
     {
         let rows = Vec::with_capacity(heap, CAPACITY)?;
         Ok(Tape { rows, lines, at: 0 })
@@ -27,15 +27,15 @@ impl Tape {
 }
 
 impl Matcher for Tape {
-    ghost meaning = { tape-meaning };
+    ghost meaning = { tape_meaning };
 
-    ghost finite = { λ m. rows-finite row_number row-held 64 (λ _. true) m.rows.items m.apart };
+    ghost finite = { λ m. rows-finite row_number row_held 64 (λ _. true) m.rows.items m.apart };
 
     ghost bounded = { Prim.search rules };
 
     fn enter(&mut self, number: u64, terms: Terms) -> Result<(), Refusal>
-        ensures refusal { result_err result ≡ enter-refusal (tape-meaning self.old) number terms.quantity }
-        ensures after { tape-meaning self.new ≡ (if is_ok result then opened (tape-meaning self.old) number (record { instrument = terms.instrument; quantity = terms.quantity }) else tape-meaning self.old) }
+        ensures refusal { result_err result ≡ enter_refusal (tape_meaning self.old) number terms.quantity }
+        ensures after { tape_meaning self.new ≡ (if is_ok result then opened (tape_meaning self.old) number (record { instrument = terms.instrument; quantity = terms.quantity }) else tape_meaning self.old) }
         ensures ahead { ahead self.new ≡ ahead self.old }
     {
         if terms.quantity == 0 {
@@ -56,8 +56,8 @@ impl Matcher for Tape {
     }
 
     fn cancel(&mut self, number: u64) -> Result<(), Refusal>
-        ensures refusal { result_err result ≡ cancel-refusal (tape-meaning self.old) number }
-        ensures after { tape-meaning self.new ≡ (if is_ok result then closed (tape-meaning self.old) number else tape-meaning self.old) }
+        ensures refusal { result_err result ≡ cancel_refusal (tape_meaning self.old) number }
+        ensures after { tape_meaning self.new ≡ (if is_ok result then closed (tape_meaning self.old) number else tape_meaning self.old) }
         ensures ahead { ahead self.new ≡ ahead self.old }
     {
         let i = self.find(number).ok_or(Refusal::NotOpen)?;
@@ -67,8 +67,8 @@ impl Matcher for Tape {
 
     // A tape knows no prices of its orders.
     fn amend(&mut self, number: u64, quantity: u32, _price: i64) -> Result<(), Refusal>
-        ensures refusal { result_err result ≡ amend-refusal (tape-meaning self.old) number quantity }
-        ensures after { tape-meaning self.new ≡ (if is_ok result then resized (tape-meaning self.old) number quantity else tape-meaning self.old) }
+        ensures refusal { result_err result ≡ amend_refusal (tape_meaning self.old) number quantity }
+        ensures after { tape_meaning self.new ≡ (if is_ok result then resized (tape_meaning self.old) number quantity else tape_meaning self.old) }
         ensures ahead { ahead self.new ≡ ahead self.old }
     {
         let i = self.find(number).ok_or(Refusal::NotOpen)?;
@@ -80,10 +80,10 @@ impl Matcher for Tape {
     }
 
     fn next_event(&mut self) -> Event
-        ensures allowed { Allowed (tape-meaning self.old).orders result }
-        ensures after { tape-meaning self.new ≡ happened (tape-meaning self.old) result }
-        ensures event { result ≡ (played (tape-meaning self.old).orders (ahead self.old)).0 }
-        ensures ahead { ahead self.new ≡ (played (tape-meaning self.old).orders (ahead self.old)).1 }
+        ensures allowed { Allowed (tape_meaning self.old).orders result }
+        ensures after { tape_meaning self.new ≡ happened (tape_meaning self.old) result }
+        ensures event { result ≡ (played (tape_meaning self.old).orders (ahead self.old)).0 }
+        ensures ahead { ahead self.new ≡ (played (tape_meaning self.old).orders (ahead self.old)).1 }
     {
         match self.next_line() {
             Some((i, line)) => self.play(i, line),

@@ -1,8 +1,8 @@
 // The tape's open orders: found by number, added, ended and changed. Each says what it does to the tape's meaning.
 ghost use Rattle.std.specs.Prelude.{◌≡◌, ◌<◌, ◌≤◌, true, false, is_some, Some, vec_len, MatchOption};
-ghost use Rattle.matching.specs.Meaning.{closed, filled, happened, open-quantity, opened, resized};
-ghost use Rattle.matching.specs.TapeRows.{FoundRow, row-held, row_number};
-ghost use Rattle.matching.specs.Tapes.{NextLine, ahead, fits, played, tape-meaning, trade};
+ghost use Rattle.matching.specs.Meaning.{closed, filled, happened, open_quantity, opened, resized};
+ghost use Rattle.matching.specs.TapeRows.{FoundRow, row_held, row_number};
+ghost use Rattle.matching.specs.Tapes.{NextLine, ahead, fits, played, tape_meaning, trade};
 
 use crate::matcher::{Event, Held};
 use crate::numbered::{Numbered, place_of};
@@ -20,16 +20,16 @@ impl Tape {
     // The place of the order of a number.
     pub(crate) fn find(&self, number: u64) -> Option<usize>
         ensures found { FoundRow self.now.rows.items number result }
-        ensures test { is_some result ≡ is_some ((tape-meaning self.now).orders number) }
+        ensures test { is_some result ≡ is_some ((tape_meaning self.now).orders number) }
     {
         place_of(&self.rows, number)
     }
 
     // One more open order, of a number that has none.
     pub(crate) fn add(&mut self, row: Row)
-        requires new { is_some ((tape-meaning self.old).orders row.number) ≡ false }
+        requires new { is_some ((tape_meaning self.old).orders row.number) ≡ false }
         requires room { vec_len self.old.rows < 64 }
-        ensures after { tape-meaning self.new ≡ opened (tape-meaning self.old) row.number (row-held row) }
+        ensures after { tape_meaning self.new ≡ opened (tape_meaning self.old) row.number (row_held row) }
         ensures ahead { ahead self.new ≡ ahead self.old }
     {
         self.rows.push_reserved(row);
@@ -38,7 +38,7 @@ impl Tape {
     // Ends the order at a place.
     pub(crate) fn end(&mut self, i: usize, number: u64)
         requires { FoundRow self.old.rows.items number (Some i) }
-        ensures after { tape-meaning self.new ≡ closed (tape-meaning self.old) number }
+        ensures after { tape_meaning self.new ≡ closed (tape_meaning self.old) number }
         ensures ahead { ahead self.new ≡ ahead self.old }
     {
         let _ = self.rows.remove(i);
@@ -47,7 +47,7 @@ impl Tape {
     // Sets the open quantity of the order at a place.
     pub(crate) fn resize(&mut self, i: usize, number: u64, quantity: u32)
         requires { FoundRow self.old.rows.items number (Some i) }
-        ensures after { tape-meaning self.new ≡ resized (tape-meaning self.old) number quantity }
+        ensures after { tape_meaning self.new ≡ resized (tape_meaning self.old) number quantity }
         ensures ahead { ahead self.new ≡ ahead self.old }
     {
         let instrument = self.rows[i].instrument;
@@ -61,7 +61,7 @@ impl Tape {
     // What is open under the number of the order at a place.
     pub(crate) fn held_at(&self, i: usize, number: u64) -> Held
         requires { FoundRow self.now.rows.items number (Some i) }
-        ensures { (tape-meaning self.now).orders number ≡ Some result }
+        ensures { (tape_meaning self.now).orders number ≡ Some result }
     {
         let row = self.rows[i];
         Held {
@@ -73,7 +73,7 @@ impl Tape {
     // The open quantity of the order at a place.
     pub(crate) fn open_at(&self, i: usize, number: u64) -> u32
         requires { FoundRow self.now.rows.items number (Some i) }
-        ensures { result ≡ open-quantity (tape-meaning self.now).orders number }
+        ensures { result ≡ open_quantity (tape_meaning self.now).orders number }
     {
         self.held_at(i, number).quantity
     }
@@ -81,7 +81,7 @@ impl Tape {
     // Takes a traded quantity off the order at a place, which ends where none is left.
     pub(crate) fn fill(&mut self, i: usize, number: u64, quantity: u32)
         requires { FoundRow self.old.rows.items number (Some i) }
-        ensures after { tape-meaning self.new ≡ filled (tape-meaning self.old) quantity (Some number) }
+        ensures after { tape_meaning self.new ≡ filled (tape_meaning self.old) quantity (Some number) }
         ensures ahead { ahead self.new ≡ ahead self.old }
     {
         let open = self.open_at(i, number);
@@ -94,7 +94,7 @@ impl Tape {
 
     // The place of the order that a line trades, where the line fits.
     pub(crate) fn place_for(&self, line: Line) -> Option<usize>
-        ensures { MatchOption result (fits (tape-meaning self.now).orders line ≡ false) (λ i. (fits (tape-meaning self.now).orders line ≡ true) × FoundRow self.now.rows.items line.number (Some i)) }
+        ensures { MatchOption result (fits (tape_meaning self.now).orders line ≡ false) (λ i. (fits (tape_meaning self.now).orders line ≡ true) × FoundRow self.now.rows.items line.number (Some i)) }
     {
         if line.quantity == 0 {
             return None;
@@ -109,9 +109,9 @@ impl Tape {
 
     // Goes on to the next line that fits, and gives it with the place of its order.
     pub(crate) fn next_line(&mut self) -> Option<(usize, Line)>
-        ensures line { NextLine (tape-meaning self.new).orders self.new.rows.items (played (tape-meaning self.old).orders (ahead self.old)).0 result }
-        ensures lines { ahead self.new ≡ (played (tape-meaning self.old).orders (ahead self.old)).1 }
-        ensures same { tape-meaning self.new ≡ tape-meaning self.old }
+        ensures line { NextLine (tape_meaning self.new).orders self.new.rows.items (played (tape_meaning self.old).orders (ahead self.old)).0 result }
+        ensures lines { ahead self.new ≡ (played (tape_meaning self.old).orders (ahead self.old)).1 }
+        ensures same { tape_meaning self.new ≡ tape_meaning self.old }
     {
         while self.at < self.lines.len() {
             let line = self.lines[self.at];
@@ -127,7 +127,7 @@ impl Tape {
     pub(crate) fn play(&mut self, i: usize, line: Line) -> Event
         requires found { FoundRow self.old.rows.items line.number (Some i) }
         ensures event { result ≡ trade line }
-        ensures after { tape-meaning self.new ≡ happened (tape-meaning self.old) result }
+        ensures after { tape_meaning self.new ≡ happened (tape_meaning self.old) result }
         ensures ahead { ahead self.new ≡ ahead self.old }
     {
         self.fill(i, line.number, line.quantity);

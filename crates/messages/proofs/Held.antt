@@ -21,13 +21,13 @@ use Rattle.messages.specs.declared.reports.ExecutionReport.{ExecutionReport}
 use Rattle.messages.specs.declared.reports.OrderCancelReject.{OrderCancelReject}
 use Rattle.messages.specs.declared.reports.OrderMassCancelReport.{OrderMassCancelReport}
 use Rattle.messages.specs.declared.requests.OwnedMassCancelRequest.{OwnedMassCancelRequest}
-use Rattle.messages.specs.Session.{logon, logonContents, logonKept, logonReply, logonReplyContents, logonReplyKept, logonReplyTyped, logout, logoutContents, logoutKept, missedMessageRequest, missedMessageRequestContents, missedMessageRequestKept, missedMessageRequestTyped, missedMessageRequestAck, missedMessageRequestAckContents, missedMessageRequestAckKept, missedMessageReport, missedMessageReportContents, missedMessageReportKept, reject, rejectContents, rejectKept, rejectTyped}
-use Rattle.messages.specs.Requests.{newOrder, newOrderContents, newOrderKept, newOrderTyped, orderCancelRequest, orderCancelRequestContents, orderCancelRequestKept, orderCancelRequestTyped, orderCancelReplaceRequest, orderCancelReplaceRequestContents, orderCancelReplaceRequestKept, orderCancelReplaceRequestTyped, orderMassCancelRequest, orderMassCancelRequestContents, orderMassCancelRequestKept}
-use Rattle.messages.specs.Reports.{executionReport, executionReportContents, executionReportKept, executionReportTyped, orderCancelReject, orderCancelRejectContents, orderCancelRejectKept, orderCancelRejectTyped, orderMassCancelReport, orderMassCancelReportContents, orderMassCancelReportKept, orderMassCancelReportTyped}
-use Rattle.messages.proofs.Listed.{ackResponse-listed, autoCancel-listed, book-listed, capacity-listed, clearingAccount-listed, massResponse-listed, orderCapacity-listed, orderSubType-listed, partition-listed, passiveOnly-listed, priceDifferential-listed, reportResponse-listed, side-listed, status-listed, timeInForce-listed, version-listed}
+use Rattle.messages.specs.Session.{logon, logon_contents, logon_kept, logon_reply, logon_reply_contents, logon_reply_kept, logon_reply_typed, logout, logout_contents, logout_kept, missed_message_request, missed_message_request_contents, missed_message_request_kept, missed_message_request_typed, missed_message_request_ack, missed_message_request_ack_contents, missed_message_request_ack_kept, missed_message_report, missed_message_report_contents, missed_message_report_kept, reject, reject_contents, reject_kept, reject_typed}
+use Rattle.messages.specs.Requests.{new_order, new_order_contents, new_order_kept, new_order_typed, order_cancel_request, order_cancel_request_contents, order_cancel_request_kept, order_cancel_request_typed, order_cancel_replace_request, order_cancel_replace_request_contents, order_cancel_replace_request_kept, order_cancel_replace_request_typed, order_mass_cancel_request, order_mass_cancel_request_contents, order_mass_cancel_request_kept}
+use Rattle.messages.specs.Reports.{execution_report, execution_report_contents, execution_report_kept, execution_report_typed, order_cancel_reject, order_cancel_reject_contents, order_cancel_reject_kept, order_cancel_reject_typed, order_mass_cancel_report, order_mass_cancel_report_contents, order_mass_cancel_report_kept, order_mass_cancel_report_typed}
+use Rattle.messages.proofs.Listed.{ack_response-listed, auto_cancel-listed, book-listed, capacity-listed, clearing_account-listed, mass_response-listed, order_capacity-listed, order_sub_type-listed, partition-listed, passive_only-listed, price_differential-listed, report_response-listed, side-listed, status-listed, time_in_force-listed, version-listed}
 use Rattle.messages.proofs.HeldTerms.{pricing-listed, pricing-holds, target-listed, target-holds, scope-listed, scope-symbol, scope-segment, scope-book, execution-listed, execution-reject, execution-liquidity, execution-trade}
 
-pub logon-holds : (m : Logon (FixedText 25)) → HoldsIn logon (logonContents (logonKept m))
+pub logon-holds : (m : Logon (FixedText 25)) → HoldsIn logon (logon_contents (logon_kept m))
 logon-holds m =
     (refl, said-short m.comp_id, printable-said m.comp_id.bytes)
     ⊹ (refl, said-short m.password, printable-said m.password.bytes)
@@ -35,34 +35,34 @@ logon-holds m =
     ⊹ (refl, version-listed m.version)
     ⊹ tt
 
-pub logonReply-holds : (m : LogonReply (FixedText 30)) → logonReplyTyped (logonReplyKept m) → HoldsIn logonReply (logonReplyContents (logonReplyKept m))
-logonReply-holds m t =
+pub logon_reply-holds : (m : LogonReply (FixedText 30)) → logon_reply_typed (logon_reply_kept m) → HoldsIn logon_reply (logon_reply_contents (logon_reply_kept m))
+logon_reply-holds m t =
     (refl, t)
     ⊹ (refl, said-short m.expiry_days, printable-said m.expiry_days.bytes)
     ⊹ tt
 
-pub logout-holds : (m : Logout (FixedText 20)) → HoldsIn logout (logoutContents (logoutKept m))
+pub logout-holds : (m : Logout (FixedText 20)) → HoldsIn logout (logout_contents (logout_kept m))
 logout-holds m =
     (refl, said-short m.reason, printable-said m.reason.bytes)
     ⊹ tt
 
-pub missedMessageRequest-holds : (m : MissedMessageRequest LastSequence) → missedMessageRequestTyped (missedMessageRequestKept m) → HoldsIn missedMessageRequest (missedMessageRequestContents (missedMessageRequestKept m))
-missedMessageRequest-holds m t =
+pub missed_message_request-holds : (m : MissedMessageRequest LastSequence) → missed_message_request_typed (missed_message_request_kept m) → HoldsIn missed_message_request (missed_message_request_contents (missed_message_request_kept m))
+missed_message_request-holds m t =
     (refl, t.0)
     ⊹ (refl, t.1)
     ⊹ tt
 
-pub missedMessageRequestAck-holds : (m : MissedMessageRequestAck) → HoldsIn missedMessageRequestAck (missedMessageRequestAckContents (missedMessageRequestAckKept m))
-missedMessageRequestAck-holds m =
-    (refl, ackResponse-listed m.response)
+pub missed_message_request_ack-holds : (m : MissedMessageRequestAck) → HoldsIn missed_message_request_ack (missed_message_request_ack_contents (missed_message_request_ack_kept m))
+missed_message_request_ack-holds m =
+    (refl, ack_response-listed m.response)
     ⊹ tt
 
-pub missedMessageReport-holds : (m : MissedMessageReport) → HoldsIn missedMessageReport (missedMessageReportContents (missedMessageReportKept m))
-missedMessageReport-holds m =
-    (refl, reportResponse-listed m.response)
+pub missed_message_report-holds : (m : MissedMessageReport) → HoldsIn missed_message_report (missed_message_report_contents (missed_message_report_kept m))
+missed_message_report-holds m =
+    (refl, report_response-listed m.response)
     ⊹ tt
 
-pub reject-holds : (m : Reject (FixedText 30) (FixedText 20)) → rejectTyped (rejectKept m) → HoldsIn reject (rejectContents (rejectKept m))
+pub reject-holds : (m : Reject (FixedText 30) (FixedText 20)) → reject_typed (reject_kept m) → HoldsIn reject (reject_contents (reject_kept m))
 reject-holds m t =
     (refl, t.0)
     ⊹ (refl, said-short m.reason, printable-said m.reason.bytes)
@@ -70,33 +70,33 @@ reject-holds m t =
     ⊹ (refl, said-short m.client_order_id, printable-said m.client_order_id.bytes)
     ⊹ tt
 
-pub newOrder-holds : (m : NewOrder RequestId (FixedText 11) (FixedText 10) (FixedText 6)) → newOrderTyped (newOrderKept m) → HoldsIn newOrder (newOrderContents (newOrderKept m))
-newOrder-holds m t =
+pub new_order-holds : (m : NewOrder RequestId (FixedText 11) (FixedText 10) (FixedText 6)) → new_order_typed (new_order_kept m) → HoldsIn new_order (new_order_contents (new_order_kept m))
+new_order-holds m t =
     (refl, said-short m.client_order_id.id, printable-said m.client_order_id.id.bytes, name-given m.client_order_id)
     ⊹ (refl, said-short m.trader_id, printable-said m.trader_id.bytes)
     ⊹ (refl, said-short m.account, printable-said m.account.bytes)
-    ⊹ (refl, clearingAccount-listed m.clearing_account)
+    ⊹ (refl, clearing_account-listed m.clearing_account)
     ⊹ (refl, said-short m.symbol, printable-said m.symbol.bytes)
     ⊹ (refl, pricing-listed m.pricing)
-    ⊹ (refl, timeInForce-listed m.time_in_force)
+    ⊹ (refl, time_in_force-listed m.time_in_force)
     ⊹ (refl, t.1)
     ⊹ (refl, side-listed m.side)
     ⊹ (refl, t.2)
     ⊹ (refl, t.3)
     ⊹ pricing-holds m.pricing t.0
-    ⊹ (refl, orderCapacity-listed m.capacity)
-    ⊹ (refl, autoCancel-listed m.auto_cancel)
-    ⊹ (refl, orderSubType-listed m.sub_type)
+    ⊹ (refl, order_capacity-listed m.capacity)
+    ⊹ (refl, auto_cancel-listed m.auto_cancel)
+    ⊹ (refl, order_sub_type-listed m.sub_type)
     ⊹ refl
     ⊹ (refl, target-listed m.target)
     ⊹ target-holds m.target
     ⊹ (refl, t.4)
     ⊹ refl
-    ⊹ (refl, passiveOnly-listed m.passive_only)
+    ⊹ (refl, passive_only-listed m.passive_only)
     ⊹ tt
 
-pub orderCancelRequest-holds : (m : OrderCancelRequest RequestId (FixedText 20) (FixedText 6)) → orderCancelRequestTyped (orderCancelRequestKept m) → HoldsIn orderCancelRequest (orderCancelRequestContents (orderCancelRequestKept m))
-orderCancelRequest-holds m t =
+pub order_cancel_request-holds : (m : OrderCancelRequest RequestId (FixedText 20) (FixedText 6)) → order_cancel_request_typed (order_cancel_request_kept m) → HoldsIn order_cancel_request (order_cancel_request_contents (order_cancel_request_kept m))
+order_cancel_request-holds m t =
     (refl, said-short m.client_order_id.id, printable-said m.client_order_id.id.bytes, name-given m.client_order_id)
     ⊹ (refl, said-short m.original_id, printable-said m.original_id.bytes)
     ⊹ (refl, t)
@@ -106,8 +106,8 @@ orderCancelRequest-holds m t =
     ⊹ refl
     ⊹ tt
 
-pub orderCancelReplaceRequest-holds : (m : OrderCancelReplaceRequest RequestId (FixedText 20) (FixedText 6) (FixedText 10)) → orderCancelReplaceRequestTyped (orderCancelReplaceRequestKept m) → HoldsIn orderCancelReplaceRequest (orderCancelReplaceRequestContents (orderCancelReplaceRequestKept m))
-orderCancelReplaceRequest-holds m t =
+pub order_cancel_replace_request-holds : (m : OrderCancelReplaceRequest RequestId (FixedText 20) (FixedText 6) (FixedText 10)) → order_cancel_replace_request_typed (order_cancel_replace_request_kept m) → HoldsIn order_cancel_replace_request (order_cancel_replace_request_contents (order_cancel_replace_request_kept m))
+order_cancel_replace_request-holds m t =
     (refl, said-short m.client_order_id.id, printable-said m.client_order_id.id.bytes, name-given m.client_order_id)
     ⊹ (refl, said-short m.original_id, printable-said m.original_id.bytes)
     ⊹ (refl, t.0)
@@ -117,18 +117,18 @@ orderCancelReplaceRequest-holds m t =
     ⊹ (refl, t.3)
     ⊹ (refl, t.4)
     ⊹ (refl, said-short m.account, printable-said m.account.bytes)
-    ⊹ (refl, timeInForce-listed m.time_in_force)
+    ⊹ (refl, time_in_force-listed m.time_in_force)
     ⊹ (refl, side-listed m.side)
     ⊹ refl
     ⊹ (refl, target-listed m.target)
     ⊹ target-holds m.target
     ⊹ (refl, t.5)
-    ⊹ (refl, passiveOnly-listed m.passive_only)
+    ⊹ (refl, passive_only-listed m.passive_only)
     ⊹ refl
     ⊹ tt
 
-pub orderMassCancelRequest-holds : (m : OwnedMassCancelRequest) → HoldsIn orderMassCancelRequest (orderMassCancelRequestContents (orderMassCancelRequestKept m))
-orderMassCancelRequest-holds m =
+pub order_mass_cancel_request-holds : (m : OwnedMassCancelRequest) → HoldsIn order_mass_cancel_request (order_mass_cancel_request_contents (order_mass_cancel_request_kept m))
+order_mass_cancel_request-holds m =
     (refl, said-short m.client_order_id.id, printable-said m.client_order_id.id.bytes, name-given m.client_order_id)
     ⊹ (refl, scope-listed m.scope)
     ⊹ scope-symbol m.scope
@@ -138,8 +138,8 @@ orderMassCancelRequest-holds m =
     ⊹ refl
     ⊹ tt
 
-pub executionReport-holds : (m : ExecutionReport (FixedText 12) (FixedText 20) (FixedText 6) (FixedText 11)) → executionReportTyped (executionReportKept m) → HoldsIn executionReport (executionReportContents (executionReportKept m))
-executionReport-holds m t =
+pub execution_report-holds : (m : ExecutionReport (FixedText 12) (FixedText 20) (FixedText 6) (FixedText 11)) → execution_report_typed (execution_report_kept m) → HoldsIn execution_report (execution_report_contents (execution_report_kept m))
+execution_report-holds m t =
     (refl, partition-listed m.partition)
     ⊹ (refl, t.0)
     ⊹ (refl, said-short m.execution_id, printable-said m.execution_id.bytes)
@@ -164,12 +164,12 @@ executionReport-holds m t =
     ⊹ (refl, book-listed m.book)
     ⊹ execution-trade m.execution
     ⊹ (refl, capacity-listed m.capacity)
-    ⊹ (refl, priceDifferential-listed m.price_differential)
+    ⊹ (refl, price_differential-listed m.price_differential)
     ⊹ refl
     ⊹ tt
 
-pub orderCancelReject-holds : (m : OrderCancelReject (FixedText 20) (FixedText 12)) → orderCancelRejectTyped (orderCancelRejectKept m) → HoldsIn orderCancelReject (orderCancelRejectContents (orderCancelRejectKept m))
-orderCancelReject-holds m t =
+pub order_cancel_reject-holds : (m : OrderCancelReject (FixedText 20) (FixedText 12)) → order_cancel_reject_typed (order_cancel_reject_kept m) → HoldsIn order_cancel_reject (order_cancel_reject_contents (order_cancel_reject_kept m))
+order_cancel_reject-holds m t =
     (refl, partition-listed m.partition)
     ⊹ (refl, t.0)
     ⊹ (refl, said-short m.client_order_id, printable-said m.client_order_id.bytes)
@@ -179,12 +179,12 @@ orderCancelReject-holds m t =
     ⊹ refl
     ⊹ tt
 
-pub orderMassCancelReport-holds : (m : OrderMassCancelReport (FixedText 20)) → orderMassCancelReportTyped (orderMassCancelReportKept m) → HoldsIn orderMassCancelReport (orderMassCancelReportContents (orderMassCancelReportKept m))
-orderMassCancelReport-holds m t =
+pub order_mass_cancel_report-holds : (m : OrderMassCancelReport (FixedText 20)) → order_mass_cancel_report_typed (order_mass_cancel_report_kept m) → HoldsIn order_mass_cancel_report (order_mass_cancel_report_contents (order_mass_cancel_report_kept m))
+order_mass_cancel_report-holds m t =
     (refl, partition-listed m.partition)
     ⊹ (refl, t.0)
     ⊹ (refl, said-short m.client_order_id, printable-said m.client_order_id.bytes)
-    ⊹ (refl, massResponse-listed m.response)
+    ⊹ (refl, mass_response-listed m.response)
     ⊹ (refl, t.1)
     ⊹ refl
     ⊹ (refl, t.2, t.3)

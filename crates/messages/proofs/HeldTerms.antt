@@ -17,30 +17,30 @@ use Rattle.messages.specs.declared.terms.Execution.TheVariants as execution
 use Rattle.layout.specs.Layout.{taken}
 use Rattle.layout.specs.Layout.Content.{nothing}
 use Rattle.layout.specs.Holding.{HoldsForm, If}
-use Rattle.messages.specs.Terms.{pricingCode, pricingPrice, pricingTyped, targetCode, targetInstruction, scopeKept, scopeCode, scopeSymbol, scopeSegment, scopeBook, executionCode, executionReject, executionLiquidity, executionTrade, executionTyped}
-use Rattle.messages.proofs.Listed.{execInstruction-listed, book-listed, liquidity-listed, tradeType-listed}
+use Rattle.messages.specs.Terms.{pricing_code, pricing_price, pricing_typed, target_code, target_instruction, scope_kept, scope_code, scope_symbol, scope_segment, scope_book, execution_code, execution_reject, execution_liquidity, execution_trade, execution_typed}
+use Rattle.messages.proofs.Listed.{exec_instruction-listed, book-listed, liquidity-listed, trade_type-listed}
 
-pub pricing-listed : (p : Pricing) → taken (pricingCode p) (listed list.OrderTypes) ≡ true
+pub pricing-listed : (p : Pricing) → taken (pricing_code p) (listed list.OrderTypes) ≡ true
 unfolding taken
 pricing-listed Market = refl
 pricing-listed (Limit p) = refl
 
-pub pricing-holds : (p : Pricing) → pricingTyped p → If (taken (pricingCode p) (listed list.LimitOnly)) (HoldsForm form.Price (pricingPrice p)) (pricingPrice p ≡ nothing)
+pub pricing-holds : (p : Pricing) → pricing_typed p → If (taken (pricing_code p) (listed list.LimitOnly)) (HoldsForm form.Price (pricing_price p)) (pricing_price p ≡ nothing)
 unfolding taken
 pricing-holds Market t = refl
 pricing-holds (Limit p) t = (refl, t)
 
-pub target-listed : (t : Target) → taken (targetCode t) (listed list.Books) ≡ true
+pub target-listed : (t : Target) → taken (target_code t) (listed list.Books) ≡ true
 unfolding taken
 target-listed (DarkMidpoint i) = refl
 target-listed Integrated = refl
 
-pub target-holds : (t : Target) → If (taken (targetCode t) (listed list.DarkOnly)) (HoldsForm (form.Code list.ExecInstructions) (targetInstruction t)) (targetInstruction t ≡ nothing)
+pub target-holds : (t : Target) → If (taken (target_code t) (listed list.DarkOnly)) (HoldsForm (form.Code list.ExecInstructions) (target_instruction t)) (target_instruction t ≡ nothing)
 unfolding taken
-target-holds (DarkMidpoint i) = (refl, execInstruction-listed i)
+target-holds (DarkMidpoint i) = (refl, exec_instruction-listed i)
 target-holds Integrated = refl
 
-pub scope-listed : (s : Scope (FixedText 6) (FixedText 4)) → taken (scopeCode (scopeKept s)) (listed list.MassCancelTypes) ≡ true
+pub scope-listed : (s : Scope (FixedText 6) (FixedText 4)) → taken (scope_code (scope_kept s)) (listed list.MassCancelTypes) ≡ true
 unfolding taken
 scope-listed (scope.FirmInstrument x b) = refl
 scope-listed (scope.FirmSegment x) = refl
@@ -49,7 +49,7 @@ scope-listed scope.Firm = refl
 scope-listed (scope.CompIdInstrument x b) = refl
 scope-listed (scope.CompIdSegment x) = refl
 
-pub scope-symbol : (s : Scope (FixedText 6) (FixedText 4)) → If (taken (scopeCode (scopeKept s)) (listed list.ByInstrument)) (HoldsForm (form.Text 6) (scopeSymbol (scopeKept s))) (scopeSymbol (scopeKept s) ≡ nothing)
+pub scope-symbol : (s : Scope (FixedText 6) (FixedText 4)) → If (taken (scope_code (scope_kept s)) (listed list.ByInstrument)) (HoldsForm (form.Text 6) (scope_symbol (scope_kept s))) (scope_symbol (scope_kept s) ≡ nothing)
 unfolding taken
 scope-symbol (scope.FirmInstrument x b) = (refl, said-short x, printable-said x.bytes)
 scope-symbol (scope.FirmSegment x) = refl
@@ -58,7 +58,7 @@ scope-symbol scope.Firm = refl
 scope-symbol (scope.CompIdInstrument x b) = (refl, said-short x, printable-said x.bytes)
 scope-symbol (scope.CompIdSegment x) = refl
 
-pub scope-segment : (s : Scope (FixedText 6) (FixedText 4)) → If (taken (scopeCode (scopeKept s)) (listed list.BySegment)) (HoldsForm (form.Text 4) (scopeSegment (scopeKept s))) (scopeSegment (scopeKept s) ≡ nothing)
+pub scope-segment : (s : Scope (FixedText 6) (FixedText 4)) → If (taken (scope_code (scope_kept s)) (listed list.BySegment)) (HoldsForm (form.Text 4) (scope_segment (scope_kept s))) (scope_segment (scope_kept s) ≡ nothing)
 unfolding taken
 scope-segment (scope.FirmInstrument x b) = refl
 scope-segment (scope.FirmSegment x) = (refl, said-short x, printable-said x.bytes)
@@ -67,7 +67,7 @@ scope-segment scope.Firm = refl
 scope-segment (scope.CompIdInstrument x b) = refl
 scope-segment (scope.CompIdSegment x) = (refl, said-short x, printable-said x.bytes)
 
-pub scope-book : (s : Scope (FixedText 6) (FixedText 4)) → If (taken (scopeCode (scopeKept s)) (listed list.ByInstrument)) (HoldsForm (form.Code list.Books) (scopeBook (scopeKept s))) (scopeBook (scopeKept s) ≡ nothing)
+pub scope-book : (s : Scope (FixedText 6) (FixedText 4)) → If (taken (scope_code (scope_kept s)) (listed list.ByInstrument)) (HoldsForm (form.Code list.Books) (scope_book (scope_kept s))) (scope_book (scope_kept s) ≡ nothing)
 unfolding taken
 scope-book (scope.FirmInstrument x b) = (refl, book-listed b)
 scope-book (scope.FirmSegment x) = refl
@@ -76,7 +76,7 @@ scope-book scope.Firm = refl
 scope-book (scope.CompIdInstrument x b) = (refl, book-listed b)
 scope-book (scope.CompIdSegment x) = refl
 
-pub execution-listed : (e : Execution) → taken (executionCode e) (listed list.ExecTypes) ≡ true
+pub execution-listed : (e : Execution) → taken (execution_code e) (listed list.ExecTypes) ≡ true
 unfolding taken
 execution-listed execution.Unspecified = refl
 execution-listed execution.New = refl
@@ -88,7 +88,7 @@ execution-listed execution.Restated = refl
 execution-listed (execution.Trade l k) = refl
 execution-listed (execution.TradeCancel l) = refl
 
-pub execution-reject : (e : Execution) → executionTyped e → If (taken (executionCode e) (listed list.RejectedOnly)) (HoldsForm form.Int32 (executionReject e)) (executionReject e ≡ nothing)
+pub execution-reject : (e : Execution) → execution_typed e → If (taken (execution_code e) (listed list.RejectedOnly)) (HoldsForm form.Int32 (execution_reject e)) (execution_reject e ≡ nothing)
 unfolding taken
 execution-reject execution.Unspecified t = refl
 execution-reject execution.New t = refl
@@ -100,7 +100,7 @@ execution-reject execution.Restated t = refl
 execution-reject (execution.Trade l k) t = refl
 execution-reject (execution.TradeCancel l) t = refl
 
-pub execution-liquidity : (e : Execution) → If (taken (executionCode e) (listed list.TradeOrCancel)) (HoldsForm (form.Code list.Liquidities) (executionLiquidity e)) (executionLiquidity e ≡ nothing)
+pub execution-liquidity : (e : Execution) → If (taken (execution_code e) (listed list.TradeOrCancel)) (HoldsForm (form.Code list.Liquidities) (execution_liquidity e)) (execution_liquidity e ≡ nothing)
 unfolding taken
 execution-liquidity execution.Unspecified = refl
 execution-liquidity execution.New = refl
@@ -112,7 +112,7 @@ execution-liquidity execution.Restated = refl
 execution-liquidity (execution.Trade l k) = (refl, liquidity-listed l)
 execution-liquidity (execution.TradeCancel l) = (refl, liquidity-listed l)
 
-pub execution-trade : (e : Execution) → If (taken (executionCode e) (listed list.TradeOnly)) (HoldsForm (form.Code list.TradeTypes) (executionTrade e)) (executionTrade e ≡ nothing)
+pub execution-trade : (e : Execution) → If (taken (execution_code e) (listed list.TradeOnly)) (HoldsForm (form.Code list.TradeTypes) (execution_trade e)) (execution_trade e ≡ nothing)
 unfolding taken
 execution-trade execution.Unspecified = refl
 execution-trade execution.New = refl
@@ -121,5 +121,5 @@ execution-trade execution.Replaced = refl
 execution-trade (execution.Rejected n) = refl
 execution-trade execution.Expired = refl
 execution-trade execution.Restated = refl
-execution-trade (execution.Trade l k) = (refl, tradeType-listed k)
+execution-trade (execution.Trade l k) = (refl, trade_type-listed k)
 execution-trade (execution.TradeCancel l) = refl

@@ -1,7 +1,7 @@
 -- Each value of an enum is one that its field lists. Assumes nothing.
 use Rattle.std.proofs.Common.{◌≡◌, true, refl}
 use Rattle.layout.specs.Layout.{taken}
-use Rattle.codes.specs.Order.{sideCode, sideCodes, orderTypeCode, orderTypeCodes, timeInForceCode, timeInForceCodes, clearingAccountCode, clearingAccountCodes, orderCapacityCode, orderCapacityCodes, autoCancelCode, autoCancelCodes, orderSubTypeCode, orderSubTypeCodes, bookCode, bookCodes, execInstructionCode, execInstructionCodes, passiveOnlyCode, passiveOnlyCodes, massCancelTypeCode, massCancelTypeCodes}
+use Rattle.codes.specs.Order.{side_code, side_codes, order_type_code, order_type_codes, time_in_force_code, time_in_force_codes, clearing_account_code, clearing_account_codes, order_capacity_code, order_capacity_codes, auto_cancel_code, auto_cancel_codes, order_sub_type_code, order_sub_type_codes, book_code, book_codes, exec_instruction_code, exec_instruction_codes, passive_only_code, passive_only_codes, mass_cancel_type_code, mass_cancel_type_codes}
 use Rattle.codes.specs.declared.order.Side.{Side}
 use Rattle.codes.specs.declared.order.Side.TheVariants as side
 use Rattle.codes.specs.declared.order.OrderType.{OrderType}
@@ -24,7 +24,7 @@ use Rattle.codes.specs.declared.order.PassiveOnly.{PassiveOnly}
 use Rattle.codes.specs.declared.order.PassiveOnly.TheVariants as passiveOnly
 use Rattle.codes.specs.declared.order.MassCancelType.{MassCancelType}
 use Rattle.codes.specs.declared.order.MassCancelType.TheVariants as massCancelType
-use Rattle.codes.specs.Session.{versionCode, versionCodes, partitionCode, partitionCodes, ackResponseCode, ackResponseCodes, reportResponseCode, reportResponseCodes}
+use Rattle.codes.specs.Session.{version_code, version_codes, partition_code, partition_codes, ack_response_code, ack_response_codes, report_response_code, report_response_codes}
 use Rattle.codes.specs.declared.session.Version.{Version}
 use Rattle.codes.specs.declared.session.Version.TheVariants as version
 use Rattle.codes.specs.declared.session.Partition.{Partition}
@@ -33,7 +33,7 @@ use Rattle.codes.specs.declared.session.AckResponse.{AckResponse}
 use Rattle.codes.specs.declared.session.AckResponse.TheVariants as ackResponse
 use Rattle.codes.specs.declared.session.ReportResponse.{ReportResponse}
 use Rattle.codes.specs.declared.session.ReportResponse.TheVariants as reportResponse
-use Rattle.codes.specs.Report.{execTypeCode, execTypeCodes, statusCode, statusCodes, liquidityCode, liquidityCodes, tradeTypeCode, tradeTypeCodes, capacityCode, capacityCodes, priceDifferentialCode, priceDifferentialCodes, massResponseCode, massResponseCodes}
+use Rattle.codes.specs.Report.{exec_type_code, exec_type_codes, status_code, status_codes, liquidity_code, liquidity_codes, trade_type_code, trade_type_codes, capacity_code, capacity_codes, price_differential_code, price_differential_codes, mass_response_code, mass_response_codes}
 use Rattle.codes.specs.declared.report.ExecType.{ExecType}
 use Rattle.codes.specs.declared.report.ExecType.TheVariants as execType
 use Rattle.codes.specs.declared.report.Status.{Status}
@@ -49,85 +49,85 @@ use Rattle.codes.specs.declared.report.PriceDifferential.TheVariants as priceDif
 use Rattle.codes.specs.declared.report.MassResponse.{MassResponse}
 use Rattle.codes.specs.declared.report.MassResponse.TheVariants as massResponse
 
-pub side-listed : (x : Side) → taken (sideCode x) sideCodes ≡ true
+pub side-listed : (x : Side) → taken (side_code x) side_codes ≡ true
 unfolding taken
 side-listed side.Buy = refl
 side-listed side.Sell = refl
 
-pub timeInForce-listed : (x : TimeInForce) → taken (timeInForceCode x) timeInForceCodes ≡ true
+pub time_in_force-listed : (x : TimeInForce) → taken (time_in_force_code x) time_in_force_codes ≡ true
 unfolding taken
-timeInForce-listed timeInForce.Day = refl
-timeInForce-listed timeInForce.GoodTillCancel = refl
-timeInForce-listed timeInForce.ImmediateOrCancel = refl
-timeInForce-listed timeInForce.FillOrKill = refl
-timeInForce-listed timeInForce.GoodTillDate = refl
-timeInForce-listed timeInForce.GoodTillTime = refl
+time_in_force-listed timeInForce.Day = refl
+time_in_force-listed timeInForce.GoodTillCancel = refl
+time_in_force-listed timeInForce.ImmediateOrCancel = refl
+time_in_force-listed timeInForce.FillOrKill = refl
+time_in_force-listed timeInForce.GoodTillDate = refl
+time_in_force-listed timeInForce.GoodTillTime = refl
 
-pub clearingAccount-listed : (x : ClearingAccount) → taken (clearingAccountCode x) clearingAccountCodes ≡ true
+pub clearing_account-listed : (x : ClearingAccount) → taken (clearing_account_code x) clearing_account_codes ≡ true
 unfolding taken
-clearingAccount-listed clearingAccount.Client = refl
-clearingAccount-listed clearingAccount.House = refl
+clearing_account-listed clearingAccount.Client = refl
+clearing_account-listed clearingAccount.House = refl
 
-pub orderCapacity-listed : (x : OrderCapacity) → taken (orderCapacityCode x) orderCapacityCodes ≡ true
+pub order_capacity-listed : (x : OrderCapacity) → taken (order_capacity_code x) order_capacity_codes ≡ true
 unfolding taken
-orderCapacity-listed orderCapacity.RisklessPrincipal = refl
-orderCapacity-listed orderCapacity.Principal = refl
-orderCapacity-listed orderCapacity.Agency = refl
-orderCapacity-listed orderCapacity.CfdGiveUp = refl
+order_capacity-listed orderCapacity.RisklessPrincipal = refl
+order_capacity-listed orderCapacity.Principal = refl
+order_capacity-listed orderCapacity.Agency = refl
+order_capacity-listed orderCapacity.CfdGiveUp = refl
 
-pub autoCancel-listed : (x : AutoCancel) → taken (autoCancelCode x) autoCancelCodes ≡ true
+pub auto_cancel-listed : (x : AutoCancel) → taken (auto_cancel_code x) auto_cancel_codes ≡ true
 unfolding taken
-autoCancel-listed autoCancel.Keep = refl
-autoCancel-listed autoCancel.AsConfigured = refl
+auto_cancel-listed autoCancel.Keep = refl
+auto_cancel-listed autoCancel.AsConfigured = refl
 
-pub orderSubType-listed : (x : OrderSubType) → taken (orderSubTypeCode x) orderSubTypeCodes ≡ true
+pub order_sub_type-listed : (x : OrderSubType) → taken (order_sub_type_code x) order_sub_type_codes ≡ true
 unfolding taken
-orderSubType-listed orderSubType.Order = refl
+order_sub_type-listed orderSubType.Order = refl
 
-pub book-listed : (x : Book) → taken (bookCode x) bookCodes ≡ true
+pub book-listed : (x : Book) → taken (book_code x) book_codes ≡ true
 unfolding taken
 book-listed book.DarkMidpoint = refl
 book-listed book.Integrated = refl
 
-pub execInstruction-listed : (x : ExecInstruction) → taken (execInstructionCode x) execInstructionCodes ≡ true
+pub exec_instruction-listed : (x : ExecInstruction) → taken (exec_instruction_code x) exec_instruction_codes ≡ true
 unfolding taken
-execInstruction-listed execInstruction.ContinuousAndPeriodic = refl
-execInstruction-listed execInstruction.PeriodicOnly = refl
-execInstruction-listed execInstruction.ContinuousOnly = refl
+exec_instruction-listed execInstruction.ContinuousAndPeriodic = refl
+exec_instruction-listed execInstruction.PeriodicOnly = refl
+exec_instruction-listed execInstruction.ContinuousOnly = refl
 
-pub passiveOnly-listed : (x : PassiveOnly) → taken (passiveOnlyCode x) passiveOnlyCodes ≡ true
+pub passive_only-listed : (x : PassiveOnly) → taken (passive_only_code x) passive_only_codes ≡ true
 unfolding taken
-passiveOnly-listed passiveOnly.NoConstraint = refl
-passiveOnly-listed passiveOnly.SetOrJoinBest = refl
-passiveOnly-listed passiveOnly.WithinOnePoint = refl
-passiveOnly-listed passiveOnly.WithinTwoPoints = refl
-passiveOnly-listed passiveOnly.RestOnEntry = refl
-passiveOnly-listed passiveOnly.SetBest = refl
+passive_only-listed passiveOnly.NoConstraint = refl
+passive_only-listed passiveOnly.SetOrJoinBest = refl
+passive_only-listed passiveOnly.WithinOnePoint = refl
+passive_only-listed passiveOnly.WithinTwoPoints = refl
+passive_only-listed passiveOnly.RestOnEntry = refl
+passive_only-listed passiveOnly.SetBest = refl
 
-pub version-listed : (x : Version) → taken (versionCode x) versionCodes ≡ true
+pub version-listed : (x : Version) → taken (version_code x) version_codes ≡ true
 unfolding taken
 version-listed version.One = refl
 
-pub partition-listed : (x : Partition) → taken (partitionCode x) partitionCodes ≡ true
+pub partition-listed : (x : Partition) → taken (partition_code x) partition_codes ≡ true
 unfolding taken
 partition-listed partition.One = refl
 partition-listed partition.Two = refl
 partition-listed partition.Three = refl
 
-pub ackResponse-listed : (x : AckResponse) → taken (ackResponseCode x) ackResponseCodes ≡ true
+pub ack_response-listed : (x : AckResponse) → taken (ack_response_code x) ack_response_codes ≡ true
 unfolding taken
-ackResponse-listed ackResponse.Successful = refl
-ackResponse-listed ackResponse.LimitReached = refl
-ackResponse-listed ackResponse.InvalidAppId = refl
-ackResponse-listed ackResponse.ServiceUnavailable = refl
+ack_response-listed ackResponse.Successful = refl
+ack_response-listed ackResponse.LimitReached = refl
+ack_response-listed ackResponse.InvalidAppId = refl
+ack_response-listed ackResponse.ServiceUnavailable = refl
 
-pub reportResponse-listed : (x : ReportResponse) → taken (reportResponseCode x) reportResponseCodes ≡ true
+pub report_response-listed : (x : ReportResponse) → taken (report_response_code x) report_response_codes ≡ true
 unfolding taken
-reportResponse-listed reportResponse.Complete = refl
-reportResponse-listed reportResponse.MessageLimit = refl
-reportResponse-listed reportResponse.ServiceUnavailable = refl
+report_response-listed reportResponse.Complete = refl
+report_response-listed reportResponse.MessageLimit = refl
+report_response-listed reportResponse.ServiceUnavailable = refl
 
-pub status-listed : (x : Status) → taken (statusCode x) statusCodes ≡ true
+pub status-listed : (x : Status) → taken (status_code x) status_codes ≡ true
 unfolding taken
 status-listed status.New = refl
 status-listed status.PartiallyFilled = refl
@@ -136,41 +136,41 @@ status-listed status.Cancelled = refl
 status-listed status.Expired = refl
 status-listed status.Rejected = refl
 
-pub liquidity-listed : (x : Liquidity) → taken (liquidityCode x) liquidityCodes ≡ true
+pub liquidity-listed : (x : Liquidity) → taken (liquidity_code x) liquidity_codes ≡ true
 unfolding taken
 liquidity-listed liquidity.Unspecified = refl
 liquidity-listed liquidity.Added = refl
 liquidity-listed liquidity.Uncrossing = refl
 liquidity-listed liquidity.Removed = refl
 
-pub tradeType-listed : (x : TradeType) → taken (tradeTypeCode x) tradeTypeCodes ≡ true
+pub trade_type-listed : (x : TradeType) → taken (trade_type_code x) trade_type_codes ≡ true
 unfolding taken
-tradeType-listed tradeType.Visible = refl
-tradeType-listed tradeType.Hidden = refl
+trade_type-listed tradeType.Visible = refl
+trade_type-listed tradeType.Hidden = refl
 
-pub capacity-listed : (x : Capacity) → taken (capacityCode x) capacityCodes ≡ true
+pub capacity-listed : (x : Capacity) → taken (capacity_code x) capacity_codes ≡ true
 unfolding taken
 capacity-listed capacity.RisklessPrincipal = refl
 capacity-listed capacity.Principal = refl
 capacity-listed capacity.Agency = refl
 
-pub priceDifferential-listed : (x : PriceDifferential) → taken (priceDifferentialCode x) priceDifferentialCodes ≡ true
+pub price_differential-listed : (x : PriceDifferential) → taken (price_differential_code x) price_differential_codes ≡ true
 unfolding taken
-priceDifferential-listed priceDifferential.Unspecified = refl
-priceDifferential-listed priceDifferential.JoinBest = refl
-priceDifferential-listed priceDifferential.Second = refl
-priceDifferential-listed priceDifferential.Third = refl
-priceDifferential-listed priceDifferential.Fourth = refl
-priceDifferential-listed priceDifferential.Fifth = refl
-priceDifferential-listed priceDifferential.Sixth = refl
-priceDifferential-listed priceDifferential.Seventh = refl
-priceDifferential-listed priceDifferential.Eighth = refl
-priceDifferential-listed priceDifferential.NinthOrWorse = refl
-priceDifferential-listed priceDifferential.Aggressive = refl
-priceDifferential-listed priceDifferential.NewBest = refl
-priceDifferential-listed priceDifferential.Passive = refl
+price_differential-listed priceDifferential.Unspecified = refl
+price_differential-listed priceDifferential.JoinBest = refl
+price_differential-listed priceDifferential.Second = refl
+price_differential-listed priceDifferential.Third = refl
+price_differential-listed priceDifferential.Fourth = refl
+price_differential-listed priceDifferential.Fifth = refl
+price_differential-listed priceDifferential.Sixth = refl
+price_differential-listed priceDifferential.Seventh = refl
+price_differential-listed priceDifferential.Eighth = refl
+price_differential-listed priceDifferential.NinthOrWorse = refl
+price_differential-listed priceDifferential.Aggressive = refl
+price_differential-listed priceDifferential.NewBest = refl
+price_differential-listed priceDifferential.Passive = refl
 
-pub massResponse-listed : (x : MassResponse) → taken (massResponseCode x) massResponseCodes ≡ true
+pub mass_response-listed : (x : MassResponse) → taken (mass_response_code x) mass_response_codes ≡ true
 unfolding taken
-massResponse-listed massResponse.Rejected = refl
-massResponse-listed massResponse.Accepted = refl
+mass_response-listed massResponse.Rejected = refl
+mass_response-listed massResponse.Accepted = refl

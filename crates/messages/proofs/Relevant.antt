@@ -5,7 +5,7 @@ use Rattle.codes.specs.Lists.{listed}
 use Rattle.texts.specs.Bytes.{le}
 use Rattle.layout.specs.declared.field.Form.{Form}
 use Rattle.layout.specs.declared.field.Field.TheVariants.{When}
-use Rattle.layout.specs.Layout.{Content, part, wide, taken, okForm, content, ok, got}
+use Rattle.layout.specs.Layout.{Content, part, wide, taken, ok_form, content, ok, got}
 use Rattle.layout.specs.Layout.Content.{nothing}
 
 pub unheld : (bs : List ℕ) (at : ℕ) (f : Form) (other : ℕ) (cs : Codes) (k : ℕ) → k ≡ le (part other 1 bs) → taken k (listed cs) ≡ false → nothing ≡ got bs (When at f other cs)
@@ -18,7 +18,7 @@ held bs at f other cs k x e t h =
     let t' : taken (le (part other 1 bs)) (listed cs) ≡ true = ap (λ n. taken n (listed cs)) (sym e) ∙ t in
     rw t' h
 
-pub ok-held : (bs : List ℕ) (at : ℕ) (f : Form) (other : ℕ) (cs : Codes) (k : ℕ) → k ≡ le (part other 1 bs) → taken k (listed cs) ≡ true → ok bs (When at f other cs) ≡ true → okForm f (part at (wide f) bs) ≡ true
+pub ok-held : (bs : List ℕ) (at : ℕ) (f : Form) (other : ℕ) (cs : Codes) (k : ℕ) → k ≡ le (part other 1 bs) → taken k (listed cs) ≡ true → ok bs (When at f other cs) ≡ true → ok_form f (part at (wide f) bs) ≡ true
 ok-held bs at f other cs k e t h =
     let t' : taken (le (part other 1 bs)) (listed cs) ≡ true = ap (λ n. taken n (listed cs)) (sym e) ∙ t in
     rw t' at h

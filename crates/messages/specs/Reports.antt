@@ -2,9 +2,9 @@
 use Rattle.std.specs.Prelude.{ℕ, ◌<◌, List, [], ◌∷◌, FitsSigned}
 use Rattle.std.specs.Int.{w32, w64}
 use Rattle.codes.specs.declared.lists.Codes.TheVariants as c
-use Rattle.codes.specs.Order.{bookCode, sideCode}
-use Rattle.codes.specs.Report.{capacityCode, massResponseCode, priceDifferentialCode, statusCode}
-use Rattle.codes.specs.Session.{partitionCode}
+use Rattle.codes.specs.Order.{book_code, side_code}
+use Rattle.codes.specs.Report.{capacity_code, mass_response_code, price_differential_code, status_code}
+use Rattle.codes.specs.Session.{partition_code}
 use Rattle.texts.specs.Bytes.{said}
 use Rattle.texts.specs.declared.values.Text.{Text}
 use Rattle.texts.specs.declared.fixed.FixedText.{FixedText}
@@ -16,11 +16,11 @@ use Rattle.messages.specs.declared.reports.OrderCancelReject.{OrderCancelReject}
 use Rattle.messages.specs.declared.reports.OrderMassCancelReport.{OrderMassCancelReport}
 use Rattle.layout.specs.Layout.{Content}
 use Rattle.layout.specs.Layout.Content.{words, figure, int32, price, clock, nothing}
-use Rattle.messages.specs.Terms.{executionTyped, executionCode, executionReject, executionLiquidity, executionTrade}
+use Rattle.messages.specs.Terms.{execution_typed, execution_code, execution_reject, execution_liquidity, execution_trade}
 
 -- what became of an order
-abbrev pub executionReport : List Field
-executionReport =
+abbrev pub execution_report : List Field
+execution_report =
     Always 4 (f.Code c.Partitions)
     ∷ Always 5 f.Int32
     ∷ Always 9 (f.Text 12)
@@ -49,52 +49,52 @@ executionReport =
     ∷ Always 139 (f.Reserved 6)
     ∷ []
 
-abbrev pub executionReportSays : {I C S F : Type 0} → (I → List ℕ) → (C → List ℕ) → (S → List ℕ) → (F → List ℕ) → ExecutionReport I C S F → ExecutionReport (List ℕ) (List ℕ) (List ℕ) (List ℕ)
-executionReportSays i c s f m =
+abbrev pub execution_report_says : {I C S F : Type 0} → (I → List ℕ) → (C → List ℕ) → (S → List ℕ) → (F → List ℕ) → ExecutionReport I C S F → ExecutionReport (List ℕ) (List ℕ) (List ℕ) (List ℕ)
+execution_report_says i c s f m =
     record { partition = m.partition; sequence = m.sequence; execution_id = i m.execution_id; client_order_id = c m.client_order_id; order_id = i m.order_id; execution = m.execution; reference_id = i m.reference_id; status = m.status; executed_price = m.executed_price; executed_quantity = m.executed_quantity; leaves_quantity = m.leaves_quantity; display_quantity = m.display_quantity; symbol = s m.symbol; side = m.side; secondary_order_id = m.secondary_order_id; counterparty = f m.counterparty; trade_match_id = m.trade_match_id; transact_time = m.transact_time; book = m.book; capacity = m.capacity; price_differential = m.price_differential }
 
-abbrev pub executionReportHeard : ExecutionReport Text Text Text Text → ExecutionReport (List ℕ) (List ℕ) (List ℕ) (List ℕ)
-executionReportHeard m = executionReportSays (λ t. t.bytes.now) (λ t. t.bytes.now) (λ t. t.bytes.now) (λ t. t.bytes.now) m
+abbrev pub execution_report_heard : ExecutionReport Text Text Text Text → ExecutionReport (List ℕ) (List ℕ) (List ℕ) (List ℕ)
+execution_report_heard m = execution_report_says (λ t. t.bytes.now) (λ t. t.bytes.now) (λ t. t.bytes.now) (λ t. t.bytes.now) m
 
-abbrev pub executionReportKept : ExecutionReport (FixedText 12) (FixedText 20) (FixedText 6) (FixedText 11) → ExecutionReport (List ℕ) (List ℕ) (List ℕ) (List ℕ)
-executionReportKept m = executionReportSays (λ t. said t.bytes) (λ t. said t.bytes) (λ t. said t.bytes) (λ t. said t.bytes) m
+abbrev pub execution_report_kept : ExecutionReport (FixedText 12) (FixedText 20) (FixedText 6) (FixedText 11) → ExecutionReport (List ℕ) (List ℕ) (List ℕ) (List ℕ)
+execution_report_kept m = execution_report_says (λ t. said t.bytes) (λ t. said t.bytes) (λ t. said t.bytes) (λ t. said t.bytes) m
 
-abbrev pub executionReportContents : ExecutionReport (List ℕ) (List ℕ) (List ℕ) (List ℕ) → List Content
-executionReportContents m =
-    figure (partitionCode m.partition)
+abbrev pub execution_report_contents : ExecutionReport (List ℕ) (List ℕ) (List ℕ) (List ℕ) → List Content
+execution_report_contents m =
+    figure (partition_code m.partition)
     ∷ int32 m.sequence
     ∷ words m.execution_id
     ∷ words m.client_order_id
     ∷ words m.order_id
-    ∷ figure (executionCode m.execution)
+    ∷ figure (execution_code m.execution)
     ∷ words m.reference_id
-    ∷ figure (statusCode m.status)
-    ∷ executionReject m.execution
+    ∷ figure (status_code m.status)
+    ∷ execution_reject m.execution
     ∷ price m.executed_price.raw
     ∷ int32 m.executed_quantity
     ∷ int32 m.leaves_quantity
     ∷ nothing
     ∷ int32 m.display_quantity
     ∷ words m.symbol
-    ∷ figure (sideCode m.side)
+    ∷ figure (side_code m.side)
     ∷ figure m.secondary_order_id
     ∷ words m.counterparty
-    ∷ executionLiquidity m.execution
+    ∷ execution_liquidity m.execution
     ∷ figure m.trade_match_id
     ∷ clock m.transact_time.seconds m.transact_time.microseconds
-    ∷ figure (bookCode m.book)
-    ∷ executionTrade m.execution
-    ∷ figure (capacityCode m.capacity)
-    ∷ figure (priceDifferentialCode m.price_differential)
+    ∷ figure (book_code m.book)
+    ∷ execution_trade m.execution
+    ∷ figure (capacity_code m.capacity)
+    ∷ figure (price_differential_code m.price_differential)
     ∷ nothing
     ∷ []
 
-abbrev pub executionReportPlaces : ExecutionReport Text Text Text Text → List ℕ
-executionReportPlaces m = m.execution_id.offset ∷ m.client_order_id.offset ∷ m.order_id.offset ∷ m.reference_id.offset ∷ m.symbol.offset ∷ m.counterparty.offset ∷ []
+abbrev pub execution_report_places : ExecutionReport Text Text Text Text → List ℕ
+execution_report_places m = m.execution_id.offset ∷ m.client_order_id.offset ∷ m.order_id.offset ∷ m.reference_id.offset ∷ m.symbol.offset ∷ m.counterparty.offset ∷ []
 
 -- a cancel or a replacement that was refused
-abbrev pub orderCancelReject : List Field
-orderCancelReject =
+abbrev pub order_cancel_reject : List Field
+order_cancel_reject =
     Always 4 (f.Code c.Partitions)
     ∷ Always 5 f.Int32
     ∷ Always 9 (f.Text 20)
@@ -104,19 +104,19 @@ orderCancelReject =
     ∷ Always 53 (f.Reserved 10)
     ∷ []
 
-abbrev pub orderCancelRejectSays : {C I : Type 0} → (C → List ℕ) → (I → List ℕ) → OrderCancelReject C I → OrderCancelReject (List ℕ) (List ℕ)
-orderCancelRejectSays c i m =
+abbrev pub order_cancel_reject_says : {C I : Type 0} → (C → List ℕ) → (I → List ℕ) → OrderCancelReject C I → OrderCancelReject (List ℕ) (List ℕ)
+order_cancel_reject_says c i m =
     record { partition = m.partition; sequence = m.sequence; client_order_id = c m.client_order_id; order_id = i m.order_id; reason = m.reason; transact_time = m.transact_time }
 
-abbrev pub orderCancelRejectHeard : OrderCancelReject Text Text → OrderCancelReject (List ℕ) (List ℕ)
-orderCancelRejectHeard m = orderCancelRejectSays (λ t. t.bytes.now) (λ t. t.bytes.now) m
+abbrev pub order_cancel_reject_heard : OrderCancelReject Text Text → OrderCancelReject (List ℕ) (List ℕ)
+order_cancel_reject_heard m = order_cancel_reject_says (λ t. t.bytes.now) (λ t. t.bytes.now) m
 
-abbrev pub orderCancelRejectKept : OrderCancelReject (FixedText 20) (FixedText 12) → OrderCancelReject (List ℕ) (List ℕ)
-orderCancelRejectKept m = orderCancelRejectSays (λ t. said t.bytes) (λ t. said t.bytes) m
+abbrev pub order_cancel_reject_kept : OrderCancelReject (FixedText 20) (FixedText 12) → OrderCancelReject (List ℕ) (List ℕ)
+order_cancel_reject_kept m = order_cancel_reject_says (λ t. said t.bytes) (λ t. said t.bytes) m
 
-abbrev pub orderCancelRejectContents : OrderCancelReject (List ℕ) (List ℕ) → List Content
-orderCancelRejectContents m =
-    figure (partitionCode m.partition)
+abbrev pub order_cancel_reject_contents : OrderCancelReject (List ℕ) (List ℕ) → List Content
+order_cancel_reject_contents m =
+    figure (partition_code m.partition)
     ∷ int32 m.sequence
     ∷ words m.client_order_id
     ∷ words m.order_id
@@ -125,12 +125,12 @@ orderCancelRejectContents m =
     ∷ nothing
     ∷ []
 
-abbrev pub orderCancelRejectPlaces : OrderCancelReject Text Text → List ℕ
-orderCancelRejectPlaces m = m.client_order_id.offset ∷ m.order_id.offset ∷ []
+abbrev pub order_cancel_reject_places : OrderCancelReject Text Text → List ℕ
+order_cancel_reject_places m = m.client_order_id.offset ∷ m.order_id.offset ∷ []
 
 -- whether a mass cancel was accepted
-abbrev pub orderMassCancelReport : List Field
-orderMassCancelReport =
+abbrev pub order_mass_cancel_report : List Field
+order_mass_cancel_report =
     Always 4 (f.Code c.Partitions)
     ∷ Always 5 f.Int32
     ∷ Always 9 (f.Text 20)
@@ -141,36 +141,36 @@ orderMassCancelReport =
     ∷ Always 46 (f.Reserved 10)
     ∷ []
 
-abbrev pub orderMassCancelReportSays : {C : Type 0} → (C → List ℕ) → OrderMassCancelReport C → OrderMassCancelReport (List ℕ)
-orderMassCancelReportSays c m =
+abbrev pub order_mass_cancel_report_says : {C : Type 0} → (C → List ℕ) → OrderMassCancelReport C → OrderMassCancelReport (List ℕ)
+order_mass_cancel_report_says c m =
     record { partition = m.partition; sequence = m.sequence; client_order_id = c m.client_order_id; response = m.response; reason = m.reason; transact_time = m.transact_time }
 
-abbrev pub orderMassCancelReportHeard : OrderMassCancelReport Text → OrderMassCancelReport (List ℕ)
-orderMassCancelReportHeard m = orderMassCancelReportSays (λ t. t.bytes.now) m
+abbrev pub order_mass_cancel_report_heard : OrderMassCancelReport Text → OrderMassCancelReport (List ℕ)
+order_mass_cancel_report_heard m = order_mass_cancel_report_says (λ t. t.bytes.now) m
 
-abbrev pub orderMassCancelReportKept : OrderMassCancelReport (FixedText 20) → OrderMassCancelReport (List ℕ)
-orderMassCancelReportKept m = orderMassCancelReportSays (λ t. said t.bytes) m
+abbrev pub order_mass_cancel_report_kept : OrderMassCancelReport (FixedText 20) → OrderMassCancelReport (List ℕ)
+order_mass_cancel_report_kept m = order_mass_cancel_report_says (λ t. said t.bytes) m
 
-abbrev pub orderMassCancelReportContents : OrderMassCancelReport (List ℕ) → List Content
-orderMassCancelReportContents m =
-    figure (partitionCode m.partition)
+abbrev pub order_mass_cancel_report_contents : OrderMassCancelReport (List ℕ) → List Content
+order_mass_cancel_report_contents m =
+    figure (partition_code m.partition)
     ∷ int32 m.sequence
     ∷ words m.client_order_id
-    ∷ figure (massResponseCode m.response)
+    ∷ figure (mass_response_code m.response)
     ∷ int32 m.reason
     ∷ nothing
     ∷ clock m.transact_time.seconds m.transact_time.microseconds
     ∷ nothing
     ∷ []
 
-abbrev pub orderMassCancelReportPlaces : OrderMassCancelReport Text → List ℕ
-orderMassCancelReportPlaces m = m.client_order_id.offset ∷ []
+abbrev pub order_mass_cancel_report_places : OrderMassCancelReport Text → List ℕ
+order_mass_cancel_report_places m = m.client_order_id.offset ∷ []
 
 -- its numbers fit their types
-abbrev pub executionReportTyped : ExecutionReport (List ℕ) (List ℕ) (List ℕ) (List ℕ) → Type 0
-executionReportTyped m =
+abbrev pub execution_report_typed : ExecutionReport (List ℕ) (List ℕ) (List ℕ) (List ℕ) → Type 0
+execution_report_typed m =
     FitsSigned w32 m.sequence
-    × executionTyped m.execution
+    × execution_typed m.execution
     × FitsSigned w64 m.executed_price.raw
     × FitsSigned w32 m.executed_quantity
     × FitsSigned w32 m.leaves_quantity
@@ -180,15 +180,15 @@ executionReportTyped m =
     × (m.transact_time.seconds < 4294967296) × (m.transact_time.microseconds < 4294967296)
 
 -- its numbers fit their types
-abbrev pub orderCancelRejectTyped : OrderCancelReject (List ℕ) (List ℕ) → Type 0
-orderCancelRejectTyped m =
+abbrev pub order_cancel_reject_typed : OrderCancelReject (List ℕ) (List ℕ) → Type 0
+order_cancel_reject_typed m =
     FitsSigned w32 m.sequence
     × FitsSigned w32 m.reason
     × (m.transact_time.seconds < 4294967296) × (m.transact_time.microseconds < 4294967296)
 
 -- its numbers fit their types
-abbrev pub orderMassCancelReportTyped : OrderMassCancelReport (List ℕ) → Type 0
-orderMassCancelReportTyped m =
+abbrev pub order_mass_cancel_report_typed : OrderMassCancelReport (List ℕ) → Type 0
+order_mass_cancel_report_typed m =
     FitsSigned w32 m.sequence
     × FitsSigned w32 m.reason
     × (m.transact_time.seconds < 4294967296) × (m.transact_time.microseconds < 4294967296)

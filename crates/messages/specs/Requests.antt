@@ -4,7 +4,7 @@ use Rattle.std.specs.Int.{w32, w64}
 use Rattle.layout.specs.Holding.{Below}
 use Rattle.std.specs.Option.{option_map}
 use Rattle.codes.specs.declared.lists.Codes.TheVariants as c
-use Rattle.codes.specs.Order.{autoCancelCode, bookCode, clearingAccountCode, orderCapacityCode, orderSubTypeCode, passiveOnlyCode, sideCode, timeInForceCode}
+use Rattle.codes.specs.Order.{auto_cancel_code, book_code, clearing_account_code, order_capacity_code, order_sub_type_code, passive_only_code, side_code, time_in_force_code}
 use Rattle.texts.specs.Bytes.{said}
 use Rattle.texts.specs.declared.values.Text.{Text}
 use Rattle.texts.specs.declared.fixed.FixedText.{FixedText}
@@ -20,11 +20,11 @@ use Rattle.messages.specs.declared.requests.OwnedMassCancelRequest.{OwnedMassCan
 use Rattle.messages.specs.declared.terms.Scope.{Scope}
 use Rattle.layout.specs.Layout.{Content}
 use Rattle.layout.specs.Layout.Content.{words, order, figure, int32, price, nothing}
-use Rattle.messages.specs.Terms.{pricingCode, pricingPrice, pricingTyped, targetCode, targetInstruction, scopeHeard, scopeKept, scopeCode, scopeSymbol, scopeSegment, scopeBook, scopePlaces}
+use Rattle.messages.specs.Terms.{pricing_code, pricing_price, pricing_typed, target_code, target_instruction, scope_heard, scope_kept, scope_code, scope_symbol, scope_segment, scope_book, scope_places}
 
 -- a new order
-abbrev pub newOrder : List Field
-newOrder =
+abbrev pub new_order : List Field
+new_order =
     Always 4 (f.Name 20)
     ∷ Always 24 (f.Text 11)
     ∷ Always 35 (f.Text 10)
@@ -48,47 +48,47 @@ newOrder =
     ∷ Always 96 (f.Code c.PassiveOnlys)
     ∷ []
 
-abbrev pub newOrderSays : {C T A S : Type 0} → (C → List ℕ) → (T → List ℕ) → (A → List ℕ) → (S → List ℕ) → NewOrder C T A S → NewOrder (List ℕ) (List ℕ) (List ℕ) (List ℕ)
-newOrderSays c t a s m =
+abbrev pub new_order_says : {C T A S : Type 0} → (C → List ℕ) → (T → List ℕ) → (A → List ℕ) → (S → List ℕ) → NewOrder C T A S → NewOrder (List ℕ) (List ℕ) (List ℕ) (List ℕ)
+new_order_says c t a s m =
     record { client_order_id = c m.client_order_id; trader_id = t m.trader_id; account = a m.account; clearing_account = m.clearing_account; symbol = s m.symbol; pricing = m.pricing; time_in_force = m.time_in_force; expire_time = m.expire_time; side = m.side; quantity = m.quantity; display_quantity = m.display_quantity; capacity = m.capacity; auto_cancel = m.auto_cancel; sub_type = m.sub_type; target = m.target; min_quantity = m.min_quantity; passive_only = m.passive_only }
 
-abbrev pub newOrderHeard : NewOrder Text Text Text Text → NewOrder (List ℕ) (List ℕ) (List ℕ) (List ℕ)
-newOrderHeard m = newOrderSays (λ t. t.bytes.now) (λ t. t.bytes.now) (λ t. t.bytes.now) (λ t. t.bytes.now) m
+abbrev pub new_order_heard : NewOrder Text Text Text Text → NewOrder (List ℕ) (List ℕ) (List ℕ) (List ℕ)
+new_order_heard m = new_order_says (λ t. t.bytes.now) (λ t. t.bytes.now) (λ t. t.bytes.now) (λ t. t.bytes.now) m
 
-abbrev pub newOrderKept : NewOrder RequestId (FixedText 11) (FixedText 10) (FixedText 6) → NewOrder (List ℕ) (List ℕ) (List ℕ) (List ℕ)
-newOrderKept m = newOrderSays (λ t. said t.id.bytes) (λ t. said t.bytes) (λ t. said t.bytes) (λ t. said t.bytes) m
+abbrev pub new_order_kept : NewOrder RequestId (FixedText 11) (FixedText 10) (FixedText 6) → NewOrder (List ℕ) (List ℕ) (List ℕ) (List ℕ)
+new_order_kept m = new_order_says (λ t. said t.id.bytes) (λ t. said t.bytes) (λ t. said t.bytes) (λ t. said t.bytes) m
 
-abbrev pub newOrderContents : NewOrder (List ℕ) (List ℕ) (List ℕ) (List ℕ) → List Content
-newOrderContents m =
+abbrev pub new_order_contents : NewOrder (List ℕ) (List ℕ) (List ℕ) (List ℕ) → List Content
+new_order_contents m =
     words m.client_order_id
     ∷ words m.trader_id
     ∷ words m.account
-    ∷ figure (clearingAccountCode m.clearing_account)
+    ∷ figure (clearing_account_code m.clearing_account)
     ∷ words m.symbol
-    ∷ figure (pricingCode m.pricing)
-    ∷ figure (timeInForceCode m.time_in_force)
+    ∷ figure (pricing_code m.pricing)
+    ∷ figure (time_in_force_code m.time_in_force)
     ∷ figure m.expire_time
-    ∷ figure (sideCode m.side)
+    ∷ figure (side_code m.side)
     ∷ int32 m.quantity
     ∷ int32 m.display_quantity
-    ∷ pricingPrice m.pricing
-    ∷ figure (orderCapacityCode m.capacity)
-    ∷ figure (autoCancelCode m.auto_cancel)
-    ∷ figure (orderSubTypeCode m.sub_type)
+    ∷ pricing_price m.pricing
+    ∷ figure (order_capacity_code m.capacity)
+    ∷ figure (auto_cancel_code m.auto_cancel)
+    ∷ figure (order_sub_type_code m.sub_type)
     ∷ nothing
-    ∷ figure (targetCode m.target)
-    ∷ targetInstruction m.target
+    ∷ figure (target_code m.target)
+    ∷ target_instruction m.target
     ∷ int32 m.min_quantity
     ∷ nothing
-    ∷ figure (passiveOnlyCode m.passive_only)
+    ∷ figure (passive_only_code m.passive_only)
     ∷ []
 
-abbrev pub newOrderPlaces : NewOrder Text Text Text Text → List ℕ
-newOrderPlaces m = m.client_order_id.offset ∷ m.trader_id.offset ∷ m.account.offset ∷ m.symbol.offset ∷ []
+abbrev pub new_order_places : NewOrder Text Text Text Text → List ℕ
+new_order_places m = m.client_order_id.offset ∷ m.trader_id.offset ∷ m.account.offset ∷ m.symbol.offset ∷ []
 
 -- cancels an order, named by its Order ID or its current Client Order ID
-abbrev pub orderCancelRequest : List Field
-orderCancelRequest =
+abbrev pub order_cancel_request : List Field
+order_cancel_request =
     Always 4 (f.Name 20)
     ∷ Always 24 (f.Text 20)
     ∷ Always 44 f.Order
@@ -98,33 +98,33 @@ orderCancelRequest =
     ∷ Always 64 (f.Reserved 9)
     ∷ []
 
-abbrev pub orderCancelRequestSays : {C O S : Type 0} → (C → List ℕ) → (O → List ℕ) → (S → List ℕ) → OrderCancelRequest C O S → OrderCancelRequest (List ℕ) (List ℕ) (List ℕ)
-orderCancelRequestSays c o s m =
+abbrev pub order_cancel_request_says : {C O S : Type 0} → (C → List ℕ) → (O → List ℕ) → (S → List ℕ) → OrderCancelRequest C O S → OrderCancelRequest (List ℕ) (List ℕ) (List ℕ)
+order_cancel_request_says c o s m =
     record { client_order_id = c m.client_order_id; original_id = o m.original_id; order_id = m.order_id; symbol = s m.symbol; side = m.side; book = m.book }
 
-abbrev pub orderCancelRequestHeard : OrderCancelRequest Text Text Text → OrderCancelRequest (List ℕ) (List ℕ) (List ℕ)
-orderCancelRequestHeard m = orderCancelRequestSays (λ t. t.bytes.now) (λ t. t.bytes.now) (λ t. t.bytes.now) m
+abbrev pub order_cancel_request_heard : OrderCancelRequest Text Text Text → OrderCancelRequest (List ℕ) (List ℕ) (List ℕ)
+order_cancel_request_heard m = order_cancel_request_says (λ t. t.bytes.now) (λ t. t.bytes.now) (λ t. t.bytes.now) m
 
-abbrev pub orderCancelRequestKept : OrderCancelRequest RequestId (FixedText 20) (FixedText 6) → OrderCancelRequest (List ℕ) (List ℕ) (List ℕ)
-orderCancelRequestKept m = orderCancelRequestSays (λ t. said t.id.bytes) (λ t. said t.bytes) (λ t. said t.bytes) m
+abbrev pub order_cancel_request_kept : OrderCancelRequest RequestId (FixedText 20) (FixedText 6) → OrderCancelRequest (List ℕ) (List ℕ) (List ℕ)
+order_cancel_request_kept m = order_cancel_request_says (λ t. said t.id.bytes) (λ t. said t.bytes) (λ t. said t.bytes) m
 
-abbrev pub orderCancelRequestContents : OrderCancelRequest (List ℕ) (List ℕ) (List ℕ) → List Content
-orderCancelRequestContents m =
+abbrev pub order_cancel_request_contents : OrderCancelRequest (List ℕ) (List ℕ) (List ℕ) → List Content
+order_cancel_request_contents m =
     words m.client_order_id
     ∷ words m.original_id
     ∷ order (option_map (λ i. i.number) m.order_id)
     ∷ words m.symbol
-    ∷ figure (sideCode m.side)
-    ∷ figure (bookCode m.book)
+    ∷ figure (side_code m.side)
+    ∷ figure (book_code m.book)
     ∷ nothing
     ∷ []
 
-abbrev pub orderCancelRequestPlaces : OrderCancelRequest Text Text Text → List ℕ
-orderCancelRequestPlaces m = m.client_order_id.offset ∷ m.original_id.offset ∷ m.symbol.offset ∷ []
+abbrev pub order_cancel_request_places : OrderCancelRequest Text Text Text → List ℕ
+order_cancel_request_places m = m.client_order_id.offset ∷ m.original_id.offset ∷ m.symbol.offset ∷ []
 
 -- changes an order's quantity and price
-abbrev pub orderCancelReplaceRequest : List Field
-orderCancelReplaceRequest =
+abbrev pub order_cancel_replace_request : List Field
+order_cancel_replace_request =
     Always 4 (f.Name 20)
     ∷ Always 24 (f.Text 20)
     ∷ Always 44 f.Order
@@ -144,18 +144,18 @@ orderCancelReplaceRequest =
     ∷ Always 109 (f.Reserved 3)
     ∷ []
 
-abbrev pub orderCancelReplaceRequestSays : {C O S A : Type 0} → (C → List ℕ) → (O → List ℕ) → (S → List ℕ) → (A → List ℕ) → OrderCancelReplaceRequest C O S A → OrderCancelReplaceRequest (List ℕ) (List ℕ) (List ℕ) (List ℕ)
-orderCancelReplaceRequestSays c o s a m =
+abbrev pub order_cancel_replace_request_says : {C O S A : Type 0} → (C → List ℕ) → (O → List ℕ) → (S → List ℕ) → (A → List ℕ) → OrderCancelReplaceRequest C O S A → OrderCancelReplaceRequest (List ℕ) (List ℕ) (List ℕ) (List ℕ)
+order_cancel_replace_request_says c o s a m =
     record { client_order_id = c m.client_order_id; original_id = o m.original_id; order_id = m.order_id; symbol = s m.symbol; expire_time = m.expire_time; quantity = m.quantity; display_quantity = m.display_quantity; limit_price = m.limit_price; account = a m.account; time_in_force = m.time_in_force; side = m.side; target = m.target; min_quantity = m.min_quantity; passive_only = m.passive_only }
 
-abbrev pub orderCancelReplaceRequestHeard : OrderCancelReplaceRequest Text Text Text Text → OrderCancelReplaceRequest (List ℕ) (List ℕ) (List ℕ) (List ℕ)
-orderCancelReplaceRequestHeard m = orderCancelReplaceRequestSays (λ t. t.bytes.now) (λ t. t.bytes.now) (λ t. t.bytes.now) (λ t. t.bytes.now) m
+abbrev pub order_cancel_replace_request_heard : OrderCancelReplaceRequest Text Text Text Text → OrderCancelReplaceRequest (List ℕ) (List ℕ) (List ℕ) (List ℕ)
+order_cancel_replace_request_heard m = order_cancel_replace_request_says (λ t. t.bytes.now) (λ t. t.bytes.now) (λ t. t.bytes.now) (λ t. t.bytes.now) m
 
-abbrev pub orderCancelReplaceRequestKept : OrderCancelReplaceRequest RequestId (FixedText 20) (FixedText 6) (FixedText 10) → OrderCancelReplaceRequest (List ℕ) (List ℕ) (List ℕ) (List ℕ)
-orderCancelReplaceRequestKept m = orderCancelReplaceRequestSays (λ t. said t.id.bytes) (λ t. said t.bytes) (λ t. said t.bytes) (λ t. said t.bytes) m
+abbrev pub order_cancel_replace_request_kept : OrderCancelReplaceRequest RequestId (FixedText 20) (FixedText 6) (FixedText 10) → OrderCancelReplaceRequest (List ℕ) (List ℕ) (List ℕ) (List ℕ)
+order_cancel_replace_request_kept m = order_cancel_replace_request_says (λ t. said t.id.bytes) (λ t. said t.bytes) (λ t. said t.bytes) (λ t. said t.bytes) m
 
-abbrev pub orderCancelReplaceRequestContents : OrderCancelReplaceRequest (List ℕ) (List ℕ) (List ℕ) (List ℕ) → List Content
-orderCancelReplaceRequestContents m =
+abbrev pub order_cancel_replace_request_contents : OrderCancelReplaceRequest (List ℕ) (List ℕ) (List ℕ) (List ℕ) → List Content
+order_cancel_replace_request_contents m =
     words m.client_order_id
     ∷ words m.original_id
     ∷ order (option_map (λ i. i.number) m.order_id)
@@ -165,22 +165,22 @@ orderCancelReplaceRequestContents m =
     ∷ int32 m.display_quantity
     ∷ price m.limit_price.raw
     ∷ words m.account
-    ∷ figure (timeInForceCode m.time_in_force)
-    ∷ figure (sideCode m.side)
+    ∷ figure (time_in_force_code m.time_in_force)
+    ∷ figure (side_code m.side)
     ∷ nothing
-    ∷ figure (targetCode m.target)
-    ∷ targetInstruction m.target
+    ∷ figure (target_code m.target)
+    ∷ target_instruction m.target
     ∷ int32 m.min_quantity
-    ∷ figure (passiveOnlyCode m.passive_only)
+    ∷ figure (passive_only_code m.passive_only)
     ∷ nothing
     ∷ []
 
-abbrev pub orderCancelReplaceRequestPlaces : OrderCancelReplaceRequest Text Text Text Text → List ℕ
-orderCancelReplaceRequestPlaces m = m.client_order_id.offset ∷ m.original_id.offset ∷ m.symbol.offset ∷ m.account.offset ∷ []
+abbrev pub order_cancel_replace_request_places : OrderCancelReplaceRequest Text Text Text Text → List ℕ
+order_cancel_replace_request_places m = m.client_order_id.offset ∷ m.original_id.offset ∷ m.symbol.offset ∷ m.account.offset ∷ []
 
 -- cancels all orders of a firm or a CompID, or those of an instrument or a segment
-abbrev pub orderMassCancelRequest : List Field
-orderMassCancelRequest =
+abbrev pub order_mass_cancel_request : List Field
+order_mass_cancel_request =
     Always 4 (f.Name 20)
     ∷ Always 24 (f.Code c.MassCancelTypes)
     ∷ When 25 (f.Text 6) 24 c.ByInstrument
@@ -195,43 +195,43 @@ pub record MassCancelSaid : Type 0 where
   pub client_order_id : List ℕ
   pub scope : Scope (List ℕ) (List ℕ)
 
-abbrev pub orderMassCancelRequestHeard : OrderMassCancelRequest → MassCancelSaid
-orderMassCancelRequestHeard m = record { client_order_id = m.client_order_id.bytes.now; scope = scopeHeard m.scope }
+abbrev pub order_mass_cancel_request_heard : OrderMassCancelRequest → MassCancelSaid
+order_mass_cancel_request_heard m = record { client_order_id = m.client_order_id.bytes.now; scope = scope_heard m.scope }
 
-abbrev pub orderMassCancelRequestKept : OwnedMassCancelRequest → MassCancelSaid
-orderMassCancelRequestKept m = record { client_order_id = said m.client_order_id.id.bytes; scope = scopeKept m.scope }
+abbrev pub order_mass_cancel_request_kept : OwnedMassCancelRequest → MassCancelSaid
+order_mass_cancel_request_kept m = record { client_order_id = said m.client_order_id.id.bytes; scope = scope_kept m.scope }
 
-abbrev pub orderMassCancelRequestContents : MassCancelSaid → List Content
-orderMassCancelRequestContents m =
+abbrev pub order_mass_cancel_request_contents : MassCancelSaid → List Content
+order_mass_cancel_request_contents m =
     words m.client_order_id
-    ∷ figure (scopeCode m.scope)
-    ∷ scopeSymbol m.scope
-    ∷ scopeSegment m.scope
+    ∷ figure (scope_code m.scope)
+    ∷ scope_symbol m.scope
+    ∷ scope_segment m.scope
     ∷ nothing
-    ∷ scopeBook m.scope
+    ∷ scope_book m.scope
     ∷ nothing
     ∷ []
 
-abbrev pub orderMassCancelRequestPlaces : OrderMassCancelRequest → List ℕ
-orderMassCancelRequestPlaces m = m.client_order_id.offset ∷ scopePlaces m.scope
+abbrev pub order_mass_cancel_request_places : OrderMassCancelRequest → List ℕ
+order_mass_cancel_request_places m = m.client_order_id.offset ∷ scope_places m.scope
 
 -- its numbers fit their types
-abbrev pub newOrderTyped : NewOrder (List ℕ) (List ℕ) (List ℕ) (List ℕ) → Type 0
-newOrderTyped m =
-    pricingTyped m.pricing
+abbrev pub new_order_typed : NewOrder (List ℕ) (List ℕ) (List ℕ) (List ℕ) → Type 0
+new_order_typed m =
+    pricing_typed m.pricing
     × (m.expire_time < 4294967296)
     × FitsSigned w32 m.quantity
     × FitsSigned w32 m.display_quantity
     × FitsSigned w32 m.min_quantity
 
 -- its numbers fit their types
-abbrev pub orderCancelRequestTyped : OrderCancelRequest (List ℕ) (List ℕ) (List ℕ) → Type 0
-orderCancelRequestTyped m =
+abbrev pub order_cancel_request_typed : OrderCancelRequest (List ℕ) (List ℕ) (List ℕ) → Type 0
+order_cancel_request_typed m =
     Below (option_map (λ i. i.number) m.order_id)
 
 -- its numbers fit their types
-abbrev pub orderCancelReplaceRequestTyped : OrderCancelReplaceRequest (List ℕ) (List ℕ) (List ℕ) (List ℕ) → Type 0
-orderCancelReplaceRequestTyped m =
+abbrev pub order_cancel_replace_request_typed : OrderCancelReplaceRequest (List ℕ) (List ℕ) (List ℕ) (List ℕ) → Type 0
+order_cancel_replace_request_typed m =
     Below (option_map (λ i. i.number) m.order_id)
     × (m.expire_time < 4294967296)
     × FitsSigned w32 m.quantity

@@ -2,7 +2,7 @@
 use Rattle.std.specs.Prelude.{ℕ, ◌<◌, List, [], ◌∷◌, FitsSigned}
 use Rattle.std.specs.Int.{w8, w32}
 use Rattle.codes.specs.declared.lists.Codes.TheVariants as c
-use Rattle.codes.specs.Session.{ackResponseCode, reportResponseCode, versionCode}
+use Rattle.codes.specs.Session.{ack_response_code, report_response_code, version_code}
 use Rattle.texts.specs.Bytes.{said}
 use Rattle.texts.specs.declared.values.Text.{Text}
 use Rattle.texts.specs.declared.fixed.FixedText.{FixedText}
@@ -29,52 +29,52 @@ logon =
     ∷ Always 79 (f.Code c.Versions)
     ∷ []
 
-abbrev pub logonSays : {T : Type 0} → (T → List ℕ) → Logon T → Logon (List ℕ)
-logonSays t m =
+abbrev pub logon_says : {T : Type 0} → (T → List ℕ) → Logon T → Logon (List ℕ)
+logon_says t m =
     record { comp_id = t m.comp_id; password = t m.password; new_password = t m.new_password; version = m.version }
 
-abbrev pub logonHeard : Logon Text → Logon (List ℕ)
-logonHeard m = logonSays (λ t. t.bytes.now) m
+abbrev pub logon_heard : Logon Text → Logon (List ℕ)
+logon_heard m = logon_says (λ t. t.bytes.now) m
 
-abbrev pub logonKept : Logon (FixedText 25) → Logon (List ℕ)
-logonKept m = logonSays (λ t. said t.bytes) m
+abbrev pub logon_kept : Logon (FixedText 25) → Logon (List ℕ)
+logon_kept m = logon_says (λ t. said t.bytes) m
 
-abbrev pub logonContents : Logon (List ℕ) → List Content
-logonContents m =
+abbrev pub logon_contents : Logon (List ℕ) → List Content
+logon_contents m =
     words m.comp_id
     ∷ words m.password
     ∷ words m.new_password
-    ∷ figure (versionCode m.version)
+    ∷ figure (version_code m.version)
     ∷ []
 
-abbrev pub logonPlaces : Logon Text → List ℕ
-logonPlaces m = m.comp_id.offset ∷ m.password.offset ∷ m.new_password.offset ∷ []
+abbrev pub logon_places : Logon Text → List ℕ
+logon_places m = m.comp_id.offset ∷ m.password.offset ∷ m.new_password.offset ∷ []
 
 -- the answer to a Logon: 0, or why it was refused
-abbrev pub logonReply : List Field
-logonReply =
+abbrev pub logon_reply : List Field
+logon_reply =
     Always 4 f.Int32
     ∷ Always 8 (f.Text 30)
     ∷ []
 
-abbrev pub logonReplySays : {T : Type 0} → (T → List ℕ) → LogonReply T → LogonReply (List ℕ)
-logonReplySays t m =
+abbrev pub logon_reply_says : {T : Type 0} → (T → List ℕ) → LogonReply T → LogonReply (List ℕ)
+logon_reply_says t m =
     record { reject_code = m.reject_code; expiry_days = t m.expiry_days }
 
-abbrev pub logonReplyHeard : LogonReply Text → LogonReply (List ℕ)
-logonReplyHeard m = logonReplySays (λ t. t.bytes.now) m
+abbrev pub logon_reply_heard : LogonReply Text → LogonReply (List ℕ)
+logon_reply_heard m = logon_reply_says (λ t. t.bytes.now) m
 
-abbrev pub logonReplyKept : LogonReply (FixedText 30) → LogonReply (List ℕ)
-logonReplyKept m = logonReplySays (λ t. said t.bytes) m
+abbrev pub logon_reply_kept : LogonReply (FixedText 30) → LogonReply (List ℕ)
+logon_reply_kept m = logon_reply_says (λ t. said t.bytes) m
 
-abbrev pub logonReplyContents : LogonReply (List ℕ) → List Content
-logonReplyContents m =
+abbrev pub logon_reply_contents : LogonReply (List ℕ) → List Content
+logon_reply_contents m =
     int32 m.reject_code
     ∷ words m.expiry_days
     ∷ []
 
-abbrev pub logonReplyPlaces : LogonReply Text → List ℕ
-logonReplyPlaces m = m.expiry_days.offset ∷ []
+abbrev pub logon_reply_places : LogonReply Text → List ℕ
+logon_reply_places m = m.expiry_days.offset ∷ []
 
 -- a logout
 abbrev pub logout : List Field
@@ -82,89 +82,89 @@ logout =
     Always 4 (f.Text 20)
     ∷ []
 
-abbrev pub logoutSays : {T : Type 0} → (T → List ℕ) → Logout T → Logout (List ℕ)
-logoutSays t m =
+abbrev pub logout_says : {T : Type 0} → (T → List ℕ) → Logout T → Logout (List ℕ)
+logout_says t m =
     record { reason = t m.reason }
 
-abbrev pub logoutHeard : Logout Text → Logout (List ℕ)
-logoutHeard m = logoutSays (λ t. t.bytes.now) m
+abbrev pub logout_heard : Logout Text → Logout (List ℕ)
+logout_heard m = logout_says (λ t. t.bytes.now) m
 
-abbrev pub logoutKept : Logout (FixedText 20) → Logout (List ℕ)
-logoutKept m = logoutSays (λ t. said t.bytes) m
+abbrev pub logout_kept : Logout (FixedText 20) → Logout (List ℕ)
+logout_kept m = logout_says (λ t. said t.bytes) m
 
-abbrev pub logoutContents : Logout (List ℕ) → List Content
-logoutContents m =
+abbrev pub logout_contents : Logout (List ℕ) → List Content
+logout_contents m =
     words m.reason
     ∷ []
 
-abbrev pub logoutPlaces : Logout Text → List ℕ
-logoutPlaces m = m.reason.offset ∷ []
+abbrev pub logout_places : Logout Text → List ℕ
+logout_places m = m.reason.offset ∷ []
 
 -- asks for a download of the reports behind the last one seen. Any partition may be named
-abbrev pub missedMessageRequest : List Field
-missedMessageRequest =
+abbrev pub missed_message_request : List Field
+missed_message_request =
     Always 4 f.Int8
     ∷ Always 5 f.Sequence
     ∷ []
 
-abbrev pub missedMessageRequestSays : {N : Type 0} → (N → ℕ) → MissedMessageRequest N → MissedMessageRequest ℕ
-missedMessageRequestSays n m =
+abbrev pub missed_message_request_says : {N : Type 0} → (N → ℕ) → MissedMessageRequest N → MissedMessageRequest ℕ
+missed_message_request_says n m =
     record { partition = m.partition; last = n m.last }
 
-abbrev pub missedMessageRequestHeard : MissedMessageRequest ℕ → MissedMessageRequest ℕ
-missedMessageRequestHeard m = missedMessageRequestSays (λ n. n) m
+abbrev pub missed_message_request_heard : MissedMessageRequest ℕ → MissedMessageRequest ℕ
+missed_message_request_heard m = missed_message_request_says (λ n. n) m
 
-abbrev pub missedMessageRequestKept : MissedMessageRequest LastSequence → MissedMessageRequest ℕ
-missedMessageRequestKept m = missedMessageRequestSays (λ n. n.value) m
+abbrev pub missed_message_request_kept : MissedMessageRequest LastSequence → MissedMessageRequest ℕ
+missed_message_request_kept m = missed_message_request_says (λ n. n.value) m
 
-abbrev pub missedMessageRequestContents : MissedMessageRequest ℕ → List Content
-missedMessageRequestContents m =
+abbrev pub missed_message_request_contents : MissedMessageRequest ℕ → List Content
+missed_message_request_contents m =
     int8 m.partition
     ∷ figure m.last
     ∷ []
 
-abbrev pub missedMessageRequestPlaces : MissedMessageRequest ℕ → List ℕ
-missedMessageRequestPlaces m = []
+abbrev pub missed_message_request_places : MissedMessageRequest ℕ → List ℕ
+missed_message_request_places m = []
 
 -- whether a download begins
-abbrev pub missedMessageRequestAck : List Field
-missedMessageRequestAck =
+abbrev pub missed_message_request_ack : List Field
+missed_message_request_ack =
     Always 4 (f.Code c.AckResponses)
     ∷ []
 
-abbrev pub missedMessageRequestAckHeard : MissedMessageRequestAck → MissedMessageRequestAck
-missedMessageRequestAckHeard m = m
+abbrev pub missed_message_request_ack_heard : MissedMessageRequestAck → MissedMessageRequestAck
+missed_message_request_ack_heard m = m
 
-abbrev pub missedMessageRequestAckKept : MissedMessageRequestAck → MissedMessageRequestAck
-missedMessageRequestAckKept m = m
+abbrev pub missed_message_request_ack_kept : MissedMessageRequestAck → MissedMessageRequestAck
+missed_message_request_ack_kept m = m
 
-abbrev pub missedMessageRequestAckContents : MissedMessageRequestAck → List Content
-missedMessageRequestAckContents m =
-    figure (ackResponseCode m.response)
+abbrev pub missed_message_request_ack_contents : MissedMessageRequestAck → List Content
+missed_message_request_ack_contents m =
+    figure (ack_response_code m.response)
     ∷ []
 
-abbrev pub missedMessageRequestAckPlaces : MissedMessageRequestAck → List ℕ
-missedMessageRequestAckPlaces m = []
+abbrev pub missed_message_request_ack_places : MissedMessageRequestAck → List ℕ
+missed_message_request_ack_places m = []
 
 -- how a download ended
-abbrev pub missedMessageReport : List Field
-missedMessageReport =
+abbrev pub missed_message_report : List Field
+missed_message_report =
     Always 4 (f.Code c.ReportResponses)
     ∷ []
 
-abbrev pub missedMessageReportHeard : MissedMessageReport → MissedMessageReport
-missedMessageReportHeard m = m
+abbrev pub missed_message_report_heard : MissedMessageReport → MissedMessageReport
+missed_message_report_heard m = m
 
-abbrev pub missedMessageReportKept : MissedMessageReport → MissedMessageReport
-missedMessageReportKept m = m
+abbrev pub missed_message_report_kept : MissedMessageReport → MissedMessageReport
+missed_message_report_kept m = m
 
-abbrev pub missedMessageReportContents : MissedMessageReport → List Content
-missedMessageReportContents m =
-    figure (reportResponseCode m.response)
+abbrev pub missed_message_report_contents : MissedMessageReport → List Content
+missed_message_report_contents m =
+    figure (report_response_code m.response)
     ∷ []
 
-abbrev pub missedMessageReportPlaces : MissedMessageReport → List ℕ
-missedMessageReportPlaces m = []
+abbrev pub missed_message_report_places : MissedMessageReport → List ℕ
+missed_message_report_places m = []
 
 -- a message that was not taken, by its type and its Client Order ID where they are known
 abbrev pub reject : List Field
@@ -175,40 +175,40 @@ reject =
     ∷ Always 39 (f.Text 20)
     ∷ []
 
-abbrev pub rejectSays : {R C : Type 0} → (R → List ℕ) → (C → List ℕ) → Reject R C → Reject (List ℕ) (List ℕ)
-rejectSays r c m =
+abbrev pub reject_says : {R C : Type 0} → (R → List ℕ) → (C → List ℕ) → Reject R C → Reject (List ℕ) (List ℕ)
+reject_says r c m =
     record { code = m.code; reason = r m.reason; message_type = m.message_type; client_order_id = c m.client_order_id }
 
-abbrev pub rejectHeard : Reject Text Text → Reject (List ℕ) (List ℕ)
-rejectHeard m = rejectSays (λ t. t.bytes.now) (λ t. t.bytes.now) m
+abbrev pub reject_heard : Reject Text Text → Reject (List ℕ) (List ℕ)
+reject_heard m = reject_says (λ t. t.bytes.now) (λ t. t.bytes.now) m
 
-abbrev pub rejectKept : Reject (FixedText 30) (FixedText 20) → Reject (List ℕ) (List ℕ)
-rejectKept m = rejectSays (λ t. said t.bytes) (λ t. said t.bytes) m
+abbrev pub reject_kept : Reject (FixedText 30) (FixedText 20) → Reject (List ℕ) (List ℕ)
+reject_kept m = reject_says (λ t. said t.bytes) (λ t. said t.bytes) m
 
-abbrev pub rejectContents : Reject (List ℕ) (List ℕ) → List Content
-rejectContents m =
+abbrev pub reject_contents : Reject (List ℕ) (List ℕ) → List Content
+reject_contents m =
     int32 m.code
     ∷ words m.reason
     ∷ figure m.message_type
     ∷ words m.client_order_id
     ∷ []
 
-abbrev pub rejectPlaces : Reject Text Text → List ℕ
-rejectPlaces m = m.reason.offset ∷ m.client_order_id.offset ∷ []
+abbrev pub reject_places : Reject Text Text → List ℕ
+reject_places m = m.reason.offset ∷ m.client_order_id.offset ∷ []
 
 -- its numbers fit their types
-abbrev pub logonReplyTyped : LogonReply (List ℕ) → Type 0
-logonReplyTyped m =
+abbrev pub logon_reply_typed : LogonReply (List ℕ) → Type 0
+logon_reply_typed m =
     FitsSigned w32 m.reject_code
 
 -- its numbers fit their types
-abbrev pub missedMessageRequestTyped : MissedMessageRequest ℕ → Type 0
-missedMessageRequestTyped m =
+abbrev pub missed_message_request_typed : MissedMessageRequest ℕ → Type 0
+missed_message_request_typed m =
     FitsSigned w8 m.partition
     × (m.last < 2147483648)
 
 -- its numbers fit their types
-abbrev pub rejectTyped : Reject (List ℕ) (List ℕ) → Type 0
-rejectTyped m =
+abbrev pub reject_typed : Reject (List ℕ) (List ℕ) → Type 0
+reject_typed m =
     FitsSigned w32 m.code
     × (m.message_type < 256)

@@ -4,7 +4,7 @@ ghost use Rattle.layout.specs.Layout.{Body};
 ghost use Rattle.layout.specs.Values.{Means};
 ghost use Rattle.layout.specs.Writing.{Wrote};
 ghost use Rattle.layout.specs.Holding.{HoldsIn};
-ghost use Rattle.messages.specs.Reports.{executionReport, executionReportContents, executionReportTyped, executionReportHeard, executionReportKept, executionReportPlaces, orderCancelReject, orderCancelRejectContents, orderCancelRejectTyped, orderCancelRejectHeard, orderCancelRejectKept, orderCancelRejectPlaces, orderMassCancelReport, orderMassCancelReportContents, orderMassCancelReportTyped, orderMassCancelReportHeard, orderMassCancelReportKept, orderMassCancelReportPlaces};
+ghost use Rattle.messages.specs.Reports.{execution_report, execution_report_contents, execution_report_typed, execution_report_heard, execution_report_kept, execution_report_places, order_cancel_reject, order_cancel_reject_contents, order_cancel_reject_typed, order_cancel_reject_heard, order_cancel_reject_kept, order_cancel_reject_places, order_mass_cancel_report, order_mass_cancel_report_contents, order_mass_cancel_report_typed, order_mass_cancel_report_heard, order_mass_cancel_report_kept, order_mass_cancel_report_places};
 
 use crate::terms::{Execution, read_execution};
 use codes::lists::Codes;
@@ -89,7 +89,7 @@ pub fn read_execution_report<'a>(
     r: &Reader<'a>,
 ) -> Result<ExecutionReport<Text<'a>, Text<'a>, Text<'a>, Text<'a>>, Fault>
     requires { length r.now.src.now ≡ 145 }
-    ensures { Body executionReport (λ m. executionReportContents (executionReportHeard m)) executionReportPlaces r.now.src.now result }
+    ensures { Body execution_report (λ m. execution_report_contents (execution_report_heard m)) execution_report_places r.now.src.now result }
 {
     check(&EXECUTION_REPORT, 145, r)?;
     Ok(ExecutionReport {
@@ -120,8 +120,8 @@ pub fn read_execution_report<'a>(
 pub fn execution_report_values(
     m: &ExecutionReport<Identifier, ClientOrderId, Symbol, Counterparty>,
 ) -> [Value<'_>; 26]
-    ensures means { Means result (executionReportContents (executionReportKept m.now)) }
-    ensures typed { executionReportTyped (executionReportKept m.now) }
+    ensures means { Means result (execution_report_contents (execution_report_kept m.now)) }
+    ensures typed { execution_report_typed (execution_report_kept m.now) }
 {
     [
         Value::Code(m.partition as u8),
@@ -184,7 +184,7 @@ pub fn read_order_cancel_reject<'a>(
     r: &Reader<'a>,
 ) -> Result<OrderCancelReject<Text<'a>, Text<'a>>, Fault>
     requires { length r.now.src.now ≡ 63 }
-    ensures { Body orderCancelReject (λ m. orderCancelRejectContents (orderCancelRejectHeard m)) orderCancelRejectPlaces r.now.src.now result }
+    ensures { Body order_cancel_reject (λ m. order_cancel_reject_contents (order_cancel_reject_heard m)) order_cancel_reject_places r.now.src.now result }
 {
     check(&ORDER_CANCEL_REJECT, 63, r)?;
     Ok(OrderCancelReject {
@@ -200,8 +200,8 @@ pub fn read_order_cancel_reject<'a>(
 pub fn order_cancel_reject_values(
     m: &OrderCancelReject<ClientOrderId, Identifier>,
 ) -> [Value<'_>; 7]
-    ensures means { Means result (orderCancelRejectContents (orderCancelRejectKept m.now)) }
-    ensures typed { orderCancelRejectTyped (orderCancelRejectKept m.now) }
+    ensures means { Means result (order_cancel_reject_contents (order_cancel_reject_kept m.now)) }
+    ensures typed { order_cancel_reject_typed (order_cancel_reject_kept m.now) }
 {
     [
         Value::Code(m.partition as u8),
@@ -240,7 +240,7 @@ pub fn read_order_mass_cancel_report<'a>(
     r: &Reader<'a>,
 ) -> Result<OrderMassCancelReport<Text<'a>>, Fault>
     requires { length r.now.src.now ≡ 56 }
-    ensures { Body orderMassCancelReport (λ m. orderMassCancelReportContents (orderMassCancelReportHeard m)) orderMassCancelReportPlaces r.now.src.now result }
+    ensures { Body order_mass_cancel_report (λ m. order_mass_cancel_report_contents (order_mass_cancel_report_heard m)) order_mass_cancel_report_places r.now.src.now result }
 {
     check(&ORDER_MASS_CANCEL_REPORT, 56, r)?;
     Ok(OrderMassCancelReport {
@@ -254,8 +254,8 @@ pub fn read_order_mass_cancel_report<'a>(
 }
 
 pub fn order_mass_cancel_report_values(m: &OrderMassCancelReport<ClientOrderId>) -> [Value<'_>; 8]
-    ensures means { Means result (orderMassCancelReportContents (orderMassCancelReportKept m.now)) }
-    ensures typed { orderMassCancelReportTyped (orderMassCancelReportKept m.now) }
+    ensures means { Means result (order_mass_cancel_report_contents (order_mass_cancel_report_kept m.now)) }
+    ensures typed { order_mass_cancel_report_typed (order_mass_cancel_report_kept m.now) }
 {
     [
         Value::Code(m.partition as u8),
@@ -274,8 +274,8 @@ pub fn write_execution_report(
     out: &mut [u8],
 )
     requires { 145 ≤ length out.old }
-    ensures wrote { Wrote 56 145 executionReport (executionReportContents (executionReportKept m.now)) out.old out.new }
-    ensures holds { HoldsIn executionReport (executionReportContents (executionReportKept m.now)) }
+    ensures wrote { Wrote 56 145 execution_report (execution_report_contents (execution_report_kept m.now)) out.old out.new }
+    ensures holds { HoldsIn execution_report (execution_report_contents (execution_report_kept m.now)) }
 {
     write_fields(
         out,
@@ -288,8 +288,8 @@ pub fn write_execution_report(
 
 pub fn write_order_cancel_reject(m: &OrderCancelReject<ClientOrderId, Identifier>, out: &mut [u8])
     requires { 63 ≤ length out.old }
-    ensures wrote { Wrote 57 63 orderCancelReject (orderCancelRejectContents (orderCancelRejectKept m.now)) out.old out.new }
-    ensures holds { HoldsIn orderCancelReject (orderCancelRejectContents (orderCancelRejectKept m.now)) }
+    ensures wrote { Wrote 57 63 order_cancel_reject (order_cancel_reject_contents (order_cancel_reject_kept m.now)) out.old out.new }
+    ensures holds { HoldsIn order_cancel_reject (order_cancel_reject_contents (order_cancel_reject_kept m.now)) }
 {
     write_fields(
         out,
@@ -302,8 +302,8 @@ pub fn write_order_cancel_reject(m: &OrderCancelReject<ClientOrderId, Identifier
 
 pub fn write_order_mass_cancel_report(m: &OrderMassCancelReport<ClientOrderId>, out: &mut [u8])
     requires { 56 ≤ length out.old }
-    ensures wrote { Wrote 114 56 orderMassCancelReport (orderMassCancelReportContents (orderMassCancelReportKept m.now)) out.old out.new }
-    ensures holds { HoldsIn orderMassCancelReport (orderMassCancelReportContents (orderMassCancelReportKept m.now)) }
+    ensures wrote { Wrote 114 56 order_mass_cancel_report (order_mass_cancel_report_contents (order_mass_cancel_report_kept m.now)) out.old out.new }
+    ensures holds { HoldsIn order_mass_cancel_report (order_mass_cancel_report_contents (order_mass_cancel_report_kept m.now)) }
 {
     write_fields(
         out,

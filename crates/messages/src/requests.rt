@@ -4,7 +4,7 @@ ghost use Rattle.layout.specs.Layout.{Body};
 ghost use Rattle.layout.specs.Values.{Means};
 ghost use Rattle.layout.specs.Writing.{Wrote};
 ghost use Rattle.layout.specs.Holding.{HoldsIn};
-ghost use Rattle.messages.specs.Requests.{newOrder, newOrderContents, newOrderTyped, newOrderHeard, newOrderKept, newOrderPlaces, orderCancelRequest, orderCancelRequestContents, orderCancelRequestTyped, orderCancelRequestHeard, orderCancelRequestKept, orderCancelRequestPlaces, orderCancelReplaceRequest, orderCancelReplaceRequestContents, orderCancelReplaceRequestTyped, orderCancelReplaceRequestHeard, orderCancelReplaceRequestKept, orderCancelReplaceRequestPlaces, orderMassCancelRequest, orderMassCancelRequestContents, orderMassCancelRequestHeard, orderMassCancelRequestKept, orderMassCancelRequestPlaces};
+ghost use Rattle.messages.specs.Requests.{new_order, new_order_contents, new_order_typed, new_order_heard, new_order_kept, new_order_places, order_cancel_request, order_cancel_request_contents, order_cancel_request_typed, order_cancel_request_heard, order_cancel_request_kept, order_cancel_request_places, order_cancel_replace_request, order_cancel_replace_request_contents, order_cancel_replace_request_typed, order_cancel_replace_request_heard, order_cancel_replace_request_kept, order_cancel_replace_request_places, order_mass_cancel_request, order_mass_cancel_request_contents, order_mass_cancel_request_heard, order_mass_cancel_request_kept, order_mass_cancel_request_places};
 
 use crate::terms::{Pricing, Scope, Target, read_pricing, read_scope, read_target};
 use codes::lists::Codes;
@@ -77,7 +77,7 @@ pub fn read_new_order<'a>(
     r: &Reader<'a>,
 ) -> Result<NewOrder<Text<'a>, Text<'a>, Text<'a>, Text<'a>>, Fault>
     requires { length r.now.src.now ≡ 97 }
-    ensures { Body newOrder (λ m. newOrderContents (newOrderHeard m)) newOrderPlaces r.now.src.now result }
+    ensures { Body new_order (λ m. new_order_contents (new_order_heard m)) new_order_places r.now.src.now result }
 {
     check(&NEW_ORDER, 97, r)?;
     Ok(NewOrder {
@@ -102,8 +102,8 @@ pub fn read_new_order<'a>(
 }
 
 pub fn new_order_values(m: &NewOrder<RequestId, TraderId, Account, Symbol>) -> [Value<'_>; 21]
-    ensures means { Means result (newOrderContents (newOrderKept m.now)) }
-    ensures typed { newOrderTyped (newOrderKept m.now) }
+    ensures means { Means result (new_order_contents (new_order_kept m.now)) }
+    ensures typed { new_order_typed (new_order_kept m.now) }
 {
     [
         Value::Text(m.client_order_id.as_bytes()),
@@ -161,7 +161,7 @@ pub fn read_order_cancel_request<'a>(
     r: &Reader<'a>,
 ) -> Result<OrderCancelRequest<Text<'a>, Text<'a>, Text<'a>>, Fault>
     requires { length r.now.src.now ≡ 73 }
-    ensures { Body orderCancelRequest (λ m. orderCancelRequestContents (orderCancelRequestHeard m)) orderCancelRequestPlaces r.now.src.now result }
+    ensures { Body order_cancel_request (λ m. order_cancel_request_contents (order_cancel_request_heard m)) order_cancel_request_places r.now.src.now result }
 {
     check(&ORDER_CANCEL_REQUEST, 73, r)?;
     Ok(OrderCancelRequest {
@@ -177,8 +177,8 @@ pub fn read_order_cancel_request<'a>(
 pub fn order_cancel_request_values(
     m: &OrderCancelRequest<RequestId, ClientOrderId, Symbol>,
 ) -> [Value<'_>; 7]
-    ensures means { Means result (orderCancelRequestContents (orderCancelRequestKept m.now)) }
-    ensures typed { orderCancelRequestTyped (orderCancelRequestKept m.now) }
+    ensures means { Means result (order_cancel_request_contents (order_cancel_request_kept m.now)) }
+    ensures typed { order_cancel_request_typed (order_cancel_request_kept m.now) }
 {
     [
         Value::Text(m.client_order_id.as_bytes()),
@@ -245,7 +245,7 @@ pub fn read_order_cancel_replace_request<'a>(
     r: &Reader<'a>,
 ) -> Result<OrderCancelReplaceRequest<Text<'a>, Text<'a>, Text<'a>, Text<'a>>, Fault>
     requires { length r.now.src.now ≡ 112 }
-    ensures { Body orderCancelReplaceRequest (λ m. orderCancelReplaceRequestContents (orderCancelReplaceRequestHeard m)) orderCancelReplaceRequestPlaces r.now.src.now result }
+    ensures { Body order_cancel_replace_request (λ m. order_cancel_replace_request_contents (order_cancel_replace_request_heard m)) order_cancel_replace_request_places r.now.src.now result }
 {
     check(&ORDER_CANCEL_REPLACE_REQUEST, 112, r)?;
     Ok(OrderCancelReplaceRequest {
@@ -269,8 +269,8 @@ pub fn read_order_cancel_replace_request<'a>(
 pub fn order_cancel_replace_request_values(
     m: &OrderCancelReplaceRequest<RequestId, ClientOrderId, Symbol, Account>,
 ) -> [Value<'_>; 17]
-    ensures means { Means result (orderCancelReplaceRequestContents (orderCancelReplaceRequestKept m.now)) }
-    ensures typed { orderCancelReplaceRequestTyped (orderCancelReplaceRequestKept m.now) }
+    ensures means { Means result (order_cancel_replace_request_contents (order_cancel_replace_request_kept m.now)) }
+    ensures typed { order_cancel_replace_request_typed (order_cancel_replace_request_kept m.now) }
 {
     [
         Value::Text(m.client_order_id.as_bytes()),
@@ -321,7 +321,7 @@ pub fn read_order_mass_cancel_request<'a>(
     r: &Reader<'a>,
 ) -> Result<OrderMassCancelRequest<'a>, Fault>
     requires { length r.now.src.now ≡ 46 }
-    ensures { Body orderMassCancelRequest (λ m. orderMassCancelRequestContents (orderMassCancelRequestHeard m)) orderMassCancelRequestPlaces r.now.src.now result }
+    ensures { Body order_mass_cancel_request (λ m. order_mass_cancel_request_contents (order_mass_cancel_request_heard m)) order_mass_cancel_request_places r.now.src.now result }
 {
     check(&ORDER_MASS_CANCEL_REQUEST, 46, r)?;
     Ok(OrderMassCancelRequest {
@@ -331,7 +331,7 @@ pub fn read_order_mass_cancel_request<'a>(
 }
 
 pub fn order_mass_cancel_request_values(m: &OwnedMassCancelRequest) -> [Value<'_>; 7]
-    ensures { Means result (orderMassCancelRequestContents (orderMassCancelRequestKept m.now)) }
+    ensures { Means result (order_mass_cancel_request_contents (order_mass_cancel_request_kept m.now)) }
 {
     [
         Value::Text(m.client_order_id.as_bytes()),
@@ -346,8 +346,8 @@ pub fn order_mass_cancel_request_values(m: &OwnedMassCancelRequest) -> [Value<'_
 
 pub fn write_new_order(m: &NewOrder<RequestId, TraderId, Account, Symbol>, out: &mut [u8])
     requires { 97 ≤ length out.old }
-    ensures wrote { Wrote 68 97 newOrder (newOrderContents (newOrderKept m.now)) out.old out.new }
-    ensures holds { HoldsIn newOrder (newOrderContents (newOrderKept m.now)) }
+    ensures wrote { Wrote 68 97 new_order (new_order_contents (new_order_kept m.now)) out.old out.new }
+    ensures holds { HoldsIn new_order (new_order_contents (new_order_kept m.now)) }
 {
     write_fields(out, b'D', 97, &NEW_ORDER, &new_order_values(m));
 }
@@ -357,8 +357,8 @@ pub fn write_order_cancel_request(
     out: &mut [u8],
 )
     requires { 73 ≤ length out.old }
-    ensures wrote { Wrote 70 73 orderCancelRequest (orderCancelRequestContents (orderCancelRequestKept m.now)) out.old out.new }
-    ensures holds { HoldsIn orderCancelRequest (orderCancelRequestContents (orderCancelRequestKept m.now)) }
+    ensures wrote { Wrote 70 73 order_cancel_request (order_cancel_request_contents (order_cancel_request_kept m.now)) out.old out.new }
+    ensures holds { HoldsIn order_cancel_request (order_cancel_request_contents (order_cancel_request_kept m.now)) }
 {
     write_fields(
         out,
@@ -374,8 +374,8 @@ pub fn write_order_cancel_replace_request(
     out: &mut [u8],
 )
     requires { 112 ≤ length out.old }
-    ensures wrote { Wrote 71 112 orderCancelReplaceRequest (orderCancelReplaceRequestContents (orderCancelReplaceRequestKept m.now)) out.old out.new }
-    ensures holds { HoldsIn orderCancelReplaceRequest (orderCancelReplaceRequestContents (orderCancelReplaceRequestKept m.now)) }
+    ensures wrote { Wrote 71 112 order_cancel_replace_request (order_cancel_replace_request_contents (order_cancel_replace_request_kept m.now)) out.old out.new }
+    ensures holds { HoldsIn order_cancel_replace_request (order_cancel_replace_request_contents (order_cancel_replace_request_kept m.now)) }
 {
     write_fields(
         out,
@@ -388,8 +388,8 @@ pub fn write_order_cancel_replace_request(
 
 pub fn write_order_mass_cancel_request(m: &OwnedMassCancelRequest, out: &mut [u8])
     requires { 46 ≤ length out.old }
-    ensures wrote { Wrote 113 46 orderMassCancelRequest (orderMassCancelRequestContents (orderMassCancelRequestKept m.now)) out.old out.new }
-    ensures holds { HoldsIn orderMassCancelRequest (orderMassCancelRequestContents (orderMassCancelRequestKept m.now)) }
+    ensures wrote { Wrote 113 46 order_mass_cancel_request (order_mass_cancel_request_contents (order_mass_cancel_request_kept m.now)) out.old out.new }
+    ensures holds { HoldsIn order_mass_cancel_request (order_mass_cancel_request_contents (order_mass_cancel_request_kept m.now)) }
 {
     write_fields(
         out,

@@ -4,7 +4,7 @@ ghost use Rattle.layout.specs.Layout.{Body};
 ghost use Rattle.layout.specs.Values.{Means};
 ghost use Rattle.layout.specs.Writing.{Wrote};
 ghost use Rattle.layout.specs.Holding.{HoldsIn};
-ghost use Rattle.messages.specs.Session.{logon, logonContents, logonHeard, logonKept, logonPlaces, logonReply, logonReplyContents, logonReplyTyped, logonReplyHeard, logonReplyKept, logonReplyPlaces, logout, logoutContents, logoutHeard, logoutKept, logoutPlaces, missedMessageRequest, missedMessageRequestContents, missedMessageRequestTyped, missedMessageRequestHeard, missedMessageRequestKept, missedMessageRequestPlaces, missedMessageRequestAck, missedMessageRequestAckContents, missedMessageRequestAckHeard, missedMessageRequestAckKept, missedMessageRequestAckPlaces, missedMessageReport, missedMessageReportContents, missedMessageReportHeard, missedMessageReportKept, missedMessageReportPlaces, reject, rejectContents, rejectTyped, rejectHeard, rejectKept, rejectPlaces};
+ghost use Rattle.messages.specs.Session.{logon, logon_contents, logon_heard, logon_kept, logon_places, logon_reply, logon_reply_contents, logon_reply_typed, logon_reply_heard, logon_reply_kept, logon_reply_places, logout, logout_contents, logout_heard, logout_kept, logout_places, missed_message_request, missed_message_request_contents, missed_message_request_typed, missed_message_request_heard, missed_message_request_kept, missed_message_request_places, missed_message_request_ack, missed_message_request_ack_contents, missed_message_request_ack_heard, missed_message_request_ack_kept, missed_message_request_ack_places, missed_message_report, missed_message_report_contents, missed_message_report_heard, missed_message_report_kept, missed_message_report_places, reject, reject_contents, reject_typed, reject_heard, reject_kept, reject_places};
 
 use codes::lists::Codes;
 use codes::session::{AckResponse, ReportResponse, Version};
@@ -35,7 +35,7 @@ const LOGON: [Field; 4] = [
 
 pub fn read_logon<'a>(r: &Reader<'a>) -> Result<Logon<Text<'a>>, Fault>
     requires { length r.now.src.now ≡ 80 }
-    ensures { Body logon (λ m. logonContents (logonHeard m)) logonPlaces r.now.src.now result }
+    ensures { Body logon (λ m. logon_contents (logon_heard m)) logon_places r.now.src.now result }
 {
     check(&LOGON, 80, r)?;
     Ok(Logon {
@@ -47,7 +47,7 @@ pub fn read_logon<'a>(r: &Reader<'a>) -> Result<Logon<Text<'a>>, Fault>
 }
 
 pub fn logon_values(m: &Logon<CompId>) -> [Value<'_>; 4]
-    ensures { Means result (logonContents (logonKept m.now)) }
+    ensures { Means result (logon_contents (logon_kept m.now)) }
 {
     [
         Value::Text(m.comp_id.as_bytes()),
@@ -71,7 +71,7 @@ const LOGON_REPLY: [Field; 2] = [
 
 pub fn read_logon_reply<'a>(r: &Reader<'a>) -> Result<LogonReply<Text<'a>>, Fault>
     requires { length r.now.src.now ≡ 38 }
-    ensures { Body logonReply (λ m. logonReplyContents (logonReplyHeard m)) logonReplyPlaces r.now.src.now result }
+    ensures { Body logon_reply (λ m. logon_reply_contents (logon_reply_heard m)) logon_reply_places r.now.src.now result }
 {
     check(&LOGON_REPLY, 38, r)?;
     Ok(LogonReply {
@@ -81,8 +81,8 @@ pub fn read_logon_reply<'a>(r: &Reader<'a>) -> Result<LogonReply<Text<'a>>, Faul
 }
 
 pub fn logon_reply_values(m: &LogonReply<Reason>) -> [Value<'_>; 2]
-    ensures means { Means result (logonReplyContents (logonReplyKept m.now)) }
-    ensures typed { logonReplyTyped (logonReplyKept m.now) }
+    ensures means { Means result (logon_reply_contents (logon_reply_kept m.now)) }
+    ensures typed { logon_reply_typed (logon_reply_kept m.now) }
 {
     [
         Value::Int32(m.reject_code),
@@ -100,7 +100,7 @@ const LOGOUT: [Field; 1] = [Field::Always(4, Form::Text(20))];
 
 pub fn read_logout<'a>(r: &Reader<'a>) -> Result<Logout<Text<'a>>, Fault>
     requires { length r.now.src.now ≡ 24 }
-    ensures { Body logout (λ m. logoutContents (logoutHeard m)) logoutPlaces r.now.src.now result }
+    ensures { Body logout (λ m. logout_contents (logout_heard m)) logout_places r.now.src.now result }
 {
     check(&LOGOUT, 24, r)?;
     Ok(Logout {
@@ -109,7 +109,7 @@ pub fn read_logout<'a>(r: &Reader<'a>) -> Result<Logout<Text<'a>>, Fault>
 }
 
 pub fn logout_values(m: &Logout<LogoutReason>) -> [Value<'_>; 1]
-    ensures { Means result (logoutContents (logoutKept m.now)) }
+    ensures { Means result (logout_contents (logout_kept m.now)) }
 {
     [Value::Text(m.reason.as_bytes())]
 }
@@ -128,7 +128,7 @@ const MISSED_MESSAGE_REQUEST: [Field; 2] = [
 
 pub fn read_missed_message_request(r: &Reader<'_>) -> Result<MissedMessageRequest<u32>, Fault>
     requires { length r.now.src.now ≡ 9 }
-    ensures { Body missedMessageRequest (λ m. missedMessageRequestContents (missedMessageRequestHeard m)) missedMessageRequestPlaces r.now.src.now result }
+    ensures { Body missed_message_request (λ m. missed_message_request_contents (missed_message_request_heard m)) missed_message_request_places r.now.src.now result }
 {
     check(&MISSED_MESSAGE_REQUEST, 9, r)?;
     Ok(MissedMessageRequest {
@@ -138,8 +138,8 @@ pub fn read_missed_message_request(r: &Reader<'_>) -> Result<MissedMessageReques
 }
 
 pub fn missed_message_request_values(m: &MissedMessageRequest<LastSequence>) -> [Value<'_>; 2]
-    ensures means { Means result (missedMessageRequestContents (missedMessageRequestKept m.now)) }
-    ensures typed { missedMessageRequestTyped (missedMessageRequestKept m.now) }
+    ensures means { Means result (missed_message_request_contents (missed_message_request_kept m.now)) }
+    ensures typed { missed_message_request_typed (missed_message_request_kept m.now) }
 {
     [
         Value::Int8(m.partition),
@@ -157,7 +157,7 @@ const MISSED_MESSAGE_REQUEST_ACK: [Field; 1] = [Field::Always(4, Form::Code(Code
 
 pub fn read_missed_message_request_ack(r: &Reader<'_>) -> Result<MissedMessageRequestAck, Fault>
     requires { length r.now.src.now ≡ 5 }
-    ensures { Body missedMessageRequestAck (λ m. missedMessageRequestAckContents (missedMessageRequestAckHeard m)) missedMessageRequestAckPlaces r.now.src.now result }
+    ensures { Body missed_message_request_ack (λ m. missed_message_request_ack_contents (missed_message_request_ack_heard m)) missed_message_request_ack_places r.now.src.now result }
 {
     check(&MISSED_MESSAGE_REQUEST_ACK, 5, r)?;
     Ok(MissedMessageRequestAck {
@@ -166,7 +166,7 @@ pub fn read_missed_message_request_ack(r: &Reader<'_>) -> Result<MissedMessageRe
 }
 
 pub fn missed_message_request_ack_values(m: &MissedMessageRequestAck) -> [Value<'_>; 1]
-    ensures { Means result (missedMessageRequestAckContents (missedMessageRequestAckKept m.now)) }
+    ensures { Means result (missed_message_request_ack_contents (missed_message_request_ack_kept m.now)) }
 {
     [Value::Code(m.response as u8)]
 }
@@ -181,7 +181,7 @@ const MISSED_MESSAGE_REPORT: [Field; 1] = [Field::Always(4, Form::Code(Codes::Re
 
 pub fn read_missed_message_report(r: &Reader<'_>) -> Result<MissedMessageReport, Fault>
     requires { length r.now.src.now ≡ 5 }
-    ensures { Body missedMessageReport (λ m. missedMessageReportContents (missedMessageReportHeard m)) missedMessageReportPlaces r.now.src.now result }
+    ensures { Body missed_message_report (λ m. missed_message_report_contents (missed_message_report_heard m)) missed_message_report_places r.now.src.now result }
 {
     check(&MISSED_MESSAGE_REPORT, 5, r)?;
     Ok(MissedMessageReport {
@@ -190,7 +190,7 @@ pub fn read_missed_message_report(r: &Reader<'_>) -> Result<MissedMessageReport,
 }
 
 pub fn missed_message_report_values(m: &MissedMessageReport) -> [Value<'_>; 1]
-    ensures { Means result (missedMessageReportContents (missedMessageReportKept m.now)) }
+    ensures { Means result (missed_message_report_contents (missed_message_report_kept m.now)) }
 {
     [Value::Code(m.response as u8)]
 }
@@ -219,7 +219,7 @@ const REJECT: [Field; 4] = [
 
 pub fn read_reject<'a>(r: &Reader<'a>) -> Result<Reject<Text<'a>, Text<'a>>, Fault>
     requires { length r.now.src.now ≡ 59 }
-    ensures { Body reject (λ m. rejectContents (rejectHeard m)) rejectPlaces r.now.src.now result }
+    ensures { Body reject (λ m. reject_contents (reject_heard m)) reject_places r.now.src.now result }
 {
     check(&REJECT, 59, r)?;
     Ok(Reject {
@@ -231,8 +231,8 @@ pub fn read_reject<'a>(r: &Reader<'a>) -> Result<Reject<Text<'a>, Text<'a>>, Fau
 }
 
 pub fn reject_values(m: &Reject<Reason, ClientOrderId>) -> [Value<'_>; 4]
-    ensures means { Means result (rejectContents (rejectKept m.now)) }
-    ensures typed { rejectTyped (rejectKept m.now) }
+    ensures means { Means result (reject_contents (reject_kept m.now)) }
+    ensures typed { reject_typed (reject_kept m.now) }
 {
     [
         Value::Int32(m.code),
@@ -244,32 +244,32 @@ pub fn reject_values(m: &Reject<Reason, ClientOrderId>) -> [Value<'_>; 4]
 
 pub fn write_logon(m: &Logon<CompId>, out: &mut [u8])
     requires { 80 ≤ length out.old }
-    ensures wrote { Wrote 65 80 logon (logonContents (logonKept m.now)) out.old out.new }
-    ensures holds { HoldsIn logon (logonContents (logonKept m.now)) }
+    ensures wrote { Wrote 65 80 logon (logon_contents (logon_kept m.now)) out.old out.new }
+    ensures holds { HoldsIn logon (logon_contents (logon_kept m.now)) }
 {
     write_fields(out, b'A', 80, &LOGON, &logon_values(m));
 }
 
 pub fn write_logon_reply(m: &LogonReply<Reason>, out: &mut [u8])
     requires { 38 ≤ length out.old }
-    ensures wrote { Wrote 66 38 logonReply (logonReplyContents (logonReplyKept m.now)) out.old out.new }
-    ensures holds { HoldsIn logonReply (logonReplyContents (logonReplyKept m.now)) }
+    ensures wrote { Wrote 66 38 logon_reply (logon_reply_contents (logon_reply_kept m.now)) out.old out.new }
+    ensures holds { HoldsIn logon_reply (logon_reply_contents (logon_reply_kept m.now)) }
 {
     write_fields(out, b'B', 38, &LOGON_REPLY, &logon_reply_values(m));
 }
 
 pub fn write_logout(m: &Logout<LogoutReason>, out: &mut [u8])
     requires { 24 ≤ length out.old }
-    ensures wrote { Wrote 53 24 logout (logoutContents (logoutKept m.now)) out.old out.new }
-    ensures holds { HoldsIn logout (logoutContents (logoutKept m.now)) }
+    ensures wrote { Wrote 53 24 logout (logout_contents (logout_kept m.now)) out.old out.new }
+    ensures holds { HoldsIn logout (logout_contents (logout_kept m.now)) }
 {
     write_fields(out, b'5', 24, &LOGOUT, &logout_values(m));
 }
 
 pub fn write_missed_message_request(m: &MissedMessageRequest<LastSequence>, out: &mut [u8])
     requires { 9 ≤ length out.old }
-    ensures wrote { Wrote 77 9 missedMessageRequest (missedMessageRequestContents (missedMessageRequestKept m.now)) out.old out.new }
-    ensures holds { HoldsIn missedMessageRequest (missedMessageRequestContents (missedMessageRequestKept m.now)) }
+    ensures wrote { Wrote 77 9 missed_message_request (missed_message_request_contents (missed_message_request_kept m.now)) out.old out.new }
+    ensures holds { HoldsIn missed_message_request (missed_message_request_contents (missed_message_request_kept m.now)) }
 {
     write_fields(
         out,
@@ -282,8 +282,8 @@ pub fn write_missed_message_request(m: &MissedMessageRequest<LastSequence>, out:
 
 pub fn write_missed_message_request_ack(m: &MissedMessageRequestAck, out: &mut [u8])
     requires { 5 ≤ length out.old }
-    ensures wrote { Wrote 78 5 missedMessageRequestAck (missedMessageRequestAckContents (missedMessageRequestAckKept m.now)) out.old out.new }
-    ensures holds { HoldsIn missedMessageRequestAck (missedMessageRequestAckContents (missedMessageRequestAckKept m.now)) }
+    ensures wrote { Wrote 78 5 missed_message_request_ack (missed_message_request_ack_contents (missed_message_request_ack_kept m.now)) out.old out.new }
+    ensures holds { HoldsIn missed_message_request_ack (missed_message_request_ack_contents (missed_message_request_ack_kept m.now)) }
 {
     write_fields(
         out,
@@ -296,8 +296,8 @@ pub fn write_missed_message_request_ack(m: &MissedMessageRequestAck, out: &mut [
 
 pub fn write_missed_message_report(m: &MissedMessageReport, out: &mut [u8])
     requires { 5 ≤ length out.old }
-    ensures wrote { Wrote 80 5 missedMessageReport (missedMessageReportContents (missedMessageReportKept m.now)) out.old out.new }
-    ensures holds { HoldsIn missedMessageReport (missedMessageReportContents (missedMessageReportKept m.now)) }
+    ensures wrote { Wrote 80 5 missed_message_report (missed_message_report_contents (missed_message_report_kept m.now)) out.old out.new }
+    ensures holds { HoldsIn missed_message_report (missed_message_report_contents (missed_message_report_kept m.now)) }
 {
     write_fields(
         out,
@@ -310,8 +310,8 @@ pub fn write_missed_message_report(m: &MissedMessageReport, out: &mut [u8])
 
 pub fn write_reject(m: &Reject<Reason, ClientOrderId>, out: &mut [u8])
     requires { 59 ≤ length out.old }
-    ensures wrote { Wrote 51 59 reject (rejectContents (rejectKept m.now)) out.old out.new }
-    ensures holds { HoldsIn reject (rejectContents (rejectKept m.now)) }
+    ensures wrote { Wrote 51 59 reject (reject_contents (reject_kept m.now)) out.old out.new }
+    ensures holds { HoldsIn reject (reject_contents (reject_kept m.now)) }
 {
     write_fields(out, b'3', 59, &REJECT, &reject_values(m));
 }

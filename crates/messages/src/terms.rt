@@ -7,7 +7,7 @@ ghost use Rattle.layout.specs.declared.field.Field.TheVariants as field;
 ghost use Rattle.layout.specs.Layout.{ok, got};
 ghost use Rattle.layout.specs.Layout.Content.{figure};
 ghost use Rattle.layout.specs.Values.{meant};
-ghost use Rattle.messages.specs.Terms.{pricingCode, pricingPrice, pricingTyped, targetCode, targetInstruction, scopeHeard, scopeKept, scopeCode, scopeSymbol, scopeSegment, scopeBook, scopePlaces, scopeTexts, executionCode, executionReject, executionLiquidity, executionTrade, executionTyped};
+ghost use Rattle.messages.specs.Terms.{pricing_code, pricing_price, pricing_typed, target_code, target_instruction, scope_heard, scope_kept, scope_code, scope_symbol, scope_segment, scope_book, scope_places, scope_texts, execution_code, execution_reject, execution_liquidity, execution_trade, execution_typed};
 
 use codes::order::{Book, ExecInstruction, MassCancelType, OrderType};
 use codes::report::{ExecType, Liquidity, TradeType};
@@ -58,7 +58,7 @@ pub enum Execution {
 
 impl Pricing {
     pub(crate) fn code(&self) -> u8
-        ensures { result ≡ pricingCode self.now }
+        ensures { result ≡ pricing_code self.now }
     {
         match self {
             Pricing::Market => OrderType::Market as u8,
@@ -67,8 +67,8 @@ impl Pricing {
     }
 
     pub(crate) fn price(&self) -> Value<'static>
-        ensures value { meant result ≡ pricingPrice self.now }
-        ensures typed { pricingTyped self.now }
+        ensures value { meant result ≡ pricing_price self.now }
+        ensures typed { pricing_typed self.now }
     {
         match self {
             Pricing::Market => Value::Ignored,
@@ -80,8 +80,8 @@ impl Pricing {
 pub(crate) fn read_pricing(r: &Reader<'_>) -> Pricing
     requires room { 75 ≤ length r.now.src.now }
     requires type_taken { ok r.now.src.now (field.Always 52 (form.Code list.OrderTypes)) ≡ true }
-    ensures code { figure (pricingCode result) ≡ got r.now.src.now (field.Always 52 (form.Code list.OrderTypes)) }
-    ensures price { pricingPrice result ≡ got r.now.src.now (field.When 67 form.Price 52 list.LimitOnly) }
+    ensures code { figure (pricing_code result) ≡ got r.now.src.now (field.Always 52 (form.Code list.OrderTypes)) }
+    ensures price { pricing_price result ≡ got r.now.src.now (field.When 67 form.Price 52 list.LimitOnly) }
 {
     let order_type: OrderType = r.code(52);
     match order_type {
@@ -92,7 +92,7 @@ pub(crate) fn read_pricing(r: &Reader<'_>) -> Pricing
 
 impl Target {
     pub(crate) fn code(&self) -> u8
-        ensures { result ≡ targetCode self.now }
+        ensures { result ≡ target_code self.now }
     {
         match self {
             Target::DarkMidpoint(_) => Book::DarkMidpoint as u8,
@@ -101,7 +101,7 @@ impl Target {
     }
 
     pub(crate) fn instruction(&self) -> Value<'static>
-        ensures { meant result ≡ targetInstruction self.now }
+        ensures { meant result ≡ target_instruction self.now }
     {
         match self {
             Target::DarkMidpoint(instruction) => Value::Code(*instruction as u8),
@@ -115,8 +115,8 @@ pub(crate) fn read_target(r: &Reader<'_>, at: usize) -> Target
     requires room { at + 2 ≤ length r.now.src.now }
     requires book_taken { ok r.now.src.now (field.Always at (form.Code list.Books)) ≡ true }
     requires instruction_taken { ok r.now.src.now (field.When (at + 1) (form.Code list.ExecInstructions) at list.DarkOnly) ≡ true }
-    ensures code { figure (targetCode result) ≡ got r.now.src.now (field.Always at (form.Code list.Books)) }
-    ensures instruction { targetInstruction result ≡ got r.now.src.now (field.When (at + 1) (form.Code list.ExecInstructions) at list.DarkOnly) }
+    ensures code { figure (target_code result) ≡ got r.now.src.now (field.Always at (form.Code list.Books)) }
+    ensures instruction { target_instruction result ≡ got r.now.src.now (field.When (at + 1) (form.Code list.ExecInstructions) at list.DarkOnly) }
 {
     let book: Book = r.code(at);
     match book {
@@ -127,7 +127,7 @@ pub(crate) fn read_target(r: &Reader<'_>, at: usize) -> Target
 
 impl Scope<Symbol, Segment> {
     pub(crate) fn code(&self) -> u8
-        ensures { result ≡ scopeCode (scopeKept self.now) }
+        ensures { result ≡ scope_code (scope_kept self.now) }
     {
         match self {
             Scope::FirmInstrument(_, _) => MassCancelType::FirmInstrument as u8,
@@ -140,7 +140,7 @@ impl Scope<Symbol, Segment> {
     }
 
     pub(crate) fn symbol(&self) -> Value<'_>
-        ensures { meant result ≡ scopeSymbol (scopeKept self.now) }
+        ensures { meant result ≡ scope_symbol (scope_kept self.now) }
     {
         match self {
             Scope::FirmInstrument(symbol, _) | Scope::CompIdInstrument(symbol, _) => Value::Text(
@@ -151,7 +151,7 @@ impl Scope<Symbol, Segment> {
     }
 
     pub(crate) fn segment(&self) -> Value<'_>
-        ensures { meant result ≡ scopeSegment (scopeKept self.now) }
+        ensures { meant result ≡ scope_segment (scope_kept self.now) }
     {
         match self {
             Scope::FirmSegment(segment) | Scope::CompIdSegment(segment) => Value::Text(
@@ -162,7 +162,7 @@ impl Scope<Symbol, Segment> {
     }
 
     pub(crate) fn book(&self) -> Value<'static>
-        ensures { meant result ≡ scopeBook (scopeKept self.now) }
+        ensures { meant result ≡ scope_book (scope_kept self.now) }
     {
         match self {
             Scope::FirmInstrument(_, book) | Scope::CompIdInstrument(_, book) => Value::Code(
@@ -177,11 +177,11 @@ pub(crate) fn read_scope<'a>(r: &Reader<'a>) -> Scope<Text<'a>, Text<'a>>
     requires room { 46 ≤ length r.now.src.now }
     requires kind_taken { ok r.now.src.now (field.Always 24 (form.Code list.MassCancelTypes)) ≡ true }
     requires book_taken { ok r.now.src.now (field.When 36 (form.Code list.Books) 24 list.ByInstrument) ≡ true }
-    ensures code { figure (scopeCode (scopeHeard result)) ≡ got r.now.src.now (field.Always 24 (form.Code list.MassCancelTypes)) }
-    ensures symbol { scopeSymbol (scopeHeard result) ≡ got r.now.src.now (field.When 25 (form.Text 6) 24 list.ByInstrument) }
-    ensures segment { scopeSegment (scopeHeard result) ≡ got r.now.src.now (field.When 31 (form.Text 4) 24 list.BySegment) }
-    ensures book { scopeBook (scopeHeard result) ≡ got r.now.src.now (field.When 36 (form.Code list.Books) 24 list.ByInstrument) }
-    ensures places { scopePlaces result ≡ scopeTexts r.now.src.now }
+    ensures code { figure (scope_code (scope_heard result)) ≡ got r.now.src.now (field.Always 24 (form.Code list.MassCancelTypes)) }
+    ensures symbol { scope_symbol (scope_heard result) ≡ got r.now.src.now (field.When 25 (form.Text 6) 24 list.ByInstrument) }
+    ensures segment { scope_segment (scope_heard result) ≡ got r.now.src.now (field.When 31 (form.Text 4) 24 list.BySegment) }
+    ensures book { scope_book (scope_heard result) ≡ got r.now.src.now (field.When 36 (form.Code list.Books) 24 list.ByInstrument) }
+    ensures places { scope_places result ≡ scope_texts r.now.src.now }
 {
     let kind: MassCancelType = r.code(24);
     match kind {
@@ -196,7 +196,7 @@ pub(crate) fn read_scope<'a>(r: &Reader<'a>) -> Scope<Text<'a>, Text<'a>>
 
 impl Execution {
     pub(crate) fn code(&self) -> u8
-        ensures { result ≡ executionCode self.now }
+        ensures { result ≡ execution_code self.now }
     {
         match self {
             Execution::Unspecified => ExecType::Unspecified as u8,
@@ -212,8 +212,8 @@ impl Execution {
     }
 
     pub(crate) fn reject_code(&self) -> Value<'static>
-        ensures value { meant result ≡ executionReject self.now }
-        ensures typed { executionTyped self.now }
+        ensures value { meant result ≡ execution_reject self.now }
+        ensures typed { execution_typed self.now }
     {
         match self {
             Execution::Rejected(code) => Value::Int32(*code),
@@ -222,7 +222,7 @@ impl Execution {
     }
 
     pub(crate) fn liquidity(&self) -> Value<'static>
-        ensures { meant result ≡ executionLiquidity self.now }
+        ensures { meant result ≡ execution_liquidity self.now }
     {
         match self {
             Execution::Trade(liquidity, _) | Execution::TradeCancel(liquidity) => Value::Alpha(
@@ -233,7 +233,7 @@ impl Execution {
     }
 
     pub(crate) fn trade_type(&self) -> Value<'static>
-        ensures { meant result ≡ executionTrade self.now }
+        ensures { meant result ≡ execution_trade self.now }
     {
         match self {
             Execution::Trade(_, trade_type) => Value::Code(*trade_type as u8),
@@ -247,10 +247,10 @@ pub(crate) fn read_execution(r: &Reader<'_>) -> Execution
     requires type_taken { ok r.now.src.now (field.Always 53 (form.Code list.ExecTypes)) ≡ true }
     requires liquidity_taken { ok r.now.src.now (field.When 118 (form.Code list.Liquidities) 53 list.TradeOrCancel) ≡ true }
     requires trade_taken { ok r.now.src.now (field.When 136 (form.Code list.TradeTypes) 53 list.TradeOnly) ≡ true }
-    ensures code { figure (executionCode result) ≡ got r.now.src.now (field.Always 53 (form.Code list.ExecTypes)) }
-    ensures reject { executionReject result ≡ got r.now.src.now (field.When 67 form.Int32 53 list.RejectedOnly) }
-    ensures liquidity { executionLiquidity result ≡ got r.now.src.now (field.When 118 (form.Code list.Liquidities) 53 list.TradeOrCancel) }
-    ensures trade { executionTrade result ≡ got r.now.src.now (field.When 136 (form.Code list.TradeTypes) 53 list.TradeOnly) }
+    ensures code { figure (execution_code result) ≡ got r.now.src.now (field.Always 53 (form.Code list.ExecTypes)) }
+    ensures reject { execution_reject result ≡ got r.now.src.now (field.When 67 form.Int32 53 list.RejectedOnly) }
+    ensures liquidity { execution_liquidity result ≡ got r.now.src.now (field.When 118 (form.Code list.Liquidities) 53 list.TradeOrCancel) }
+    ensures trade { execution_trade result ≡ got r.now.src.now (field.When 136 (form.Code list.TradeTypes) 53 list.TradeOnly) }
 {
     let kind: ExecType = r.code(53);
     match kind {

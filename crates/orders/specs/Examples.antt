@@ -6,8 +6,8 @@ use Rattle.orders.specs.declared.row.Terms.{Terms}
 use Rattle.orders.specs.declared.row.Ask.{Ask}
 use Rattle.orders.specs.declared.row.Ending.TheVariants.{Cancelled, Expired}
 use Rattle.orders.specs.declared.changes.ReplaceRefusal.TheVariants.{NotAboveExecuted}
-use Rattle.orders.specs.Rows.{accepted, replaced, ended, filled, undone, status-of}
-use Rattle.orders.specs.Orders.{replace-fault}
+use Rattle.orders.specs.Rows.{accepted, replaced, ended, filled, undone, status_of}
+use Rattle.orders.specs.Orders.{replace_fault}
 
 -- the same request for another quantity
 abbrev pub for : ℕ → Ask → Ask
@@ -22,21 +22,21 @@ abbrev pub taken_back : Terms → Ask → Row
 taken_back t a = undone 40 (ended Cancelled (part_filled t a))
 
 pub record Worked (t : Terms) (a : Ask) : Type 0 where
-  pub part : status-of (part_filled t a) ≡ status.PartiallyFilled
+  pub part : status_of (part_filled t a) ≡ status.PartiallyFilled
   pub left : (part_filled t a).leaves ≡ 60
-  pub cancelled : status-of (ended Cancelled (part_filled t a)) ≡ status.Cancelled
-  pub expired : status-of (ended Expired (part_filled t a)) ≡ status.Expired
+  pub cancelled : status_of (ended Cancelled (part_filled t a)) ≡ status.Cancelled
+  pub expired : status_of (ended Expired (part_filled t a)) ≡ status.Expired
   pub back_ordered : (taken_back t a).ordered ≡ 60
   pub back-withdrawn : (taken_back t a).withdrawn ≡ 60
   pub back-executed : (taken_back t a).executed ≡ 0
   pub back-open : (taken_back t a).leaves ≡ 0
-  pub back-status : status-of (taken_back t a) ≡ status.Cancelled
+  pub back-status : status_of (taken_back t a) ≡ status.Cancelled
   -- all of it filled and undone
-  pub done : status-of (filled 60 (part_filled t a)) ≡ status.Filled
-  pub nothing_left : status-of (undone 100 (filled 60 (part_filled t a))) ≡ status.Cancelled
+  pub done : status_of (filled 60 (part_filled t a)) ≡ status.Filled
+  pub nothing_left : status_of (undone 100 (filled 60 (part_filled t a))) ≡ status.Cancelled
   -- a replacement has to be above what is executed
-  pub at-executed : replace-fault 40 (part_filled t a) ≡ Some NotAboveExecuted
-  pub above-executed : replace-fault 41 (part_filled t a) ≡ None
+  pub at-executed : replace_fault 40 (part_filled t a) ≡ Some NotAboveExecuted
+  pub above-executed : replace_fault 41 (part_filled t a) ≡ None
   pub one_left : (replaced (for 41 a) (part_filled t a)).leaves ≡ 1
 
 abbrev pub Examples : Type 0

@@ -23,14 +23,14 @@ abbrev pub undoable : ℕ → Row → Bool
 undoable q r = nat_lt 0 q && nat_le q r.executed
 
 -- why a replacement quantity is refused, tried in this order
-abbrev pub replace-fault : ℕ → Row → Option ReplaceRefusal
-replace-fault q r = cond (nat_lt 0 r.leaves) (cond (sized q) (cond (nat_lt r.executed q) None (Some NotAboveExecuted)) (Some BadQuantity)) (Some NotOpen)
+abbrev pub replace_fault : ℕ → Row → Option ReplaceRefusal
+replace_fault q r = cond (nat_lt 0 r.leaves) (cond (sized q) (cond (nat_lt r.executed q) None (Some NotAboveExecuted)) (Some BadQuantity)) (Some NotOpen)
 
 -- the number of each refusal
-abbrev pub replace-number : ReplaceRefusal → ℕ
-replace-number NotOpen = 26
-replace-number BadQuantity = 22
-replace-number NotAboveExecuted = 27
+abbrev pub replace_number : ReplaceRefusal → ℕ
+replace_number NotOpen = 26
+replace_number BadQuantity = 22
+replace_number NotAboveExecuted = 27
 
 abbrev pub Replaces : Option ReplaceRefusal → Row → Result Order ReplaceRefusal → Type 0
 Replaces fault after (Ok o) = (fault ≡ None) × (row_of o ≡ after)

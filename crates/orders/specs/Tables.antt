@@ -14,13 +14,13 @@ abbrev pub rows_of : Table → List Row
 rows_of t = vec_items t.rows
 
 -- why no order is added, tried in this order
-abbrev pub add-fault : ℕ → List Row → Option AddRefusal
-add-fault q rs = cond (sized q) (cond (nat_lt (length rs) 256) None (Some Full)) (Some BadQuantity)
+abbrev pub add_fault : ℕ → List Row → Option AddRefusal
+add_fault q rs = cond (sized q) (cond (nat_lt (length rs) 256) None (Some Full)) (Some BadQuantity)
 
-abbrev pub add-number : AddRefusal → ℕ
-add-number BadQuantity = 22
-add-number Full = 23
+abbrev pub add_number : AddRefusal → ℕ
+add_number BadQuantity = 22
+add_number Full = 23
 
 abbrev pub Adds : List Row → Terms → Ask → Result Order AddRefusal → List Row → Type 0
-Adds rs t a (Ok o) rs' = (add-fault a.quantity rs ≡ None) × (row_of o ≡ accepted (length rs + 1) t a) × (rs' ≡ rs ++ (accepted (length rs + 1) t a ∷ []))
-Adds rs t a (Err e) rs' = (add-fault a.quantity rs ≡ Some e) × (rs' ≡ rs)
+Adds rs t a (Ok o) rs' = (add_fault a.quantity rs ≡ None) × (row_of o ≡ accepted (length rs + 1) t a) × (rs' ≡ rs ++ (accepted (length rs + 1) t a ∷ []))
+Adds rs t a (Err e) rs' = (add_fault a.quantity rs ≡ Some e) × (rs' ≡ rs)

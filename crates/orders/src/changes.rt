@@ -1,7 +1,7 @@
 // The five changes of an order, its status, and the way from a row to an order and back.
 ghost use Rattle.std.specs.Prelude.{◌≡◌, ℕ, ◌+◌, ◌-◌, ◌<◌, ◌≤◌, Bool, true, false, IfSome, IfOk, Some, None, nat_lt};
-ghost use Rattle.orders.specs.Rows.{balanced, untouched, orderly, sized, accepted, replaced, ended, filled, undone, status-of};
-ghost use Rattle.orders.specs.Orders.{row_of, Makes, fillable, undoable, replace-fault, replace-number, Replaces};
+ghost use Rattle.orders.specs.Rows.{balanced, untouched, orderly, sized, accepted, replaced, ended, filled, undone, status_of};
+ghost use Rattle.orders.specs.Orders.{row_of, Makes, fillable, undoable, replace_fault, replace_number, Replaces};
 
 use crate::order::Order;
 use crate::row::{Ask, Ending, Row, Terms};
@@ -20,7 +20,7 @@ pub enum ReplaceRefusal {
 
 impl ReplaceRefusal {
     pub fn number(self) -> u8
-        ensures { result ≡ replace-number self }
+        ensures { result ≡ replace_number self }
     {
         match self {
             ReplaceRefusal::NotOpen => 26,
@@ -114,7 +114,7 @@ impl Order {
 
     // The order with another quantity, price and client order id.
     pub fn replace(self, ask: Ask) -> Result<Order, ReplaceRefusal>
-        ensures answer { Replaces (replace-fault ask.quantity (row_of self)) (replaced ask (row_of self)) result }
+        ensures answer { Replaces (replace_fault ask.quantity (row_of self)) (replaced ask (row_of self)) result }
         ensures figures { IfOk result (λ o. (o.ordered ≡ ask.quantity) × (o.leaves + self.executed ≡ ask.quantity) × (o.executed ≡ self.executed) × (o.withdrawn ≡ 0)) }
     {
         if self.leaves == 0 {
@@ -206,7 +206,7 @@ impl Order {
     }
 
     pub fn status(&self) -> Status
-        ensures { result ≡ status-of (row_of self.now) }
+        ensures { result ≡ status_of (row_of self.now) }
     {
         match self.ending {
             Some(Ending::Cancelled) => Status::Cancelled,

@@ -4,8 +4,8 @@ ghost use Rattle.std.specs.Option.{option_map};
 ghost use Rattle.std.specs.Str.{bytes_eq};
 ghost use Rattle.texts.specs.Bytes.{said};
 ghost use Rattle.orders.specs.Orders.{row_of};
-ghost use Rattle.orders.specs.Places.{at, put, Placed, is_open, open-count, owned, goes_by, latest};
-ghost use Rattle.orders.specs.Tables.{rows_of, add-number, Adds};
+ghost use Rattle.orders.specs.Places.{at, put, Placed, is_open, open_count, owned, goes_by, latest};
+ghost use Rattle.orders.specs.Tables.{rows_of, add_number, Adds};
 
 use crate::order::Order;
 use crate::places::place;
@@ -26,7 +26,7 @@ pub enum AddRefusal {
 
 impl AddRefusal {
     pub fn number(self) -> u8
-        ensures { result ≡ add-number self }
+        ensures { result ≡ add_number self }
     {
         match self {
             AddRefusal::BadQuantity => 22,
@@ -129,7 +129,7 @@ impl Table {
 
     // How many orders have shares open.
     pub fn open_count(&self) -> usize
-        ensures value { result ≡ open-count (rows_of self.now) }
+        ensures value { result ≡ open_count (rows_of self.now) }
         ensures bound { result ≤ 256 }
     {
         self.rows.iter().filter(|row| row.is_open()).count()

@@ -1,7 +1,7 @@
 // The calls of the table of trades.
 ghost use Rattle.std.specs.Prelude.{◌≡◌, ℕ, ◌+◌, ◌-◌, ◌<◌, ◌≤◌, [], ◌∷◌, ◌++◌, length, IfOk};
 ghost use Rattle.orders.specs.Places.{at, put};
-ghost use Rattle.orders.specs.Trades.{tradesOf, Notes, Voids, trade-number};
+ghost use Rattle.orders.specs.Trades.{trades_of, Notes, Voids, trade_number};
 
 use crate::places::place;
 use crate::trade::{Trade, Trades};
@@ -19,7 +19,7 @@ pub enum TradeRefusal {
 
 impl TradeRefusal {
     pub fn number(self) -> u8
-        ensures { result ≡ trade-number self }
+        ensures { result ≡ trade_number self }
     {
         match self {
             TradeRefusal::Unknown => 42,
@@ -30,7 +30,7 @@ impl TradeRefusal {
 
 impl Trades {
     pub fn new(heap: Global) -> Result<Trades, AllocError>
-        ensures { IfOk result (λ t. tradesOf t ≡ []) }
+        ensures { IfOk result (λ t. trades_of t ≡ []) }
     {
         let trades = Vec::with_capacity(heap, TRADES)?;
         Ok(Trades { trades })
@@ -38,7 +38,7 @@ impl Trades {
 
     // How many trades there are: the highest number.
     pub fn len(&self) -> u64
-        ensures value { result ≡ length (tradesOf self.now) }
+        ensures value { result ≡ length (trades_of self.now) }
         ensures bound { result ≤ 512 }
     {
         self.trades.len() as u64
@@ -46,14 +46,14 @@ impl Trades {
 
     // The trade of a number.
     pub fn trade(&self, number: u64) -> Option<Trade>
-        ensures { result ≡ at (tradesOf self.now) number }
+        ensures { result ≡ at (trades_of self.now) number }
     {
         place(&self.trades, number).map(|index| self.trades[index])
     }
 
     // Adds a trade, and answers its number; none where there are 512.
     pub fn add(&mut self, trade: Trade) -> Option<u64>
-        ensures { Notes (tradesOf self.old) trade result (tradesOf self.new) }
+        ensures { Notes (trades_of self.old) trade result (trades_of self.new) }
     {
         if self.trades.len() >= TRADES {
             return None;
@@ -64,7 +64,7 @@ impl Trades {
 
     // Marks a trade as cancelled, and answers it as it was.
     pub fn cancel(&mut self, number: u64) -> Result<Trade, TradeRefusal>
-        ensures { Voids (tradesOf self.old) number result (tradesOf self.new) }
+        ensures { Voids (trades_of self.old) number result (trades_of self.new) }
     {
         let index = place(&self.trades, number).ok_or(TradeRefusal::Unknown)?;
         let trade = self.trades[index];

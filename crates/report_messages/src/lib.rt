@@ -2,11 +2,11 @@
 #![tactic(auto)]
 
 ghost use Rattle.std.specs.Prelude.{◌≡◌, ℕ, ◌<◌, ◌≤◌, [], MatchOption};
-ghost use Rattle.codes.specs.Session.{partitionCode};
+ghost use Rattle.codes.specs.Session.{partition_code};
 ghost use Rattle.texts.specs.Bytes.{said};
-ghost use Rattle.messages.specs.Reports.{executionReportKept, orderCancelRejectKept, orderMassCancelReportKept};
-ghost use Rattle.wire.specs.Messages.{keptOf};
-ghost use Rattle.report_messages.specs.Telling.{execution-of, order-text, reference-text, own-text, execution-told, reject-told, mass-told, told-as};
+ghost use Rattle.messages.specs.Reports.{execution_report_kept, order_cancel_reject_kept, order_mass_cancel_report_kept};
+ghost use Rattle.wire.specs.Messages.{kept_of};
+ghost use Rattle.report_messages.specs.Telling.{execution_of, order_text, reference_text, own_text, execution_told, reject_told, mass_told, told_as};
 
 use codes::report::PriceDifferential;
 use codes::session::Partition;
@@ -21,7 +21,7 @@ use texts::names::{ClientOrderId, Counterparty, Identifier, Symbol};
 use wire::message::OwnedMessage;
 
 fn execution(exec: Exec) -> Execution
-    ensures { result ≡ execution-of exec }
+    ensures { result ≡ execution_of exec }
 {
     match exec {
         Exec::New => Execution::New,
@@ -36,19 +36,19 @@ fn execution(exec: Exec) -> Execution
 }
 
 fn order_id(order: Option<OrderId>) -> Identifier
-    ensures { said result.bytes ≡ order-text order }
+    ensures { said result.bytes ≡ order_text order }
 {
     order.map_or(FixedText::empty(), |id| id.text())
 }
 
 fn reference_id(reference: Option<ExecutionId>) -> Identifier
-    ensures { said result.bytes ≡ reference-text reference }
+    ensures { said result.bytes ≡ reference_text reference }
 {
     reference.map_or(FixedText::empty(), |id| id.text())
 }
 
 fn own_id(partition: Partition, number: u32) -> Identifier
-    ensures { said result.bytes ≡ own-text partition number }
+    ensures { said result.bytes ≡ own_text partition number }
 {
     ExecutionId {
         partition: partition as u8,
@@ -63,7 +63,7 @@ fn execution_message(
     e: ExecutionReport,
 ) -> ExecutionMessage<Identifier, ClientOrderId, Symbol, Counterparty>
     requires { number < 2147483648 }
-    ensures { executionReportKept result ≡ execution-told partition number e }
+    ensures { execution_report_kept result ≡ execution_told partition number e }
 {
     ExecutionMessage {
         partition,
@@ -96,7 +96,7 @@ fn reject_message(
     r: CancelReject,
 ) -> OrderCancelReject<ClientOrderId, Identifier>
     requires { number < 2147483648 }
-    ensures { orderCancelRejectKept result ≡ reject-told partition number r }
+    ensures { order_cancel_reject_kept result ≡ reject_told partition number r }
 {
     OrderCancelReject {
         partition,
@@ -114,7 +114,7 @@ fn mass_message(
     r: MassCancelReport,
 ) -> OrderMassCancelReport<ClientOrderId>
     requires { number < 2147483648 }
-    ensures { orderMassCancelReportKept result ≡ mass-told partition number r }
+    ensures { order_mass_cancel_report_kept result ≡ mass_told partition number r }
 {
     OrderMassCancelReport {
         partition,
@@ -128,7 +128,7 @@ fn mass_message(
 
 // The message of a report under its number in a partition; none where the number does not fit its field.
 pub fn message_of(partition: Partition, number: u32, report: Report) -> Option<OwnedMessage>
-    ensures { MatchOption result (2147483648 ≤ number) (λ m. (number < 2147483648) × (keptOf m ≡ told-as partition number report)) }
+    ensures { MatchOption result (2147483648 ≤ number) (λ m. (number < 2147483648) × (kept_of m ≡ told_as partition number report)) }
 {
     if number >= 2_147_483_648 {
         return None;

@@ -15,8 +15,8 @@ use Rattle.reports.specs.declared.standings.Known.{Known}
 use Rattle.codes.specs.declared.session.Partition.{Partition}
 use Rattle.reports.specs.declared.standing.Told.{Told}
 use Rattle.reports.specs.declared.fold.FoldRefusal.TheVariants.{Unfit}
-use Rattle.reports.specs.Fold.{Table, nothing_known, added, changed, fold-known, fold-new, fold-order}
-use Rattle.reports.specs.Views.{has-number, standing-in, table-of}
+use Rattle.reports.specs.Fold.{Table, nothing_known, added, changed, fold_known, fold_new, fold_order}
+use Rattle.reports.specs.Views.{has_number, standing_in, rows_table}
 
 abbrev pub row : ℕ → Standing → Known
 row n s = record { number = n; standing = s }
@@ -32,17 +32,17 @@ first p xs i d e =
     sym (position_or_len_is p xs i d below h.2 (λ lt. h.1))
 
 -- what stands at the first row that has the number
-pub look_at : (rs : List Known) (i n : ℕ) (x : Known) → position (has-number n) rs ≡ Some i → x ≡ get_or rs i x → standing-in rs n ≡ Some x.standing
+pub look_at : (rs : List Known) (i n : ℕ) (x : Known) → position (has_number n) rs ≡ Some i → x ≡ get_or rs i x → standing_in rs n ≡ Some x.standing
 look_at rs i n x e read =
-    let p = has-number n in
+    let p = has_number n in
     let h = position-Some p rs i x e in
     ap standing-of (find_at p rs ∙ ap (slice_get rs) (sym (first p rs i x e)) ∙ slice_get-get_or rs i x h.0 ∙ ap Some (sym read))
 
 -- one row more, under a number that no row has
-pub look-push : (rs : List Known) (n : ℕ) (s : Standing) → standing-in rs n ≡ None → (m : ℕ) → standing-in (rs ++ (row n s ∷ [])) m ≡ update eqb (standing-in rs) n (Some s) m
+pub look-push : (rs : List Known) (n : ℕ) (s : Standing) → standing_in rs n ≡ None → (m : ℕ) → standing_in (rs ++ (row n s ∷ [])) m ≡ update eqb (standing_in rs) n (Some s) m
 look-push rs n s none m =
-    ap standing-of (find-append (has-number m) rs (row n s ∷ []))
-    ∙ behind (find (has-number m) rs) (eqb n m) (λ e. ap (standing-in rs) (sym (eqb-true n m e)) ∙ none)
+    ap standing-of (find-append (has_number m) rs (row n s ∷ []))
+    ∙ behind (find (has_number m) rs) (eqb n m) (λ e. ap (standing_in rs) (sym (eqb-true n m e)) ∙ none)
   where
     behind : (o : Option Known) (b : Bool) → (b ≡ true → standing-of o ≡ None) → standing-of (option_or o (cond b (Some (row n s)) None)) ≡ cond b (Some s) (standing-of o)
     behind None true known = refl
@@ -51,43 +51,43 @@ look-push rs n s none m =
     behind (Some r) false known = refl
 
 -- the first row that has the number, written over
-pub look-set : (rs : List Known) (i n : ℕ) (s : Standing) → position (has-number n) rs ≡ Some i → (m : ℕ) → standing-in (set rs i (row n s)) m ≡ update eqb (standing-in rs) n (Some s) m
+pub look-set : (rs : List Known) (i n : ℕ) (s : Standing) → position (has_number n) rs ≡ Some i → (m : ℕ) → standing_in (set rs i (row n s)) m ≡ update eqb (standing_in rs) n (Some s) m
 look-set rs i n s at m = by-test (eqb n m) refl
   where
-    by-test : (b : Bool) → eqb n m ≡ b → standing-in (set rs i (row n s)) m ≡ cond b (Some s) (standing-in rs m)
+    by-test : (b : Bool) → eqb n m ≡ b → standing_in (set rs i (row n s)) m ≡ cond b (Some s) (standing_in rs m)
     by-test true e =
-        let here : i ≡ position_or_len (has-number m) rs = first (has-number n) rs i (row n s) at ∙ ap (λ k. position_or_len (has-number k) rs) (eqb-true n m e) in
-        ap standing-of (find-set (has-number m) rs i (row n s) here (position-Some (has-number n) rs i (row n s) at).0 e)
+        let here : i ≡ position_or_len (has_number m) rs = first (has_number n) rs i (row n s) at ∙ ap (λ k. position_or_len (has_number k) rs) (eqb-true n m e) in
+        ap standing-of (find-set (has_number m) rs i (row n s) here (position-Some (has_number n) rs i (row n s) at).0 e)
     by-test false e =
         let r = get_or rs i (row n s) in
-        let number : r.number ≡ n = eqb-true r.number n (position-Some (has-number n) rs i (row n s) at).1 in
-        ap standing-of (find_past (has-number m) rs i (row n s) (row n s) (ap (λ k. eqb k m) number ∙ e) e)
+        let number : r.number ≡ n = eqb-true r.number n (position-Some (has_number n) rs i (row n s) at).1 in
+        ap standing-of (find_past (has_number m) rs i (row n s) (row n s) (ap (λ k. eqb k m) number ∙ e) e)
 
 same-table : (f g : ℕ → Option Standing) (m n : ℕ) → ((k : ℕ) → f k ≡ g k) → m ≡ n → ◌≡◌ {A = Table} (record { standing = f; count = m }) (record { standing = g; count = n })
 same-table f g m n h e = let same : f ≡ g = fun_ext h in cc
 
 -- a known order's row is written over where the report fits
-pub known-folds : (rs : List Known) (i n : ℕ) (t : Told) (x : Known) (s : Standing) → position (has-number n) rs ≡ Some i → x ≡ get_or rs i x → Some s ≡ changed t x.standing → (p : Partition) → fold-order p t (table-of rs) n (standing-in rs n) ≡ Ok (table-of (set rs i (row n s)))
+pub known-folds : (rs : List Known) (i n : ℕ) (t : Told) (x : Known) (s : Standing) → position (has_number n) rs ≡ Some i → x ≡ get_or rs i x → Some s ≡ changed t x.standing → (p : Partition) → fold_order p t (rows_table rs) n (standing_in rs n) ≡ Ok (rows_table (set rs i (row n s)))
 known-folds rs i n t x s at read told p =
-    ap (fold-order p t (table-of rs) n) (look_at rs i n x at read) ∙ ap (fold-known (table-of rs) n) (sym told)
+    ap (fold_order p t (rows_table rs) n) (look_at rs i n x at read) ∙ ap (fold_known (rows_table rs) n) (sym told)
     ∙ ap Ok (same-table _ _ _ _ (λ m. sym (look-set rs i n s at m)) (sym (length-set rs i (row n s))))
 
-pub known-unfit : (rs : List Known) (i n : ℕ) (t : Told) (x : Known) → position (has-number n) rs ≡ Some i → x ≡ get_or rs i x → None ≡ changed t x.standing → (p : Partition) → fold-order p t (table-of rs) n (standing-in rs n) ≡ Err Unfit
-known-unfit rs i n t x at read told p = ap (fold-order p t (table-of rs) n) (look_at rs i n x at read) ∙ ap (fold-known (table-of rs) n) (sym told)
+pub known-unfit : (rs : List Known) (i n : ℕ) (t : Told) (x : Known) → position (has_number n) rs ≡ Some i → x ≡ get_or rs i x → None ≡ changed t x.standing → (p : Partition) → fold_order p t (rows_table rs) n (standing_in rs n) ≡ Err Unfit
+known-unfit rs i n t x at read told p = ap (fold_order p t (rows_table rs) n) (look_at rs i n x at read) ∙ ap (fold_known (rows_table rs) n) (sym told)
 
 -- an unknown order gets a row where the report adds it
-pub new-folds : (rs : List Known) (n : ℕ) (p : Partition) (t : Told) (s : Standing) → standing-in rs n ≡ None → length rs < 256 → Some s ≡ added p t → fold-order p t (table-of rs) n (standing-in rs n) ≡ Ok (table-of (rs ++ (row n s ∷ [])))
+pub new-folds : (rs : List Known) (n : ℕ) (p : Partition) (t : Told) (s : Standing) → standing_in rs n ≡ None → length rs < 256 → Some s ≡ added p t → fold_order p t (rows_table rs) n (standing_in rs n) ≡ Ok (rows_table (rs ++ (row n s ∷ [])))
 new-folds rs n p t s none lt told =
-    ap (fold-order p t (table-of rs) n) none ∙ ap (fold-new (table-of rs) n) (sym told) ∙ cond-true _ _ _ (lt-ltb (length rs) 256 lt)
+    ap (fold_order p t (rows_table rs) n) none ∙ ap (fold_new (rows_table rs) n) (sym told) ∙ cond-true _ _ _ (lt-ltb (length rs) 256 lt)
     ∙ ap Ok (same-table _ _ _ _ (λ m. sym (look-push rs n s none m)) (sym (length-append rs (row n s ∷ []))))
 
-pub table_none : table-of [] ≡ nothing_known
+pub table_none : rows_table [] ≡ nothing_known
 table_none = same-table _ _ _ _ (λ n. refl) refl
 
 -- a number that no row has
-pub unknown : (rs : List Known) (n : ℕ) → position (has-number n) rs ≡ None → standing-in rs n ≡ None
+pub unknown : (rs : List Known) (n : ℕ) → position (has_number n) rs ≡ None → standing_in rs n ≡ None
 unknown rs n e =
-    let p = has-number n in
+    let p = has_number n in
     let past : length rs ≤ position_or_len p rs = omega (arith, ltb-false _ _ (no-place (ltb (position_or_len p rs) (length rs)) (position_or_len p rs) e)) in
     ap standing-of (find_at p rs ∙ slice_get_past rs (position_or_len p rs) past)
   where

@@ -6,7 +6,7 @@ use Rattle.codes.specs.declared.session.Partition.{Partition}
 use Rattle.reports.specs.declared.report.Entry.{Entry}
 use Rattle.reports.specs.Told.{told_of}
 use Rattle.reports.specs.Fold.{Table, nothing_known, fold}
-use Rattle.reports.specs.Tally.{entry_at, is-of, kept, tally-one, tally-to, own}
+use Rattle.reports.specs.Tally.{entry_at, is_of, kept, tally_one, tally_to, own}
 use Rattle.reports.specs.Laws.{Laws, TallyLaws}
 
 never : {A : Type 0} (e : Entry) → ◌≡◌ {A = Option Entry} None (Some e) → A
@@ -14,10 +14,10 @@ never e h = absurd (let z : ◌≡◌ {A = ℕ} 0 1 = cc in let no : ⊥ = omega
 
 module _ (p : Partition) (o : ℕ) where
   abbrev from : Table → List Entry → Table
-  from t l = fold_each (tally-one p o) t l
+  from t l = fold_each (tally_one p o) t l
 
   abbrev one : Table → Entry → Table
-  one t e = tally-one p o t e
+  one t e = tally_one p o t e
 
   from-nil : (t : Table) → from t [] ≡ t
   from-nil t = refl
@@ -39,22 +39,22 @@ module _ (p : Partition) (o : ℕ) where
   not_own t e h = cond-false _ _ _ h
 
   -- no report of the owner past n
-  from-rest : (t : Table) (l : List Entry) (n : ℕ) → ((k : ℕ) → n < k → is-of o (entry_at l k) ≡ false) → from t (take n l) ≡ from t l
+  from-rest : (t : Table) (l : List Entry) (n : ℕ) → ((k : ℕ) → n < k → is_of o (entry_at l k) ≡ false) → from t (take n l) ≡ from t l
   from-rest t [] zero h = refl
   from-rest t [] (suc n) h = refl
   from-rest t (x ∷ l) zero h = from-rest t l zero shift ∙ ap (λ u. from u l) (sym (not_own t x (h 1 (omega arith))))
     where
-      shift : (k : ℕ) → 0 < k → is-of o (entry_at l k) ≡ false
+      shift : (k : ℕ) → 0 < k → is_of o (entry_at l k) ≡ false
       shift zero lt = refl
       shift (suc k) lt = h (suc (suc k)) (omega arith)
   from-rest t (x ∷ l) (suc n) h = from-rest (one t x) l n shift
     where
-      shift : (k : ℕ) → n < k → is-of o (entry_at l k) ≡ false
+      shift : (k : ℕ) → n < k → is_of o (entry_at l k) ≡ false
       shift zero lt = refl
       shift (suc k) lt = h (suc (suc k)) (omega arith)
 
   -- none between m and n
-  from-skip : (t : Table) (l : List Entry) (m n : ℕ) → m ≤ n → ((k : ℕ) → m < k → k ≤ n → is-of o (entry_at l k) ≡ false) → from t (take n l) ≡ from t (take m l)
+  from-skip : (t : Table) (l : List Entry) (m n : ℕ) → m ≤ n → ((k : ℕ) → m < k → k ≤ n → is_of o (entry_at l k) ≡ false) → from t (take n l) ≡ from t (take m l)
   from-skip t [] zero zero le h = refl
   from-skip t [] zero (suc n) le h = refl
   from-skip t [] (suc m) zero le h = refl
@@ -63,12 +63,12 @@ module _ (p : Partition) (o : ℕ) where
   from-skip t (x ∷ l) (suc m) zero le h = absurd (let no : ⊥ = omega arith in no)
   from-skip t (x ∷ l) zero (suc n) le h = ap (λ u. from u (take n l)) (not_own t x (h 1 (omega arith) (omega arith))) ∙ from-skip t l zero n (omega arith) shift
     where
-      shift : (k : ℕ) → 0 < k → k ≤ n → is-of o (entry_at l k) ≡ false
+      shift : (k : ℕ) → 0 < k → k ≤ n → is_of o (entry_at l k) ≡ false
       shift zero lt le = refl
       shift (suc k) lt le = h (suc (suc k)) (omega arith) (omega arith)
   from-skip t (x ∷ l) (suc m) (suc n) le h = from-skip (one t x) l m n (omega arith) shift
     where
-      shift : (k : ℕ) → m < k → k ≤ n → is-of o (entry_at l k) ≡ false
+      shift : (k : ℕ) → m < k → k ≤ n → is_of o (entry_at l k) ≡ false
       shift zero lt le = refl
       shift (suc k) lt le = h (suc (suc k)) (omega arith) (omega arith)
 
@@ -81,7 +81,7 @@ module _ (p : Partition) (o : ℕ) where
   from-own t [] = refl
   from-own t (e ∷ l) = own-one t e l (eqb e.owner o) refl (λ u. from-own u l)
 
-  next-own : (l : List Entry) (m n : ℕ) (e : Entry) → m < n → ((k : ℕ) → m < k → k < n → is-of o (entry_at l k) ≡ false) → entry_at l n ≡ Some e → e.owner ≡ o → tally-to p o l n ≡ kept (tally-to p o l m) (fold p (told_of e.report) (tally-to p o l m))
+  next-own : (l : List Entry) (m n : ℕ) (e : Entry) → m < n → ((k : ℕ) → m < k → k < n → is_of o (entry_at l k) ≡ false) → entry_at l n ≡ Some e → e.owner ≡ o → tally_to p o l n ≡ kept (tally_to p o l m) (fold p (told_of e.report) (tally_to p o l m))
   next-own l m zero e lt h at mine = absurd (let no : ⊥ = omega arith in no)
   next-own l m (suc n) e lt h at mine =
       let t = nothing_known in

@@ -13,9 +13,9 @@ entry_at l zero = None
 entry_at l (suc n) = slice_get l n
 
 -- whether there is a report, and it is the owner's
-abbrev pub is-of : ℕ → Option Entry → Bool
-is-of o None = false
-is-of o (Some e) = e.owner == o
+abbrev pub is_of : ℕ → Option Entry → Bool
+is_of o None = false
+is_of o (Some e) = e.owner == o
 
 -- a refused report changes nothing
 abbrev pub kept : Table → Result Table FoldRefusal → Table
@@ -23,16 +23,16 @@ kept k (Ok k') = k'
 kept k (Err e) = k
 
 -- one report more; another owner's changes nothing
-abbrev pub tally-one : Partition → ℕ → Table → Entry → Table
-tally-one p o k e = cond (e.owner == o) (kept k (fold p (told_of e.report) k)) k
+abbrev pub tally_one : Partition → ℕ → Table → Entry → Table
+tally_one p o k e = cond (e.owner == o) (kept k (fold p (told_of e.report) k)) k
 
 -- all reports of a partition, in turn
 abbrev pub tally : Partition → ℕ → List Entry → Table
-tally p o l = fold_each (tally-one p o) nothing_known l
+tally p o l = fold_each (tally_one p o) nothing_known l
 
 -- the reports up to a number
-abbrev pub tally-to : Partition → ℕ → List Entry → ℕ → Table
-tally-to p o l n = tally p o (take n l)
+abbrev pub tally_to : Partition → ℕ → List Entry → ℕ → Table
+tally_to p o l n = tally p o (take n l)
 
 -- the owner's own reports
 abbrev pub own : ℕ → List Entry → List Entry

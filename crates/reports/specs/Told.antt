@@ -9,17 +9,17 @@ use Rattle.reports.specs.declared.report.Report.TheVariants.{Execution, CancelRe
 use Rattle.reports.specs.declared.standing.Told.{Told}
 
 -- the exec type of an Execution Report
-abbrev pub kind-of : Exec → ExecType
-kind-of with.New = exec.New
-kind-of with.Cancelled = exec.Cancelled
-kind-of with.Replaced = exec.Replaced
-kind-of (with.Rejected code) = exec.Rejected
-kind-of with.Expired = exec.Expired
-kind-of with.Restated = exec.Restated
-kind-of (with.Trade liquidity type) = exec.Trade
-kind-of (with.TradeCancel liquidity) = exec.TradeCancel
+abbrev pub kind_of : Exec → ExecType
+kind_of with.New = exec.New
+kind_of with.Cancelled = exec.Cancelled
+kind_of with.Replaced = exec.Replaced
+kind_of (with.Rejected code) = exec.Rejected
+kind_of with.Expired = exec.Expired
+kind_of with.Restated = exec.Restated
+kind_of (with.Trade liquidity type) = exec.Trade
+kind_of (with.TradeCancel liquidity) = exec.TradeCancel
 
 abbrev pub told_of : Report → Option Told
-told_of (Execution e) = Some (record { order = e.order; kind = kind-of e.exec; status = e.status; quantity = e.quantity; leaves = e.leaves })
+told_of (Execution e) = Some (record { order = e.order; kind = kind_of e.exec; status = e.status; quantity = e.quantity; leaves = e.leaves })
 told_of (CancelReject r) = None
 told_of (MassCancel r) = None

@@ -1,8 +1,8 @@
 // Folding a report into a table of standings.
 ghost use Rattle.std.specs.Prelude.{◌≡◌, ℕ, ◌+◌, ◌<◌, ◌≤◌, true, false, [], pos, ◌-ℤ◌, IfOk, Some, None, MatchOption, ◌==◌, slice_index_or, position};
 ghost use Rattle.reports.specs.Effects.{effect_of};
-ghost use Rattle.reports.specs.Fold.{nothing_known, natural, added, filled-to, executed-after, changed, fold-number, fold-order, fold, Folds};
-ghost use Rattle.reports.specs.Views.{known_of, table_of, has-number, standing-in};
+ghost use Rattle.reports.specs.Fold.{nothing_known, natural, added, filled_to, executed_after, changed, fold_number, fold_order, fold, Folds};
+ghost use Rattle.reports.specs.Views.{known_of, table_of, has_number, standing_in};
 
 use crate::standing::{Effect, Standing, Told, effect_of};
 use crate::standings::{Known, Standings};
@@ -24,7 +24,7 @@ pub enum FoldRefusal {
 
 impl FoldRefusal {
     pub fn number(self) -> u8
-        ensures { result ≡ fold-number self }
+        ensures { result ≡ fold_number self }
     {
         match self {
             FoldRefusal::Unfit => 53,
@@ -58,7 +58,7 @@ fn added_by(partition: Partition, told: Told) -> Option<Standing>
 
 // Executed after a fill that leaves so many shares open.
 fn filled_by(quantity: i32, leaves: u32, was: Standing) -> Option<u64>
-    ensures { result ≡ filled-to (natural quantity) leaves was }
+    ensures { result ≡ filled_to (natural quantity) leaves was }
 {
     let quantity = natural_of(quantity)? as u64;
     let fits = quantity > 0 && leaves as u64 + quantity == was.leaves as u64;
@@ -74,7 +74,7 @@ fn undone_by(quantity: i32, executed: u32) -> Option<u64>
 
 // Executed after a report that leaves so many shares open.
 fn executed_by(told: Told, leaves: u32, was: Standing) -> Option<u64>
-    ensures { result ≡ executed-after (effect_of told.kind) told.quantity leaves was }
+    ensures { result ≡ executed_after (effect_of told.kind) told.quantity leaves was }
 {
     match effect_of(told.kind) {
         Effect::Adds => None,
@@ -136,7 +136,7 @@ impl Standings {
     }
 
     fn find(&self, number: u64) -> Option<usize>
-        ensures { result ≡ position (has-number number) (known_of self.now) }
+        ensures { result ≡ position (has_number number) (known_of self.now) }
     {
         self.rows.iter().position(|row| row.number == number)
     }
@@ -152,8 +152,8 @@ impl Standings {
     }
 
     fn fold_known(&mut self, number: u64, index: usize, told: Told) -> Result<(), FoldRefusal>
-        requires { position (has-number number) (known_of self.old) ≡ Some index }
-        ensures { (p : Partition) → Folds (fold-order p told (table_of self.old) number ((table_of self.old).standing number)) (table_of self.old) result (table_of self.new) }
+        requires { position (has_number number) (known_of self.old) ≡ Some index }
+        ensures { (p : Partition) → Folds (fold_order p told (table_of self.old) number ((table_of self.old).standing number)) (table_of self.old) result (table_of self.new) }
     {
         let standing = changed_by(told, self.rows[index].standing).ok_or(FoldRefusal::Unfit)?;
         self.rows[index] = Known { number, standing };
@@ -161,8 +161,8 @@ impl Standings {
     }
 
     fn fold_new(&mut self, partition: Partition, number: u64, told: Told) -> Result<(), FoldRefusal>
-        requires { standing-in (known_of self.old) number ≡ None }
-        ensures { Folds (fold-order partition told (table_of self.old) number ((table_of self.old).standing number)) (table_of self.old) result (table_of self.new) }
+        requires { standing_in (known_of self.old) number ≡ None }
+        ensures { Folds (fold_order partition told (table_of self.old) number ((table_of self.old).standing number)) (table_of self.old) result (table_of self.new) }
     {
         let standing = added_by(partition, told).ok_or(FoldRefusal::Unfit)?;
         if self.rows.len() >= ORDERS {

@@ -1,6 +1,6 @@
 // The reports that a store keeps. Partition and sequence number are the store's to give, and the Execution ID follows from them.
 ghost use Rattle.std.specs.Prelude.{◌≡◌};
-ghost use Rattle.reports.specs.Told.{kind-of, told_of};
+ghost use Rattle.reports.specs.Told.{kind_of, told_of};
 
 use crate::standing::Told;
 use codes::order::{Book, Side};
@@ -73,7 +73,7 @@ pub struct Entry {
 
 impl Exec {
     pub fn kind(self) -> ExecType
-        ensures { result ≡ kind-of self }
+        ensures { result ≡ kind_of self }
     {
         match self {
             Exec::New => ExecType::New,

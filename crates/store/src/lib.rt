@@ -3,7 +3,7 @@
 
 ghost use Rattle.std.specs.Prelude.{◌≡◌, ℕ, ◌+◌, ◌≤◌, length};
 ghost use Rattle.reports.specs.Tally.{entry_at};
-ghost use Rattle.store.specs.Kept.{Kept, reports-in, total, next-after, Appends};
+ghost use Rattle.store.specs.Kept.{Kept, reports_in, total, next_after, Appends};
 
 use codes::session::Partition;
 use reports::report::Entry;
@@ -28,7 +28,7 @@ pub trait Store {
 
     // The last number of a partition; 0 where it has no report.
     fn last(&self, partition: Partition) -> u32
-        ensures { result ≡ length (reports-in (kept self.now) partition) };
+        ensures { result ≡ length (reports_in (kept self.now) partition) };
 
     // The number of the report that was appended; none where no place is free.
     fn append(&mut self, partition: Partition, entry: Entry) -> Option<u32>
@@ -36,11 +36,11 @@ pub trait Store {
 
     // The report of a number, with its owner.
     fn read(&self, partition: Partition, number: u32) -> Option<Entry>
-        ensures { result ≡ entry_at (reports-in (kept self.now) partition) number };
+        ensures { result ≡ entry_at (reports_in (kept self.now) partition) number };
 
     // The lowest number above a given one whose report is the owner's.
     fn next(&self, partition: Partition, owner: usize, above: u32) -> Option<u32>
-        ensures { result ≡ next-after (reports-in (kept self.now) partition) owner above };
+        ensures { result ≡ next_after (reports_in (kept self.now) partition) owner above };
 
     // at most 16,384 reports in all
     ghost room: { (s : Self) → total (kept s) + free s ≤ 16384 };

@@ -1,7 +1,7 @@
 // The calls of the store of records.
 ghost use Rattle.std.specs.Prelude.{◌≡◌, ℕ, ◌+◌, ◌-◌, ◌<◌, ◌≤◌, min, true, false, length, IfOk, vec_len, ◌==◌};
 ghost use Rattle.reports.specs.Tally.{entry_at};
-ghost use Rattle.store.specs.Kept.{empty, reports-in, next-after};
+ghost use Rattle.store.specs.Kept.{empty, reports_in, next_after};
 ghost use Rattle.store.specs.Views.{recorded, unused};
 ghost use Rattle.std.proofs.Common.{rules};
 
@@ -30,7 +30,7 @@ impl Records {
     }
 
     fn entries(&self, partition: Partition) -> &[Entry]
-        ensures items { result.now ≡ reports-in (recorded self.now) partition }
+        ensures items { result.now ≡ reports_in (recorded self.now) partition }
         ensures bound { length result.now ≤ 16384 }
     {
         match partition {

@@ -7,7 +7,7 @@ use Rattle.codes.specs.declared.session.Partition.{Partition}
 use Rattle.codes.specs.declared.session.Partition.TheVariants.{One, Two, Three}
 use Rattle.reports.specs.declared.report.Entry.{Entry}
 use Rattle.reports.specs.Tally.{entry_at}
-use Rattle.store.specs.Kept.{Kept, grown, total, next-after}
+use Rattle.store.specs.Kept.{Kept, grown, total, next_after}
 use Rattle.store.proofs.Nexts.{next-shift}
 use Rattle.store_bench.specs.Counts.{owned, owned_below, Counts}
 
@@ -28,14 +28,14 @@ front x l o true r e h = (omega arith, omega arith, owned-cons o x l true e)
 front x l o false None e h = owned-cons o x l false e ∙ omega (arith, h)
 front x l o false (Some n) e h = (omega arith, omega (arith, h.1), owned-cons o x l false e ∙ omega (arith, h.2))
 
-pub next-counts : (l : List Entry) (o above : ℕ) → Counts l o above (next-after l o above)
+pub next-counts : (l : List Entry) (o above : ℕ) → Counts l o above (next_after l o above)
 next-counts [] o zero = refl
 next-counts [] o (suc above) = refl
 next-counts (x ∷ l) o zero =
-    subst (λ r. Counts (x ∷ l) o 0 (cond (eqb x.owner o) (Some 1) r)) (sym (next-shift o 1 l)) (front x l o (eqb x.owner o) (next-after l o 0) refl (next-counts l o 0))
+    subst (λ r. Counts (x ∷ l) o 0 (cond (eqb x.owner o) (Some 1) r)) (sym (next-shift o 1 l)) (front x l o (eqb x.owner o) (next_after l o 0) refl (next-counts l o 0))
 next-counts (x ∷ l) o (suc above) =
     let same : suc above + 1 ≡ above + 1 + 1 = omega arith in
-    subst (λ r. Counts (x ∷ l) o (suc above) r) (sym (ap (λ j. position_from (λ (e : Entry). eqb e.owner o) j (drop above l)) same ∙ next-shift o (above + 1) (drop above l))) (lift x l o above (next-after l o above) (next-counts l o above))
+    subst (λ r. Counts (x ∷ l) o (suc above) r) (sym (ap (λ j. position_from (λ (e : Entry). eqb e.owner o) j (drop above l)) same ∙ next-shift o (above + 1) (drop above l))) (lift x l o above (next_after l o above) (next-counts l o above))
 
 -- a number within the list has an entry
 pub entry-there : (l : List Entry) (n : ℕ) → 0 < n → n ≤ length l → entry_at l n ≡ None → ⊥

@@ -1,6 +1,6 @@
 // Filling a store and walking it, whatever store it is.
 ghost use Rattle.std.specs.Prelude.{◌≡◌, ℕ, ◌+◌, ◌≤◌};
-ghost use Rattle.store.specs.Kept.{total, reports-in};
+ghost use Rattle.store.specs.Kept.{total, reports_in};
 ghost use Rattle.store_bench.specs.Counts.{owned, owned_below, Counts};
 
 use crate::day::{OWNERS, entry_of, partition_of};
@@ -31,7 +31,7 @@ pub fn fill<S: Store>(store: &mut S) -> usize
 
 // Reads an owner's next report above a number, and answers its number.
 fn read_next<S: Store>(store: &S, partition: Partition, owner: usize, above: u32) -> Option<u32>
-    ensures { Counts (reports-in (S.Store.kept store.now) partition) owner above result }
+    ensures { Counts (reports_in (S.Store.kept store.now) partition) owner above result }
 {
     let number = store.next(partition, owner, above)?;
     store.read(partition, number)?;
@@ -40,7 +40,7 @@ fn read_next<S: Store>(store: &S, partition: Partition, owner: usize, above: u32
 
 // Reads an owner's reports of a partition by rising number, and answers how many there are.
 fn read_own<S: Store>(store: &S, partition: Partition, owner: usize) -> usize
-    ensures value { result ≡ owned owner (reports-in (S.Store.kept store.now) partition) }
+    ensures value { result ≡ owned owner (reports_in (S.Store.kept store.now) partition) }
     ensures bound { result ≤ 16384 }
 {
     let mut found = 0;

@@ -4,7 +4,7 @@ use Rattle.std.proofs.lemmas.Slice.{between_to_end}
 use Rattle.std.proofs.lemmas.List.{drop-set}
 use Rattle.texts.proofs.Padding.{both_true, said_all}
 use Rattle.std.proofs.lemmas.Nat.{div-add-mod', div_below, mod_below}
-use Rattle.texts.specs.Bytes.{printable, allPrintable, said}
+use Rattle.texts.specs.Bytes.{printable, all_printable, said}
 use Rattle.texts.specs.Identifiers.{digit, worth, base62, id_of, after, number_of, Returns}
 
 -- one more digit is read
@@ -47,28 +47,28 @@ unfolding base62
 length-base62 zero n = refl
 length-base62 (suc k) n = length-append (base62 k (n / 62)) (digit (n % 62) ∷ []) ∙ rw (length-base62 k (n / 62)) (omega arith)
 
-pub length-idOf : (letter n : ℕ) → length (id_of letter n) ≡ 12
-length-idOf letter n = ap suc (length-base62 11 n)
+pub length-id_of : (letter n : ℕ) → length (id_of letter n) ≡ 12
+length-id_of letter n = ap suc (length-base62 11 n)
 
 printable-digit : (d : ℕ) → d < 62 → printable (digit d) ≡ true
 printable-digit d h = grind arith
 
-printable-push : (xs : List ℕ) (c : ℕ) → allPrintable xs ≡ true → printable c ≡ true → allPrintable (xs ++ (c ∷ [])) ≡ true
+printable-push : (xs : List ℕ) (c : ℕ) → all_printable xs ≡ true → printable c ≡ true → all_printable (xs ++ (c ∷ [])) ≡ true
 printable-push [] c h k = rw k
-printable-push (x ∷ xs) c h k = let q = both_true (printable x) (allPrintable xs) h in rw q.0 (printable-push xs c q.1 k)
+printable-push (x ∷ xs) c h k = let q = both_true (printable x) (all_printable xs) h in rw q.0 (printable-push xs c q.1 k)
 
-printable-base62 : (k n : ℕ) → allPrintable (base62 k n) ≡ true
+printable-base62 : (k n : ℕ) → all_printable (base62 k n) ≡ true
 unfolding base62
 printable-base62 zero n = refl
 printable-base62 (suc k) n =
     let p : 0 < 62 = omega arith in
     printable-push (base62 k (n / 62)) (digit (n % 62)) (printable-base62 k (n / 62)) (printable-digit (n % 62) (mod_below n 62 p))
 
-pub printable-idOf : (letter n : ℕ) → 65 ≤ letter → letter ≤ 90 → allPrintable (id_of letter n) ≡ true
-printable-idOf letter n a b = let q : printable letter ≡ true = grind arith in rw q (printable-base62 11 n)
+pub printable-id_of : (letter n : ℕ) → 65 ≤ letter → letter ≤ 90 → all_printable (id_of letter n) ≡ true
+printable-id_of letter n a b = let q : printable letter ≡ true = grind arith in rw q (printable-base62 11 n)
 
-pub said-idOf : (letter n : ℕ) → 65 ≤ letter → letter ≤ 90 → said (id_of letter n) ≡ id_of letter n
-said-idOf letter n a b = said_all (id_of letter n) (printable-idOf letter n a b)
+pub said-id_of : (letter n : ℕ) → 65 ≤ letter → letter ≤ 90 → said (id_of letter n) ≡ id_of letter n
+said-id_of letter n a b = said_all (id_of letter n) (printable-id_of letter n a b)
 
 returned : (letter n : ℕ) → n < 18446744073709551616 → number_of letter (id_of letter n) ≡ Some n
 returned letter n h =

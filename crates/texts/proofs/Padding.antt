@@ -5,7 +5,7 @@ use Rattle.std.specs.List.{prefix_len}
 use Rattle.std.proofs.lemmas.List.{take_at, drop_at, length-take-le, drop_all, take_all}
 use Rattle.std.proofs.lemmas.List.Sums.{prefix_len-le-length}
 use Rattle.std.proofs.lemmas.Nat.{div-add-mod', div_below}
-use Rattle.texts.specs.Bytes.{le, toLe, printable, allPrintable, allNull, said, isText, named, padded}
+use Rattle.texts.specs.Bytes.{le, to_le, printable, all_printable, all_null, said, is_text, named, padded}
 
 pub both_true : (a b : Bool) → (a && b) ≡ true → (a ≡ true) × (b ≡ true)
 both_true true b e = (refl, e)
@@ -17,58 +17,58 @@ lead-null : (k : ℕ) → prefix_len printable (replicate k 0) ≡ 0
 lead-null zero = refl
 lead-null (suc k) = refl
 
-lead-padded : (t : List ℕ) (k : ℕ) → allPrintable t ≡ true → prefix_len printable (t ++ replicate k 0) ≡ length t
+lead-padded : (t : List ℕ) (k : ℕ) → all_printable t ≡ true → prefix_len printable (t ++ replicate k 0) ≡ length t
 lead-padded [] k h = lead-null k
-lead-padded (b ∷ t) k h = let q = both_true (printable b) (allPrintable t) h in rw (q.0, lead-padded t k q.1) (omega arith)
+lead-padded (b ∷ t) k h = let q = both_true (printable b) (all_printable t) h in rw (q.0, lead-padded t k q.1) (omega arith)
 
 lead-front : (p : Bool) (n m : ℕ) → cond p (1 + n) 0 ≡ suc m → (p ≡ true) × (n ≡ m)
 lead-front true n m e = (refl, omega arith)
 lead-front false n m e = absurd (omega arith)
 
-pub printable-all : (t : List ℕ) → prefix_len printable t ≡ length t → allPrintable t ≡ true
+pub printable-all : (t : List ℕ) → prefix_len printable t ≡ length t → all_printable t ≡ true
 printable-all [] e = refl
 printable-all (b ∷ t) e = let q = lead-front (printable b) (prefix_len printable t) (length t) e in rw q.0 (printable-all t q.1)
 
-pub lead-all : (t : List ℕ) → allPrintable t ≡ true → prefix_len printable t ≡ length t
+pub lead-all : (t : List ℕ) → all_printable t ≡ true → prefix_len printable t ≡ length t
 lead-all [] h = refl
-lead-all (b ∷ t) h = let q = both_true (printable b) (allPrintable t) h in rw (q.0, lead-all t q.1) (omega arith)
+lead-all (b ∷ t) h = let q = both_true (printable b) (all_printable t) h in rw (q.0, lead-all t q.1) (omega arith)
 
-said-by : (p : Bool) (b : ℕ) (f : List ℕ) → printable b ≡ p → allPrintable (said f) ≡ true → allPrintable (take (cond p (1 + prefix_len printable f) 0) (b ∷ f)) ≡ true
+said-by : (p : Bool) (b : ℕ) (f : List ℕ) → printable b ≡ p → all_printable (said f) ≡ true → all_printable (take (cond p (1 + prefix_len printable f) 0) (b ∷ f)) ≡ true
 said-by true b f e h = let o : 1 + prefix_len printable f ≡ suc (prefix_len printable f) = omega arith in rw (o, e) h
 said-by false b f e h = refl
 
-pub printable-said : (f : List ℕ) → allPrintable (said f) ≡ true
+pub printable-said : (f : List ℕ) → all_printable (said f) ≡ true
 printable-said [] = refl
 printable-said (b ∷ f) = said-by (printable b) b f refl (printable-said f)
 
 -- nulls
 
-pub null-all : (k : ℕ) → allNull (replicate k 0) ≡ true
+pub null-all : (k : ℕ) → all_null (replicate k 0) ≡ true
 null-all zero = refl
 null-all (suc k) = null-all k
 
-pub null_is : (xs : List ℕ) → allNull xs ≡ true → xs ≡ replicate (length xs) 0
+pub null_is : (xs : List ℕ) → all_null xs ≡ true → xs ≡ replicate (length xs) 0
 null_is [] h = refl
-null_is (x ∷ xs) h = let q = both_true (eqb x 0) (allNull xs) h in rw (eqb-true x 0 q.0) (ap (λ (ys : List ℕ). 0 ∷ ys) (null_is xs q.1))
+null_is (x ∷ xs) h = let q = both_true (eqb x 0) (all_null xs) h in rw (eqb-true x 0 q.0) (ap (λ (ys : List ℕ). 0 ∷ ys) (null_is xs q.1))
 
 -- padding
 
 pub length-padded : (w : ℕ) (t : List ℕ) → length t ≤ w → length (padded w t) ≡ w
 length-padded w t h = rw (length-append t (replicate (w - length t) 0), length-replicate {A = ℕ} (w - length t) 0) (omega arith)
 
-pub said-padded : (w : ℕ) (t : List ℕ) → allPrintable t ≡ true → said (padded w t) ≡ t
+pub said-padded : (w : ℕ) (t : List ℕ) → all_printable t ≡ true → said (padded w t) ≡ t
 said-padded w t h = rw (lead-padded t (w - length t) h) (take_at t (replicate (w - length t) 0) (length t) refl)
 
-pub isText-padded : (w : ℕ) (t : List ℕ) → allPrintable t ≡ true → isText (padded w t) ≡ true
-unfolding isText
-isText-padded w t h = rw (lead-padded t (w - length t) h, drop_at t (replicate (w - length t) 0) (length t) refl) (null-all (w - length t))
+pub is_text-padded : (w : ℕ) (t : List ℕ) → all_printable t ≡ true → is_text (padded w t) ≡ true
+unfolding is_text
+is_text-padded w t h = rw (lead-padded t (w - length t) h, drop_at t (replicate (w - length t) 0) (length t) refl) (null-all (w - length t))
 
-pub named-padded : (w : ℕ) (t : List ℕ) → allPrintable t ≡ true → 0 < length t → named (padded w t) ≡ true
+pub named-padded : (w : ℕ) (t : List ℕ) → all_printable t ≡ true → 0 < length t → named (padded w t) ≡ true
 unfolding named
 named-padded w t h l = rw (lead-padded t (w - length t) h) (lt-ltb 0 (length t) l)
 
-pub padded-said : (f : List ℕ) → isText f ≡ true → padded (length f) (said f) ≡ f
-unfolding isText
+pub padded-said : (f : List ℕ) → is_text f ≡ true → padded (length f) (said f) ≡ f
+unfolding is_text
 padded-said f h =
     let n = prefix_len printable f in
     let l = length-take-le n f (prefix_len-le-length printable f) in
@@ -76,23 +76,23 @@ padded-said f h =
     rw (l, ← z) (take-append-drop n f)
 
 -- text that fills its field
-pub isText-all : (t : List ℕ) → allPrintable t ≡ true → isText t ≡ true
-unfolding isText
-isText-all t h = rw (lead-all t h, drop_all (length t) t (omega arith))
+pub is_text-all : (t : List ℕ) → all_printable t ≡ true → is_text t ≡ true
+unfolding is_text
+is_text-all t h = rw (lead-all t h, drop_all (length t) t (omega arith))
 
-pub said_all : (t : List ℕ) → allPrintable t ≡ true → said t ≡ t
+pub said_all : (t : List ℕ) → all_printable t ≡ true → said t ≡ t
 said_all t h = rw (lead-all t h) (take_all (length t) t (omega arith))
 
 -- numbers
 
-pub length-toLe : (w n : ℕ) → length (toLe w n) ≡ w
-length-toLe zero n = refl
-length-toLe (suc w) n = ap suc (length-toLe w (n / 256))
+pub length-to_le : (w n : ℕ) → length (to_le w n) ≡ w
+length-to_le zero n = refl
+length-to_le (suc w) n = ap suc (length-to_le w (n / 256))
 
-pub le-toLe : (w n : ℕ) → n < 256 ^ w → le (toLe w n) ≡ n
-le-toLe zero n h = omega arith
-le-toLe (suc w) n h =
+pub le-to_le : (w n : ℕ) → n < 256 ^ w → le (to_le w n) ≡ n
+le-to_le zero n h = omega arith
+le-to_le (suc w) n h =
     let h' : n < 256 ^ w * 256 = rw pow-suc at h in
     let p : 0 < 256 = omega arith in
-    let e = le-toLe w (n / 256) (div_below n 256 (256 ^ w) p h') in
+    let e = le-to_le w (n / 256) (div_below n 256 (256 ^ w) p h') in
     omega (arith, e, div-add-mod' n 256)

@@ -12,26 +12,26 @@ le [] = 0
 le (b ∷ bs) = b + 256 * le bs
 
 -- the bytes of a number, the lowest first, in a width
-abbrev pub toLe : ℕ → ℕ → List ℕ
-toLe zero n = []
-toLe (suc w) n = n % 256 ∷ toLe w (n / 256)
+abbrev pub to_le : ℕ → ℕ → List ℕ
+to_le zero n = []
+to_le (suc w) n = n % 256 ∷ to_le w (n / 256)
 
 abbrev pub printable : ℕ → Bool
 printable b = nat_le 32 b && nat_le b 126
 
-abbrev pub allPrintable : List ℕ → Bool
-allPrintable bs = list_all printable bs
+abbrev pub all_printable : List ℕ → Bool
+all_printable bs = list_all printable bs
 
-abbrev pub allNull : List ℕ → Bool
-allNull bs = list_all (λ b. b == 0) bs
+abbrev pub all_null : List ℕ → Bool
+all_null bs = list_all (λ b. b == 0) bs
 
 -- what a text field says: the printable bytes at its front
 abbrev pub said : List ℕ → List ℕ
 said f = take (prefix_len printable f) f
 
 -- a field that holds text: behind what it says all is null
-unfoldable pub isText : List ℕ → Bool
-isText f = allNull (drop (prefix_len printable f) f)
+unfoldable pub is_text : List ℕ → Bool
+is_text f = all_null (drop (prefix_len printable f) f)
 
 -- a field that says something
 unfoldable pub named : List ℕ → Bool

@@ -30,15 +30,15 @@ abbrev pub number_of : ℕ → List ℕ → Option ℕ
 number_of letter bs = cond (length bs == 12) (cond (slice_index bs 0 == letter) (after 0 (drop 1 bs)) None) None
 
 -- O and the order's number
-abbrev pub orderId : ℕ → List ℕ
-orderId n = id_of 79 n
+abbrev pub order_id_text : ℕ → List ℕ
+order_id_text n = id_of 79 n
 
 -- E and a number of the partition and the sequence number
-abbrev pub executionNumber : ℕ → ℕ → ℕ
-executionNumber partition sequence = partition * 4294967296 + sequence
+abbrev pub execution_number : ℕ → ℕ → ℕ
+execution_number partition sequence = partition * 4294967296 + sequence
 
-abbrev pub executionId : ℕ → ℕ → List ℕ
-executionId partition sequence = id_of 69 (executionNumber partition sequence)
+abbrev pub execution_id_text : ℕ → ℕ → List ℕ
+execution_id_text partition sequence = id_of 69 (execution_number partition sequence)
 
 -- an identifier gives its number back, and no other number has the same one
 abbrev pub Returns : ℕ → ℕ → Type 0

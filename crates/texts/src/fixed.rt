@@ -1,13 +1,13 @@
 // Text that is kept: fixed width, no heap.
 ghost use Rattle.std.specs.Prelude.{◌≡◌, true, length};
-ghost use Rattle.texts.specs.Bytes.{isText, named};
+ghost use Rattle.texts.specs.Bytes.{is_text, named};
 
 // The bytes of a text field: printable ones, and then nothing but nulls.
 #[derive(Clone, Copy)]
 pub struct FixedText<const N: usize> {
     pub(crate) bytes: [u8; N],
     ghost wide: { length bytes ≡ N },
-    ghost text: { isText bytes ≡ true },
+    ghost text: { is_text bytes ≡ true },
 }
 
 // A request's Client Order ID, which is not empty.

@@ -1,7 +1,7 @@
 // Identifiers: a letter, and a number in eleven digits of base 62.
 ghost use Rattle.std.specs.Prelude.{◌≡◌, ℕ, ◌+◌, ◌<◌, ◌≤◌, length};
 ghost use Rattle.std.specs.Option.{option_map};
-ghost use Rattle.texts.specs.Identifiers.{digit, worth, id_of, orderId, executionId, executionNumber, after, number_of, Returns};
+ghost use Rattle.texts.specs.Identifiers.{digit, worth, id_of, order_id_text, execution_id_text, execution_number, after, number_of, Returns};
 
 use crate::fixed::FixedText;
 
@@ -98,7 +98,7 @@ fn id_text(letter: u8, number: u64) -> FixedText<12>
 
 impl OrderId {
     pub fn text(self) -> FixedText<12>
-        ensures text { result.bytes ≡ orderId self.number }
+        ensures text { result.bytes ≡ order_id_text self.number }
         ensures returns { Returns 79 self.number }
     {
         id_text(b'O', self.number)
@@ -114,8 +114,8 @@ impl OrderId {
 
 impl ExecutionId {
     pub fn text(self) -> FixedText<12>
-        ensures text { result.bytes ≡ executionId self.partition self.sequence }
-        ensures returns { Returns 69 (executionNumber self.partition self.sequence) }
+        ensures text { result.bytes ≡ execution_id_text self.partition self.sequence }
+        ensures returns { Returns 69 (execution_number self.partition self.sequence) }
     {
         id_text(
             b'E',

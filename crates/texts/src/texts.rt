@@ -1,8 +1,8 @@
 // Making texts and looking at them.
 ghost use Rattle.std.specs.Prelude.{◌≡◌, ℕ, ◌<◌, ◌≤◌, true, false, length, replicate, MatchOption};
 ghost use Rattle.std.specs.List.{prefix_len};
-ghost use Rattle.texts.specs.Bytes.{printable, allPrintable, padded, said, isText, named};
-ghost use Rattle.texts.specs.Texts.{fitting, fittingName};
+ghost use Rattle.texts.specs.Bytes.{printable, all_printable, padded, said, is_text, named};
+ghost use Rattle.texts.specs.Texts.{fitting, fitting_name};
 
 use crate::fixed::{FixedText, RequestId};
 
@@ -21,7 +21,7 @@ pub fn text_end(field: &[u8]) -> usize
 }
 
 fn all_printable(text: &[u8]) -> bool
-    ensures { result ≡ allPrintable text.now }
+    ensures { result ≡ all_printable text.now }
 {
     text.iter().all(|b| is_printable(*b))
 }
@@ -29,10 +29,10 @@ fn all_printable(text: &[u8]) -> bool
 // Text, and nulls up to the width.
 fn filled<const N: usize>(text: &[u8]) -> [u8; N]
     requires text_len_bound { length text.now ≤ N }
-    requires text_value { allPrintable text.now ≡ true }
+    requires text_value { all_printable text.now ≡ true }
     ensures value { result ≡ padded N text.now }
     ensures wide { length result ≡ N }
-    ensures text { isText result ≡ true }
+    ensures text { is_text result ≡ true }
     ensures said { said result ≡ text.now }
     ensures named { 0 < length text.now → named result ≡ true }
 {
@@ -74,7 +74,7 @@ impl<const N: usize> FixedText<N> {
 
 impl RequestId {
     pub fn new(text: &[u8]) -> Option<RequestId>
-        ensures { MatchOption result (fittingName 20 text.now ≡ false) (λ t. (fittingName 20 text.now ≡ true) × (t.id.bytes ≡ padded 20 text.now) × (said t.id.bytes ≡ text.now)) }
+        ensures { MatchOption result (fitting_name 20 text.now ≡ false) (λ t. (fitting_name 20 text.now ≡ true) × (t.id.bytes ≡ padded 20 text.now) × (said t.id.bytes ≡ text.now)) }
     {
         if text.is_empty() {
             return None;

@@ -4,17 +4,17 @@ use native.Mathlib.Nat.{le-max_left}
 use Rattle.std.proofs.lemmas.List.{length-take-le, take_all}
 use Rattle.std.proofs.lemmas.Nat.{mod-mul-add, div-mul-add}
 use Rattle.std.proofs.lemmas.Int.{of_z-to_z}
-use Rattle.texts.specs.Bytes.{le, toLe, allNull, said, isText, named, padded}
+use Rattle.texts.specs.Bytes.{le, to_le, all_null, said, is_text, named, padded}
 use Rattle.texts.specs.Identifiers.{number_of}
 use Rattle.texts.proofs.Padding.{both_true, padded-said, null_is}
 use Rattle.layout.specs.declared.field.Form.{Form}
 use Rattle.layout.specs.declared.field.Form.TheVariants.{Text, Name, Order, Number, Sequence, Int8, Int32, Price, Time, Code, Reserved}
 use Rattle.layout.specs.declared.field.Field.{Field}
 use Rattle.layout.specs.declared.field.Field.TheVariants.{Always, When}
-use Rattle.layout.specs.Layout.{Content, part, place, width, wide, span, form_of, matters, ok, got, okForm, content, firstBad, within, AllOk, Says, order_at, is_order, absent}
+use Rattle.layout.specs.Layout.{Content, part, place, width, wide, span, form_of, matters, ok, got, ok_form, content, first_bad, within, AllOk, Says, order_at, is_order, absent}
 use Rattle.layout.specs.Layout.Content.{nothing}
-use Rattle.layout.specs.Writing.{orderBytes, bytes_of, fieldBytes, encode, header}
-use Rattle.layout.proofs.Tables.{allOk}
+use Rattle.layout.specs.Writing.{order_bytes, bytes_of, field_bytes, encode, header}
+use Rattle.layout.proofs.Tables.{all_ok}
 use Rattle.wire.specs.declared.kinds.Channel.{Channel}
 use Rattle.wire.specs.declared.kinds.Channel.TheVariants as channel
 use Rattle.wire.specs.declared.kinds.Kind.{Kind}
@@ -22,7 +22,7 @@ use Rattle.wire.specs.declared.kinds.Kind.TheVariants as kind
 use Rattle.wire.specs.declared.message.Message.{Message}
 use Rattle.layout.specs.declared.field.Fault.{Fault}
 use Rattle.wire.specs.Kinds.{letters, total_of, totals, takes}
-use Rattle.wire.specs.Messages.{heardOf, kind_of, contentsOf, table_of, sized, opening, atField, Reads, reserved, blanked, WasRead, Again}
+use Rattle.wire.specs.Messages.{heard_of, kind_of, contents_of, table_of, sized, opening, at_field, Reads, reserved, blanked, WasRead, Again}
 use Rattle.wire.proofs.Totals.{letter-is, total-is}
 use Rattle.wire.proofs.Unique.{unique}
 
@@ -45,20 +45,20 @@ bytes_take zero xs h = tt
 bytes_take (suc n) [] h = h
 bytes_take (suc n) (x ∷ xs) h = (h.0, bytes_take n xs h.1)
 
-toLe-le : (xs : List ℕ) → Bytes xs → toLe (length xs) (le xs) ≡ xs
-toLe-le [] h = refl
-toLe-le (b ∷ bs) h =
+to_le-le : (xs : List ℕ) → Bytes xs → to_le (length xs) (le xs) ≡ xs
+to_le-le [] h = refl
+to_le-le (b ∷ bs) h =
     let c : b + 256 * le bs ≡ le bs * 256 + b = omega arith in
     let m : (b + 256 * le bs) % 256 ≡ b = rw c (mod-mul-add (le bs) 256 b h.0) in
     let d : (b + 256 * le bs) / 256 ≡ le bs = rw c (div-mul-add (le bs) 256 b h.0) in
-    rw (m, d, toLe-le bs h.1)
+    rw (m, d, to_le-le bs h.1)
 
 le_below : (xs : List ℕ) → Bytes xs → le xs < 256 ^ length xs
 le_below [] h = omega arith
 le_below (b ∷ bs) h = rw pow-suc (omega (arith, le_below bs h.1, h.0))
 
-wide-as : (w : ℕ) (s : List ℕ) → length s ≡ w → Bytes s → toLe w (le s) ≡ s
-wide-as w s l b = ap (λ k. toLe k (le s)) (sym l) ∙ toLe-le s b
+wide-as : (w : ℕ) (s : List ℕ) → length s ≡ w → Bytes s → to_le w (le s) ≡ s
+wide-as w s l b = ap (λ k. to_le k (le s)) (sym l) ∙ to_le-le s b
 
 below_as : (w : ℕ) (s : List ℕ) → length s ≡ w → Bytes s → le s < 256 ^ w
 below_as w s l b = rw l at (le_below s b)
@@ -69,40 +69,40 @@ none-null : (a : Bool) (o : Option ℕ) → cond a true (is_some o) ≡ true →
 none-null true o h e = refl
 none-null false o h e = let z : ◌≡◌ {A = ℕ} 0 1 = let k = ap is_some e in cc in absurd (omega arith)
 
-order-by : (s : List ℕ) (o : Option ℕ) → number_of 79 s ≡ o → cond (allNull s) true (is_some (number_of 79 s)) ≡ true → length s ≡ 12 → orderBytes o ≡ s
+order-by : (s : List ℕ) (o : Option ℕ) → number_of 79 s ≡ o → cond (all_null s) true (is_some (number_of 79 s)) ≡ true → length s ≡ 12 → order_bytes o ≡ s
 order-by s (Some n) e h l = sym (unique 79 n s e)
-order-by s None e h l = sym (null_is s (none-null (allNull s) (number_of 79 s) h e) ∙ ap (λ k. replicate k 0) l)
+order-by s None e h l = sym (null_is s (none-null (all_null s) (number_of 79 s) h e) ∙ ap (λ k. replicate k 0) l)
 
-order-write : (s : List ℕ) → is_order s ≡ true → length s ≡ 12 → orderBytes (order_at s) ≡ s
+order-write : (s : List ℕ) → is_order s ≡ true → length s ≡ 12 → order_bytes (order_at s) ≡ s
 unfolding is_order order_at
 order-write s h l = order-by s (number_of 79 s) refl h l
 
-text-write : (w : ℕ) (s : List ℕ) → isText s ≡ true → length s ≡ w → padded w (said s) ≡ s
+text-write : (w : ℕ) (s : List ℕ) → is_text s ≡ true → length s ≡ w → padded w (said s) ≡ s
 text-write w s h l = ap (λ k. padded k (said s)) (sym l) ∙ padded-said s h
 
-halves : (s : List ℕ) → length s ≡ 8 → Bytes s → toLe 4 (le (take 4 s)) ++ toLe 4 (le (take 4 (drop 4 s))) ≡ s
+halves : (s : List ℕ) → length s ≡ 8 → Bytes s → to_le 4 (le (take 4 s)) ++ to_le 4 (le (take 4 (drop 4 s))) ≡ s
 halves s l b =
     let h : 4 ≤ length s = omega arith in
     let n : length (drop 4 s) ≡ 4 = length-drop 4 s ∙ (omega arith) in
     let t : take 4 (drop 4 s) ≡ drop 4 s = take_all 4 (drop 4 s) (omega arith) in
     let p = wide-as 4 (take 4 s) (length-take-le 4 s h) (bytes_take 4 s b) in
     let q = wide-as 4 (drop 4 s) n (bytes_drop 4 s b) in
-    ap (λ x. x ++ toLe 4 (le (take 4 (drop 4 s)))) p ∙ ap (λ x. take 4 s ++ x) (ap (λ y. toLe 4 (le y)) t ∙ q) ∙ take-append-drop 4 s
+    ap (λ x. x ++ to_le 4 (le (take 4 (drop 4 s)))) p ∙ ap (λ x. take 4 s ++ x) (ap (λ y. to_le 4 (le y)) t ∙ q) ∙ take-append-drop 4 s
 
-form-write : (f : Form) (s : List ℕ) → okForm f s ≡ true → length s ≡ wide f → Bytes s → cond (absent (content f s)) (replicate (wide f) 0) (bytes_of f (content f s)) ≡ cond (reserved f) (replicate (wide f) 0) s
+form-write : (f : Form) (s : List ℕ) → ok_form f s ≡ true → length s ≡ wide f → Bytes s → cond (absent (content f s)) (replicate (wide f) 0) (bytes_of f (content f s)) ≡ cond (reserved f) (replicate (wide f) 0) s
 form-write (Text w) s h l b = text-write w s h l
-form-write (Name w) s h l b = text-write w s (both_true (isText s) (named s) h).0 l
+form-write (Name w) s h l b = text-write w s (both_true (is_text s) (named s) h).0 l
 form-write Order s h l b = order-write s h l
 form-write (Number w) s h l b = wide-as w s l b
 form-write Sequence s h l b = wide-as 4 s l b
-form-write Int8 s h l b = ap (toLe 1) (of_z-to_z w8 (le s) (below_as 1 s l b)) ∙ wide-as 1 s l b
-form-write Int32 s h l b = ap (toLe 4) (of_z-to_z w32 (le s) (below_as 4 s l b)) ∙ wide-as 4 s l b
-form-write Price s h l b = ap (toLe 8) (of_z-to_z w64 (le s) (below_as 8 s l b)) ∙ wide-as 8 s l b
+form-write Int8 s h l b = ap (to_le 1) (of_z-to_z w8 (le s) (below_as 1 s l b)) ∙ wide-as 1 s l b
+form-write Int32 s h l b = ap (to_le 4) (of_z-to_z w32 (le s) (below_as 4 s l b)) ∙ wide-as 4 s l b
+form-write Price s h l b = ap (to_le 8) (of_z-to_z w64 (le s) (below_as 8 s l b)) ∙ wide-as 8 s l b
 form-write Time s h l b = halves s l b
 form-write (Code cs) s h l b = wide-as 1 s l b
 form-write (Reserved w) s h l b = refl
 
-write-by : (m : Bool) (f : Form) (v : Content) (s : List ℕ) → cond m (okForm f s) true ≡ true → v ≡ cond m (content f s) nothing → length s ≡ wide f → Bytes s
+write-by : (m : Bool) (f : Form) (v : Content) (s : List ℕ) → cond m (ok_form f s) true ≡ true → v ≡ cond m (content f s) nothing → length s ≡ wide f → Bytes s
     → cond (absent v) (replicate (wide f) 0) (bytes_of f v) ≡ cond m (cond (reserved f) (replicate (wide f) 0) s) (replicate (wide f) 0)
 write-by true f v s h e l b = rw e (form-write f s h l b)
 write-by false f v s h e l b = rw e
@@ -111,8 +111,8 @@ length_part : (at w : ℕ) (bs : List ℕ) → at + w ≤ length bs → length (
 length_part at w bs h = let k : w ≤ length (drop at bs) = rw (length-drop at bs) (omega arith) in length-take-le w (drop at bs) k
 
 write-one : (f : Field) (v : Content) (bs : List ℕ) → Bytes bs → place f + width f ≤ length bs → ok bs f ≡ true → v ≡ got bs f
-    → fieldBytes f v ≡ cond (matters bs f) (cond (reserved (form_of f)) (replicate (width f) 0) (part (place f) (width f) bs)) (replicate (width f) 0)
-unfolding fieldBytes
+    → field_bytes f v ≡ cond (matters bs f) (cond (reserved (form_of f)) (replicate (width f) 0) (part (place f) (width f) bs)) (replicate (width f) 0)
+unfolding field_bytes
 write-one f v bs b l h e =
     write-by (matters bs f) (form_of f) v (part (place f) (width f) bs) h e (length_part (place f) (width f) bs l) (bytes_take (width f) (drop (place f) bs) (bytes_drop (place f) bs b))
 
@@ -209,24 +209,24 @@ front ch k (b₀ ∷ b₁ ∷ b₂ ∷ b₃ ∷ bs) b e =
     let o = opened-by ch k b₀ b₁ b₂ b₃ bs e in
     let t = total-is k in
     let n : totals k - 3 ≡ b₁ + 256 * (b₂ + 256 * 0) = omega (arith, o.1, t) in
-    let q : toLe 2 (totals k - 3) ≡ b₁ ∷ b₂ ∷ [] = ap (toLe 2) n ∙ toLe-le (b₁ ∷ b₂ ∷ []) (b.1.0, (b.1.1.0, tt)) in
+    let q : to_le 2 (totals k - 3) ≡ b₁ ∷ b₂ ∷ [] = ap (to_le 2) n ∙ to_le-le (b₁ ∷ b₂ ∷ []) (b.1.0, (b.1.1.0, tt)) in
     let s = spelt ch k b₃ o.3 in
     (ap (λ x. 2 ∷ x ++ (letters k ∷ [])) q ∙ rw (o.0, s), omega (arith, o.2, t))
 
-no_field : (o : Option ℕ) → atField o ≡ None → o ≡ None
+no_field : (o : Option ℕ) → at_field o ≡ None → o ≡ None
 no_field None e = refl
 no_field (Some n) e = let z : ◌≡◌ {A = ℕ} 0 1 = cc in absurd (omega arith)
 
 pub written-again : (ch : Channel) (bs : List ℕ) (m : Message) → ((i : ℕ) → Fits w8 (get_or bs i 0)) → Reads ch bs m → Again bs m
 written-again ch bs m t r =
     let b = bytes-from bs t in
-    let k = kind_of (heardOf m) in
-    let v : atField (firstBad (table_of k) bs) ≡ None = rw r.opens at r.passes in
-    let g = no_field (firstBad (table_of k) bs) v in
+    let k = kind_of (heard_of m) in
+    let v : at_field (first_bad (table_of k) bs) ≡ None = rw r.opens at r.passes in
+    let g = no_field (first_bad (table_of k) bs) v in
     let f = front ch k bs b r.opens in
     let l : totals k ≤ length bs = omega (arith, f.1) in
-    let vs = contentsOf (heardOf m) in
-    let e = write-all (table_of k) vs bs (totals k) b l (spans k) (allOk (table_of k) bs g) r.says in
+    let vs = contents_of (heard_of m) in
+    let e = write-all (table_of k) vs bs (totals k) b l (spans k) (all_ok (table_of k) bs g) r.says in
     ap (λ x. header x (total_of k) ++ encode (table_of k) vs) (letter-is k)
     ∙ ap (λ x. header (letters k) x ++ encode (table_of k) vs) (total-is k)
     ∙ ap (λ x. x ++ encode (table_of k) vs) f.0

@@ -2,7 +2,7 @@
 use Rattle.std.proofs.Common.{◌≡◌, ℕ, cond, eqb, List, Some, None, Option, refl}
 use Rattle.std.specs.Option.{option_map}
 use Rattle.texts.specs.declared.identifiers.OrderId.{OrderId}
-use Rattle.codes.specs.Order.{sideCode, orderTypeCode, timeInForceCode, clearingAccountCode, orderCapacityCode, autoCancelCode, orderSubTypeCode, bookCode, execInstructionCode, passiveOnlyCode, massCancelTypeCode}
+use Rattle.codes.specs.Order.{side_code, order_type_code, time_in_force_code, clearing_account_code, order_capacity_code, auto_cancel_code, order_sub_type_code, book_code, exec_instruction_code, passive_only_code, mass_cancel_type_code}
 use Rattle.codes.specs.declared.order.Side.{Side}
 use Rattle.codes.specs.declared.order.Side.TheVariants as side
 use Rattle.codes.specs.declared.order.OrderType.{OrderType}
@@ -25,7 +25,7 @@ use Rattle.codes.specs.declared.order.PassiveOnly.{PassiveOnly}
 use Rattle.codes.specs.declared.order.PassiveOnly.TheVariants as passiveOnly
 use Rattle.codes.specs.declared.order.MassCancelType.{MassCancelType}
 use Rattle.codes.specs.declared.order.MassCancelType.TheVariants as massCancelType
-use Rattle.codes.specs.Session.{versionCode, partitionCode, ackResponseCode, reportResponseCode}
+use Rattle.codes.specs.Session.{version_code, partition_code, ack_response_code, report_response_code}
 use Rattle.codes.specs.declared.session.Version.{Version}
 use Rattle.codes.specs.declared.session.Version.TheVariants as version
 use Rattle.codes.specs.declared.session.Partition.{Partition}
@@ -34,7 +34,7 @@ use Rattle.codes.specs.declared.session.AckResponse.{AckResponse}
 use Rattle.codes.specs.declared.session.AckResponse.TheVariants as ackResponse
 use Rattle.codes.specs.declared.session.ReportResponse.{ReportResponse}
 use Rattle.codes.specs.declared.session.ReportResponse.TheVariants as reportResponse
-use Rattle.codes.specs.Report.{execTypeCode, statusCode, liquidityCode, tradeTypeCode, capacityCode, priceDifferentialCode, massResponseCode}
+use Rattle.codes.specs.Report.{exec_type_code, status_code, liquidity_code, trade_type_code, capacity_code, price_differential_code, mass_response_code}
 use Rattle.codes.specs.declared.report.ExecType.{ExecType}
 use Rattle.codes.specs.declared.report.ExecType.TheVariants as execType
 use Rattle.codes.specs.declared.report.Status.{Status}
@@ -57,126 +57,126 @@ use Rattle.messages.specs.declared.terms.Scope.{Scope}
 use Rattle.messages.specs.declared.terms.Scope.TheVariants as scope
 use Rattle.messages.specs.declared.terms.Execution.{Execution}
 use Rattle.messages.specs.declared.terms.Execution.TheVariants as execution
-use Rattle.layout.specs.Layout.{Content, words_of, figureOf, int32Of, priceOf}
-use Rattle.messages.specs.Terms.{pricingCode, pricingPrice, targetCode, targetInstruction, scopeCode, scopeSymbol, scopeSegment, scopeBook, executionCode, executionReject, executionLiquidity, executionTrade}
+use Rattle.layout.specs.Layout.{Content, words_of, figure_of, int32_of, price_of}
+use Rattle.messages.specs.Terms.{pricing_code, pricing_price, target_code, target_instruction, scope_code, scope_symbol, scope_segment, scope_book, execution_code, execution_reject, execution_liquidity, execution_trade}
 
-abbrev pub sideBack : ℕ → Side
-sideBack n = cond (eqb n 1) side.Buy (side.Sell)
+abbrev pub side_back : ℕ → Side
+side_back n = cond (eqb n 1) side.Buy (side.Sell)
 
-pub side-back : (x : Side) → sideBack (sideCode x) ≡ x
+pub side-back : (x : Side) → side_back (side_code x) ≡ x
 side-back side.Buy = refl
 side-back side.Sell = refl
 
-abbrev pub orderTypeBack : ℕ → OrderType
-orderTypeBack n = cond (eqb n 1) orderType.Market (orderType.Limit)
+abbrev pub order_type_back : ℕ → OrderType
+order_type_back n = cond (eqb n 1) orderType.Market (orderType.Limit)
 
-abbrev pub timeInForceBack : ℕ → TimeInForce
-timeInForceBack n = cond (eqb n 0) timeInForce.Day (cond (eqb n 1) timeInForce.GoodTillCancel (cond (eqb n 3) timeInForce.ImmediateOrCancel (cond (eqb n 4) timeInForce.FillOrKill (cond (eqb n 6) timeInForce.GoodTillDate (timeInForce.GoodTillTime)))))
+abbrev pub time_in_force_back : ℕ → TimeInForce
+time_in_force_back n = cond (eqb n 0) timeInForce.Day (cond (eqb n 1) timeInForce.GoodTillCancel (cond (eqb n 3) timeInForce.ImmediateOrCancel (cond (eqb n 4) timeInForce.FillOrKill (cond (eqb n 6) timeInForce.GoodTillDate (timeInForce.GoodTillTime)))))
 
-pub timeInForce-back : (x : TimeInForce) → timeInForceBack (timeInForceCode x) ≡ x
-timeInForce-back timeInForce.Day = refl
-timeInForce-back timeInForce.GoodTillCancel = refl
-timeInForce-back timeInForce.ImmediateOrCancel = refl
-timeInForce-back timeInForce.FillOrKill = refl
-timeInForce-back timeInForce.GoodTillDate = refl
-timeInForce-back timeInForce.GoodTillTime = refl
+pub time_in_force-back : (x : TimeInForce) → time_in_force_back (time_in_force_code x) ≡ x
+time_in_force-back timeInForce.Day = refl
+time_in_force-back timeInForce.GoodTillCancel = refl
+time_in_force-back timeInForce.ImmediateOrCancel = refl
+time_in_force-back timeInForce.FillOrKill = refl
+time_in_force-back timeInForce.GoodTillDate = refl
+time_in_force-back timeInForce.GoodTillTime = refl
 
-abbrev pub clearingAccountBack : ℕ → ClearingAccount
-clearingAccountBack n = cond (eqb n 1) clearingAccount.Client (clearingAccount.House)
+abbrev pub clearing_account_back : ℕ → ClearingAccount
+clearing_account_back n = cond (eqb n 1) clearingAccount.Client (clearingAccount.House)
 
-pub clearingAccount-back : (x : ClearingAccount) → clearingAccountBack (clearingAccountCode x) ≡ x
-clearingAccount-back clearingAccount.Client = refl
-clearingAccount-back clearingAccount.House = refl
+pub clearing_account-back : (x : ClearingAccount) → clearing_account_back (clearing_account_code x) ≡ x
+clearing_account-back clearingAccount.Client = refl
+clearing_account-back clearingAccount.House = refl
 
-abbrev pub orderCapacityBack : ℕ → OrderCapacity
-orderCapacityBack n = cond (eqb n 1) orderCapacity.RisklessPrincipal (cond (eqb n 2) orderCapacity.Principal (cond (eqb n 3) orderCapacity.Agency (orderCapacity.CfdGiveUp)))
+abbrev pub order_capacity_back : ℕ → OrderCapacity
+order_capacity_back n = cond (eqb n 1) orderCapacity.RisklessPrincipal (cond (eqb n 2) orderCapacity.Principal (cond (eqb n 3) orderCapacity.Agency (orderCapacity.CfdGiveUp)))
 
-pub orderCapacity-back : (x : OrderCapacity) → orderCapacityBack (orderCapacityCode x) ≡ x
-orderCapacity-back orderCapacity.RisklessPrincipal = refl
-orderCapacity-back orderCapacity.Principal = refl
-orderCapacity-back orderCapacity.Agency = refl
-orderCapacity-back orderCapacity.CfdGiveUp = refl
+pub order_capacity-back : (x : OrderCapacity) → order_capacity_back (order_capacity_code x) ≡ x
+order_capacity-back orderCapacity.RisklessPrincipal = refl
+order_capacity-back orderCapacity.Principal = refl
+order_capacity-back orderCapacity.Agency = refl
+order_capacity-back orderCapacity.CfdGiveUp = refl
 
-abbrev pub autoCancelBack : ℕ → AutoCancel
-autoCancelBack n = cond (eqb n 0) autoCancel.Keep (autoCancel.AsConfigured)
+abbrev pub auto_cancel_back : ℕ → AutoCancel
+auto_cancel_back n = cond (eqb n 0) autoCancel.Keep (autoCancel.AsConfigured)
 
-pub autoCancel-back : (x : AutoCancel) → autoCancelBack (autoCancelCode x) ≡ x
-autoCancel-back autoCancel.Keep = refl
-autoCancel-back autoCancel.AsConfigured = refl
+pub auto_cancel-back : (x : AutoCancel) → auto_cancel_back (auto_cancel_code x) ≡ x
+auto_cancel-back autoCancel.Keep = refl
+auto_cancel-back autoCancel.AsConfigured = refl
 
-abbrev pub orderSubTypeBack : ℕ → OrderSubType
-orderSubTypeBack n = orderSubType.Order
+abbrev pub order_sub_type_back : ℕ → OrderSubType
+order_sub_type_back n = orderSubType.Order
 
-pub orderSubType-back : (x : OrderSubType) → orderSubTypeBack (orderSubTypeCode x) ≡ x
-orderSubType-back orderSubType.Order = refl
+pub order_sub_type-back : (x : OrderSubType) → order_sub_type_back (order_sub_type_code x) ≡ x
+order_sub_type-back orderSubType.Order = refl
 
-abbrev pub bookBack : ℕ → Book
-bookBack n = cond (eqb n 0) book.DarkMidpoint (book.Integrated)
+abbrev pub book_back : ℕ → Book
+book_back n = cond (eqb n 0) book.DarkMidpoint (book.Integrated)
 
-pub book-back : (x : Book) → bookBack (bookCode x) ≡ x
+pub book-back : (x : Book) → book_back (book_code x) ≡ x
 book-back book.DarkMidpoint = refl
 book-back book.Integrated = refl
 
-abbrev pub execInstructionBack : ℕ → ExecInstruction
-execInstructionBack n = cond (eqb n 0) execInstruction.ContinuousAndPeriodic (cond (eqb n 1) execInstruction.PeriodicOnly (execInstruction.ContinuousOnly))
+abbrev pub exec_instruction_back : ℕ → ExecInstruction
+exec_instruction_back n = cond (eqb n 0) execInstruction.ContinuousAndPeriodic (cond (eqb n 1) execInstruction.PeriodicOnly (execInstruction.ContinuousOnly))
 
-pub execInstruction-back : (x : ExecInstruction) → execInstructionBack (execInstructionCode x) ≡ x
-execInstruction-back execInstruction.ContinuousAndPeriodic = refl
-execInstruction-back execInstruction.PeriodicOnly = refl
-execInstruction-back execInstruction.ContinuousOnly = refl
+pub exec_instruction-back : (x : ExecInstruction) → exec_instruction_back (exec_instruction_code x) ≡ x
+exec_instruction-back execInstruction.ContinuousAndPeriodic = refl
+exec_instruction-back execInstruction.PeriodicOnly = refl
+exec_instruction-back execInstruction.ContinuousOnly = refl
 
-abbrev pub passiveOnlyBack : ℕ → PassiveOnly
-passiveOnlyBack n = cond (eqb n 0) passiveOnly.NoConstraint (cond (eqb n 1) passiveOnly.SetOrJoinBest (cond (eqb n 2) passiveOnly.WithinOnePoint (cond (eqb n 3) passiveOnly.WithinTwoPoints (cond (eqb n 99) passiveOnly.RestOnEntry (passiveOnly.SetBest)))))
+abbrev pub passive_only_back : ℕ → PassiveOnly
+passive_only_back n = cond (eqb n 0) passiveOnly.NoConstraint (cond (eqb n 1) passiveOnly.SetOrJoinBest (cond (eqb n 2) passiveOnly.WithinOnePoint (cond (eqb n 3) passiveOnly.WithinTwoPoints (cond (eqb n 99) passiveOnly.RestOnEntry (passiveOnly.SetBest)))))
 
-pub passiveOnly-back : (x : PassiveOnly) → passiveOnlyBack (passiveOnlyCode x) ≡ x
-passiveOnly-back passiveOnly.NoConstraint = refl
-passiveOnly-back passiveOnly.SetOrJoinBest = refl
-passiveOnly-back passiveOnly.WithinOnePoint = refl
-passiveOnly-back passiveOnly.WithinTwoPoints = refl
-passiveOnly-back passiveOnly.RestOnEntry = refl
-passiveOnly-back passiveOnly.SetBest = refl
+pub passive_only-back : (x : PassiveOnly) → passive_only_back (passive_only_code x) ≡ x
+passive_only-back passiveOnly.NoConstraint = refl
+passive_only-back passiveOnly.SetOrJoinBest = refl
+passive_only-back passiveOnly.WithinOnePoint = refl
+passive_only-back passiveOnly.WithinTwoPoints = refl
+passive_only-back passiveOnly.RestOnEntry = refl
+passive_only-back passiveOnly.SetBest = refl
 
-abbrev pub massCancelTypeBack : ℕ → MassCancelType
-massCancelTypeBack n = cond (eqb n 3) massCancelType.FirmInstrument (cond (eqb n 4) massCancelType.FirmSegment (cond (eqb n 7) massCancelType.CompId (cond (eqb n 8) massCancelType.Firm (cond (eqb n 9) massCancelType.CompIdInstrument (massCancelType.CompIdSegment)))))
+abbrev pub mass_cancel_type_back : ℕ → MassCancelType
+mass_cancel_type_back n = cond (eqb n 3) massCancelType.FirmInstrument (cond (eqb n 4) massCancelType.FirmSegment (cond (eqb n 7) massCancelType.CompId (cond (eqb n 8) massCancelType.Firm (cond (eqb n 9) massCancelType.CompIdInstrument (massCancelType.CompIdSegment)))))
 
-abbrev pub versionBack : ℕ → Version
-versionBack n = version.One
+abbrev pub version_back : ℕ → Version
+version_back n = version.One
 
-pub version-back : (x : Version) → versionBack (versionCode x) ≡ x
+pub version-back : (x : Version) → version_back (version_code x) ≡ x
 version-back version.One = refl
 
-abbrev pub partitionBack : ℕ → Partition
-partitionBack n = cond (eqb n 1) partition.One (cond (eqb n 2) partition.Two (partition.Three))
+abbrev pub partition_back : ℕ → Partition
+partition_back n = cond (eqb n 1) partition.One (cond (eqb n 2) partition.Two (partition.Three))
 
-pub partition-back : (x : Partition) → partitionBack (partitionCode x) ≡ x
+pub partition-back : (x : Partition) → partition_back (partition_code x) ≡ x
 partition-back partition.One = refl
 partition-back partition.Two = refl
 partition-back partition.Three = refl
 
-abbrev pub ackResponseBack : ℕ → AckResponse
-ackResponseBack n = cond (eqb n 0) ackResponse.Successful (cond (eqb n 1) ackResponse.LimitReached (cond (eqb n 2) ackResponse.InvalidAppId (ackResponse.ServiceUnavailable)))
+abbrev pub ack_response_back : ℕ → AckResponse
+ack_response_back n = cond (eqb n 0) ackResponse.Successful (cond (eqb n 1) ackResponse.LimitReached (cond (eqb n 2) ackResponse.InvalidAppId (ackResponse.ServiceUnavailable)))
 
-pub ackResponse-back : (x : AckResponse) → ackResponseBack (ackResponseCode x) ≡ x
-ackResponse-back ackResponse.Successful = refl
-ackResponse-back ackResponse.LimitReached = refl
-ackResponse-back ackResponse.InvalidAppId = refl
-ackResponse-back ackResponse.ServiceUnavailable = refl
+pub ack_response-back : (x : AckResponse) → ack_response_back (ack_response_code x) ≡ x
+ack_response-back ackResponse.Successful = refl
+ack_response-back ackResponse.LimitReached = refl
+ack_response-back ackResponse.InvalidAppId = refl
+ack_response-back ackResponse.ServiceUnavailable = refl
 
-abbrev pub reportResponseBack : ℕ → ReportResponse
-reportResponseBack n = cond (eqb n 0) reportResponse.Complete (cond (eqb n 1) reportResponse.MessageLimit (reportResponse.ServiceUnavailable))
+abbrev pub report_response_back : ℕ → ReportResponse
+report_response_back n = cond (eqb n 0) reportResponse.Complete (cond (eqb n 1) reportResponse.MessageLimit (reportResponse.ServiceUnavailable))
 
-pub reportResponse-back : (x : ReportResponse) → reportResponseBack (reportResponseCode x) ≡ x
-reportResponse-back reportResponse.Complete = refl
-reportResponse-back reportResponse.MessageLimit = refl
-reportResponse-back reportResponse.ServiceUnavailable = refl
+pub report_response-back : (x : ReportResponse) → report_response_back (report_response_code x) ≡ x
+report_response-back reportResponse.Complete = refl
+report_response-back reportResponse.MessageLimit = refl
+report_response-back reportResponse.ServiceUnavailable = refl
 
-abbrev pub execTypeBack : ℕ → ExecType
-execTypeBack n = cond (eqb n 0) execType.Unspecified (cond (eqb n 48) execType.New (cond (eqb n 52) execType.Cancelled (cond (eqb n 53) execType.Replaced (cond (eqb n 56) execType.Rejected (cond (eqb n 67) execType.Expired (cond (eqb n 68) execType.Restated (cond (eqb n 70) execType.Trade (execType.TradeCancel))))))))
+abbrev pub exec_type_back : ℕ → ExecType
+exec_type_back n = cond (eqb n 0) execType.Unspecified (cond (eqb n 48) execType.New (cond (eqb n 52) execType.Cancelled (cond (eqb n 53) execType.Replaced (cond (eqb n 56) execType.Rejected (cond (eqb n 67) execType.Expired (cond (eqb n 68) execType.Restated (cond (eqb n 70) execType.Trade (execType.TradeCancel))))))))
 
-abbrev pub statusBack : ℕ → Status
-statusBack n = cond (eqb n 0) status.New (cond (eqb n 1) status.PartiallyFilled (cond (eqb n 2) status.Filled (cond (eqb n 4) status.Cancelled (cond (eqb n 6) status.Expired (status.Rejected)))))
+abbrev pub status_back : ℕ → Status
+status_back n = cond (eqb n 0) status.New (cond (eqb n 1) status.PartiallyFilled (cond (eqb n 2) status.Filled (cond (eqb n 4) status.Cancelled (cond (eqb n 6) status.Expired (status.Rejected)))))
 
-pub status-back : (x : Status) → statusBack (statusCode x) ≡ x
+pub status-back : (x : Status) → status_back (status_code x) ≡ x
 status-back status.New = refl
 status-back status.PartiallyFilled = refl
 status-back status.Filled = refl
@@ -184,80 +184,80 @@ status-back status.Cancelled = refl
 status-back status.Expired = refl
 status-back status.Rejected = refl
 
-abbrev pub liquidityBack : ℕ → Liquidity
-liquidityBack n = cond (eqb n 0) liquidity.Unspecified (cond (eqb n 65) liquidity.Added (cond (eqb n 67) liquidity.Uncrossing (liquidity.Removed)))
+abbrev pub liquidity_back : ℕ → Liquidity
+liquidity_back n = cond (eqb n 0) liquidity.Unspecified (cond (eqb n 65) liquidity.Added (cond (eqb n 67) liquidity.Uncrossing (liquidity.Removed)))
 
-pub liquidity-back : (x : Liquidity) → liquidityBack (liquidityCode x) ≡ x
+pub liquidity-back : (x : Liquidity) → liquidity_back (liquidity_code x) ≡ x
 liquidity-back liquidity.Unspecified = refl
 liquidity-back liquidity.Added = refl
 liquidity-back liquidity.Uncrossing = refl
 liquidity-back liquidity.Removed = refl
 
-abbrev pub tradeTypeBack : ℕ → TradeType
-tradeTypeBack n = cond (eqb n 0) tradeType.Visible (tradeType.Hidden)
+abbrev pub trade_type_back : ℕ → TradeType
+trade_type_back n = cond (eqb n 0) tradeType.Visible (tradeType.Hidden)
 
-pub tradeType-back : (x : TradeType) → tradeTypeBack (tradeTypeCode x) ≡ x
-tradeType-back tradeType.Visible = refl
-tradeType-back tradeType.Hidden = refl
+pub trade_type-back : (x : TradeType) → trade_type_back (trade_type_code x) ≡ x
+trade_type-back tradeType.Visible = refl
+trade_type-back tradeType.Hidden = refl
 
-abbrev pub capacityBack : ℕ → Capacity
-capacityBack n = cond (eqb n 1) capacity.RisklessPrincipal (cond (eqb n 2) capacity.Principal (capacity.Agency))
+abbrev pub capacity_back : ℕ → Capacity
+capacity_back n = cond (eqb n 1) capacity.RisklessPrincipal (cond (eqb n 2) capacity.Principal (capacity.Agency))
 
-pub capacity-back : (x : Capacity) → capacityBack (capacityCode x) ≡ x
+pub capacity-back : (x : Capacity) → capacity_back (capacity_code x) ≡ x
 capacity-back capacity.RisklessPrincipal = refl
 capacity-back capacity.Principal = refl
 capacity-back capacity.Agency = refl
 
-abbrev pub priceDifferentialBack : ℕ → PriceDifferential
-priceDifferentialBack n = cond (eqb n 0) priceDifferential.Unspecified (cond (eqb n 49) priceDifferential.JoinBest (cond (eqb n 50) priceDifferential.Second (cond (eqb n 51) priceDifferential.Third (cond (eqb n 52) priceDifferential.Fourth (cond (eqb n 53) priceDifferential.Fifth (cond (eqb n 54) priceDifferential.Sixth (cond (eqb n 55) priceDifferential.Seventh (cond (eqb n 56) priceDifferential.Eighth (cond (eqb n 57) priceDifferential.NinthOrWorse (cond (eqb n 65) priceDifferential.Aggressive (cond (eqb n 66) priceDifferential.NewBest (priceDifferential.Passive))))))))))))
+abbrev pub price_differential_back : ℕ → PriceDifferential
+price_differential_back n = cond (eqb n 0) priceDifferential.Unspecified (cond (eqb n 49) priceDifferential.JoinBest (cond (eqb n 50) priceDifferential.Second (cond (eqb n 51) priceDifferential.Third (cond (eqb n 52) priceDifferential.Fourth (cond (eqb n 53) priceDifferential.Fifth (cond (eqb n 54) priceDifferential.Sixth (cond (eqb n 55) priceDifferential.Seventh (cond (eqb n 56) priceDifferential.Eighth (cond (eqb n 57) priceDifferential.NinthOrWorse (cond (eqb n 65) priceDifferential.Aggressive (cond (eqb n 66) priceDifferential.NewBest (priceDifferential.Passive))))))))))))
 
-pub priceDifferential-back : (x : PriceDifferential) → priceDifferentialBack (priceDifferentialCode x) ≡ x
-priceDifferential-back priceDifferential.Unspecified = refl
-priceDifferential-back priceDifferential.JoinBest = refl
-priceDifferential-back priceDifferential.Second = refl
-priceDifferential-back priceDifferential.Third = refl
-priceDifferential-back priceDifferential.Fourth = refl
-priceDifferential-back priceDifferential.Fifth = refl
-priceDifferential-back priceDifferential.Sixth = refl
-priceDifferential-back priceDifferential.Seventh = refl
-priceDifferential-back priceDifferential.Eighth = refl
-priceDifferential-back priceDifferential.NinthOrWorse = refl
-priceDifferential-back priceDifferential.Aggressive = refl
-priceDifferential-back priceDifferential.NewBest = refl
-priceDifferential-back priceDifferential.Passive = refl
+pub price_differential-back : (x : PriceDifferential) → price_differential_back (price_differential_code x) ≡ x
+price_differential-back priceDifferential.Unspecified = refl
+price_differential-back priceDifferential.JoinBest = refl
+price_differential-back priceDifferential.Second = refl
+price_differential-back priceDifferential.Third = refl
+price_differential-back priceDifferential.Fourth = refl
+price_differential-back priceDifferential.Fifth = refl
+price_differential-back priceDifferential.Sixth = refl
+price_differential-back priceDifferential.Seventh = refl
+price_differential-back priceDifferential.Eighth = refl
+price_differential-back priceDifferential.NinthOrWorse = refl
+price_differential-back priceDifferential.Aggressive = refl
+price_differential-back priceDifferential.NewBest = refl
+price_differential-back priceDifferential.Passive = refl
 
-abbrev pub massResponseBack : ℕ → MassResponse
-massResponseBack n = cond (eqb n 0) massResponse.Rejected (massResponse.Accepted)
+abbrev pub mass_response_back : ℕ → MassResponse
+mass_response_back n = cond (eqb n 0) massResponse.Rejected (massResponse.Accepted)
 
-pub massResponse-back : (x : MassResponse) → massResponseBack (massResponseCode x) ≡ x
-massResponse-back massResponse.Rejected = refl
-massResponse-back massResponse.Accepted = refl
+pub mass_response-back : (x : MassResponse) → mass_response_back (mass_response_code x) ≡ x
+mass_response-back massResponse.Rejected = refl
+mass_response-back massResponse.Accepted = refl
 
-abbrev pub orderBack : Option ℕ → Option OrderId
-orderBack o = option_map (λ n. record { number = n }) o
+abbrev pub order_back : Option ℕ → Option OrderId
+order_back o = option_map (λ n. record { number = n }) o
 
-pub order-back : (o : Option OrderId) → orderBack (option_map (λ i. i.number) o) ≡ o
+pub order-back : (o : Option OrderId) → order_back (option_map (λ i. i.number) o) ≡ o
 order-back None = refl
 order-back (Some x) = refl
 
-abbrev pub pricingBack : ℕ → Content → Pricing
-pricingBack n v = cond (eqb n 1) pricing.Market (pricing.Limit record { raw = priceOf v })
+abbrev pub pricing_back : ℕ → Content → Pricing
+pricing_back n v = cond (eqb n 1) pricing.Market (pricing.Limit record { raw = price_of v })
 
-pub pricing-back : (p : Pricing) → pricingBack (pricingCode p) (pricingPrice p) ≡ p
+pub pricing-back : (p : Pricing) → pricing_back (pricing_code p) (pricing_price p) ≡ p
 pricing-back pricing.Market = refl
 pricing-back (pricing.Limit p) = refl
 
-abbrev pub targetBack : ℕ → Content → Target
-targetBack n v = cond (eqb n 0) (target.DarkMidpoint (execInstructionBack (figureOf v))) target.Integrated
+abbrev pub target_back : ℕ → Content → Target
+target_back n v = cond (eqb n 0) (target.DarkMidpoint (exec_instruction_back (figure_of v))) target.Integrated
 
-pub target-back : (t : Target) → targetBack (targetCode t) (targetInstruction t) ≡ t
-target-back (target.DarkMidpoint i) = rw (execInstruction-back i)
+pub target-back : (t : Target) → target_back (target_code t) (target_instruction t) ≡ t
+target-back (target.DarkMidpoint i) = rw (exec_instruction-back i)
 target-back target.Integrated = refl
 
-abbrev pub scopeBack : ℕ → Content → Content → Content → Scope (List ℕ) (List ℕ)
-scopeBack n s g b = cond (eqb n 3) (scope.FirmInstrument (words_of s) (bookBack (figureOf b))) (cond (eqb n 4) (scope.FirmSegment (words_of g)) (cond (eqb n 7) scope.CompId (cond (eqb n 8) scope.Firm (cond (eqb n 9) (scope.CompIdInstrument (words_of s) (bookBack (figureOf b))) (scope.CompIdSegment (words_of g))))))
+abbrev pub scope_back : ℕ → Content → Content → Content → Scope (List ℕ) (List ℕ)
+scope_back n s g b = cond (eqb n 3) (scope.FirmInstrument (words_of s) (book_back (figure_of b))) (cond (eqb n 4) (scope.FirmSegment (words_of g)) (cond (eqb n 7) scope.CompId (cond (eqb n 8) scope.Firm (cond (eqb n 9) (scope.CompIdInstrument (words_of s) (book_back (figure_of b))) (scope.CompIdSegment (words_of g))))))
 
-pub scope-back : (x : Scope (List ℕ) (List ℕ)) → scopeBack (scopeCode x) (scopeSymbol x) (scopeSegment x) (scopeBook x) ≡ x
+pub scope-back : (x : Scope (List ℕ) (List ℕ)) → scope_back (scope_code x) (scope_symbol x) (scope_segment x) (scope_book x) ≡ x
 scope-back (scope.FirmInstrument x b) = rw (book-back b)
 scope-back (scope.FirmSegment x) = refl
 scope-back scope.CompId = refl
@@ -265,10 +265,10 @@ scope-back scope.Firm = refl
 scope-back (scope.CompIdInstrument x b) = rw (book-back b)
 scope-back (scope.CompIdSegment x) = refl
 
-abbrev pub executionBack : ℕ → Content → Content → Content → Execution
-executionBack n r l t = cond (eqb n 0) execution.Unspecified (cond (eqb n 48) execution.New (cond (eqb n 52) execution.Cancelled (cond (eqb n 53) execution.Replaced (cond (eqb n 56) (execution.Rejected (int32Of r)) (cond (eqb n 67) execution.Expired (cond (eqb n 68) execution.Restated (cond (eqb n 70) (execution.Trade (liquidityBack (figureOf l)) (tradeTypeBack (figureOf t))) (execution.TradeCancel (liquidityBack (figureOf l))))))))))
+abbrev pub execution_back : ℕ → Content → Content → Content → Execution
+execution_back n r l t = cond (eqb n 0) execution.Unspecified (cond (eqb n 48) execution.New (cond (eqb n 52) execution.Cancelled (cond (eqb n 53) execution.Replaced (cond (eqb n 56) (execution.Rejected (int32_of r)) (cond (eqb n 67) execution.Expired (cond (eqb n 68) execution.Restated (cond (eqb n 70) (execution.Trade (liquidity_back (figure_of l)) (trade_type_back (figure_of t))) (execution.TradeCancel (liquidity_back (figure_of l))))))))))
 
-pub execution-back : (e : Execution) → executionBack (executionCode e) (executionReject e) (executionLiquidity e) (executionTrade e) ≡ e
+pub execution-back : (e : Execution) → execution_back (execution_code e) (execution_reject e) (execution_liquidity e) (execution_trade e) ≡ e
 execution-back execution.Unspecified = refl
 execution-back execution.New = refl
 execution-back execution.Cancelled = refl
@@ -276,5 +276,5 @@ execution-back execution.Replaced = refl
 execution-back (execution.Rejected n) = refl
 execution-back execution.Expired = refl
 execution-back execution.Restated = refl
-execution-back (execution.Trade l k) = rw (liquidity-back l, tradeType-back k)
+execution-back (execution.Trade l k) = rw (liquidity-back l, trade_type-back k)
 execution-back (execution.TradeCancel l) = rw (liquidity-back l)

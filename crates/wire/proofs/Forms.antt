@@ -8,14 +8,14 @@ use Rattle.codes.specs.declared.lists.Codes.{Codes}
 use Rattle.codes.specs.declared.lists.Codes.TheVariants as list
 use Rattle.codes.specs.Member.{member}
 use Rattle.codes.specs.Lists.{listed}
-use Rattle.texts.specs.Bytes.{le, toLe}
-use Rattle.texts.proofs.Padding.{both_true, said-padded, isText-padded, named-padded, le-toLe}
+use Rattle.texts.specs.Bytes.{le, to_le}
+use Rattle.texts.proofs.Padding.{both_true, said-padded, is_text-padded, named-padded, le-to_le}
 use Rattle.texts.proofs.Digits.{returns_of}
 use Rattle.layout.specs.declared.field.Form.{Form}
 use Rattle.layout.specs.declared.field.Form.TheVariants.{Text, Name, Order, Number, Sequence, Int8, Int32, Price, Time, Code, Reserved}
-use Rattle.layout.specs.Layout.{Content, taken, wide, order_at, is_order, okForm, content, words_of, order_of, figureOf, int8Of, int32Of, priceOf, secondsOf, microsOf, absent}
+use Rattle.layout.specs.Layout.{Content, taken, wide, order_at, is_order, ok_form, content, words_of, order_of, figure_of, int8_of, int32_of, price_of, seconds_of, micros_of, absent}
 use Rattle.layout.specs.Layout.Content.{words, order, figure, int8, int32, price, clock}
-use Rattle.layout.specs.Writing.{orderBytes, bytes_of}
+use Rattle.layout.specs.Writing.{order_bytes, bytes_of}
 use Rattle.layout.specs.Holding.{Below, HoldsForm}
 
 -- every listed code is a byte
@@ -71,32 +71,32 @@ code-small cs n h = member-small n (listed cs) (small-lists cs) h
 
 -- reading undoes writing
 
-ofZ-lt : (w : Width) (z : ℤ) → SFits w z → of_z w z < 2 ^ bits w
-ofZ-lt w z f = (Fits-of_z {w = w} {z = z} f).fits
+of_z-lt : (w : Width) (z : ℤ) → SFits w z → of_z w z < 2 ^ bits w
+of_z-lt w z f = (Fits-of_z {w = w} {z = z} f).fits
 
-order-read : (o : Option ℕ) → Below o → (is_order (orderBytes o) ≡ true) × (order_at (orderBytes o) ≡ o)
+order-read : (o : Option ℕ) → Below o → (is_order (order_bytes o) ≡ true) × (order_at (order_bytes o) ≡ o)
 unfolding is_order order_at
 order-read None h = (refl, refl)
 order-read (Some n) h = let r = (returns_of 79 n h).0 in (ap is_some r, r)
 
-pub form-read : (f : Form) (v : Content) → HoldsForm f v → (okForm f (bytes_of f v) ≡ true) × (v ≡ content f (bytes_of f v))
-form-read (Text w) v h = (isText-padded w (words_of v) h.2, h.0 ∙ ap words (sym (said-padded w (words_of v) h.2)))
+pub form-read : (f : Form) (v : Content) → HoldsForm f v → (ok_form f (bytes_of f v) ≡ true) × (v ≡ content f (bytes_of f v))
+form-read (Text w) v h = (is_text-padded w (words_of v) h.2, h.0 ∙ ap words (sym (said-padded w (words_of v) h.2)))
 form-read (Name w) v h =
-    (rw (isText-padded w (words_of v) h.2, named-padded w (words_of v) h.2 h.3), h.0 ∙ ap words (sym (said-padded w (words_of v) h.2)))
+    (rw (is_text-padded w (words_of v) h.2, named-padded w (words_of v) h.2 h.3), h.0 ∙ ap words (sym (said-padded w (words_of v) h.2)))
 form-read Order v h = let r = order-read (order_of v) h.1 in (r.0, h.0 ∙ ap order (sym r.1))
-form-read (Number w) v h = (refl, h.0 ∙ ap figure (sym (le-toLe w (figureOf v) h.1)))
+form-read (Number w) v h = (refl, h.0 ∙ ap figure (sym (le-to_le w (figure_of v) h.1)))
 form-read Sequence v h =
-    let e = le-toLe 4 (figureOf v) (omega arith) in
-    (rw e (lt-ltb (figureOf v) 2147483648 h.1), h.0 ∙ ap figure (sym e))
-form-read Int8 v h = (refl, h.0 ∙ ap int8 (sym (ap (to_z w8) (le-toLe 1 (of_z w8 (int8Of v)) (ofZ-lt w8 (int8Of v) h.1)) ∙ to_z-of_z w8 (int8Of v) h.1)))
-form-read Int32 v h = (refl, h.0 ∙ ap int32 (sym (ap (to_z w32) (le-toLe 4 (of_z w32 (int32Of v)) (ofZ-lt w32 (int32Of v) h.1)) ∙ to_z-of_z w32 (int32Of v) h.1)))
-form-read Price v h = (refl, h.0 ∙ ap price (sym (ap (to_z w64) (le-toLe 8 (of_z w64 (priceOf v)) (ofZ-lt w64 (priceOf v) h.1)) ∙ to_z-of_z w64 (priceOf v) h.1)))
+    let e = le-to_le 4 (figure_of v) (omega arith) in
+    (rw e (lt-ltb (figure_of v) 2147483648 h.1), h.0 ∙ ap figure (sym e))
+form-read Int8 v h = (refl, h.0 ∙ ap int8 (sym (ap (to_z w8) (le-to_le 1 (of_z w8 (int8_of v)) (of_z-lt w8 (int8_of v) h.1)) ∙ to_z-of_z w8 (int8_of v) h.1)))
+form-read Int32 v h = (refl, h.0 ∙ ap int32 (sym (ap (to_z w32) (le-to_le 4 (of_z w32 (int32_of v)) (of_z-lt w32 (int32_of v) h.1)) ∙ to_z-of_z w32 (int32_of v) h.1)))
+form-read Price v h = (refl, h.0 ∙ ap price (sym (ap (to_z w64) (le-to_le 8 (of_z w64 (price_of v)) (of_z-lt w64 (price_of v) h.1)) ∙ to_z-of_z w64 (price_of v) h.1)))
 form-read Time v h =
-    let s = le-toLe 4 (secondsOf v) h.1 in
-    let u = le-toLe 4 (microsOf v) h.2 in
-    (refl, h.0 ∙ sym (ap (λ n. clock n (le (toLe 4 (microsOf v)))) s ∙ ap (clock (secondsOf v)) u))
+    let s = le-to_le 4 (seconds_of v) h.1 in
+    let u = le-to_le 4 (micros_of v) h.2 in
+    (refl, h.0 ∙ sym (ap (λ n. clock n (le (to_le 4 (micros_of v)))) s ∙ ap (clock (seconds_of v)) u))
 form-read (Code cs) v h =
-    let e = le-toLe 1 (figureOf v) (code-small cs (figureOf v) h.1) in
+    let e = le-to_le 1 (figure_of v) (code-small cs (figure_of v) h.1) in
     (rw e h.1, h.0 ∙ ap figure (sym e))
 form-read (Reserved w) v h = (refl, h)
 
@@ -111,11 +111,11 @@ pub form-bytes : (f : Form) (v : Content) → HoldsForm f v → cond (absent v) 
 form-bytes (Text w) v h = plain (Text w) v (absent v) refl (shown v (words (words_of v)) h.0 refl)
 form-bytes (Name w) v h = plain (Name w) v (absent v) refl (shown v (words (words_of v)) h.0 refl)
 form-bytes Order v h = plain Order v (absent v) refl (shown v (order (order_of v)) h.0 refl)
-form-bytes (Number w) v h = plain (Number w) v (absent v) refl (shown v (figure (figureOf v)) h.0 refl)
-form-bytes Sequence v h = plain Sequence v (absent v) refl (shown v (figure (figureOf v)) h.0 refl)
-form-bytes Int8 v h = plain Int8 v (absent v) refl (shown v (int8 (int8Of v)) h.0 refl)
-form-bytes Int32 v h = plain Int32 v (absent v) refl (shown v (int32 (int32Of v)) h.0 refl)
-form-bytes Price v h = plain Price v (absent v) refl (shown v (price (priceOf v)) h.0 refl)
-form-bytes Time v h = plain Time v (absent v) refl (shown v (clock (secondsOf v) (microsOf v)) h.0 refl)
-form-bytes (Code cs) v h = plain (Code cs) v (absent v) refl (shown v (figure (figureOf v)) h.0 refl)
+form-bytes (Number w) v h = plain (Number w) v (absent v) refl (shown v (figure (figure_of v)) h.0 refl)
+form-bytes Sequence v h = plain Sequence v (absent v) refl (shown v (figure (figure_of v)) h.0 refl)
+form-bytes Int8 v h = plain Int8 v (absent v) refl (shown v (int8 (int8_of v)) h.0 refl)
+form-bytes Int32 v h = plain Int32 v (absent v) refl (shown v (int32 (int32_of v)) h.0 refl)
+form-bytes Price v h = plain Price v (absent v) refl (shown v (price (price_of v)) h.0 refl)
+form-bytes Time v h = plain Time v (absent v) refl (shown v (clock (seconds_of v) (micros_of v)) h.0 refl)
+form-bytes (Code cs) v h = plain (Code cs) v (absent v) refl (shown v (figure (figure_of v)) h.0 refl)
 form-bytes (Reserved w) v h = rw h

@@ -5,7 +5,7 @@ use Rattle.layout.specs.Layout.{Content}
 use Rattle.layout.specs.Layout.Content.{nothing}
 use Rattle.layout.specs.Values.{meant, Means}
 use Rattle.layout.proofs.Turns.{means_is}
-use Rattle.wire.specs.Messages.{Said, contentsOf}
+use Rattle.wire.specs.Messages.{Said, contents_of}
 use Rattle.wire.specs.Keeping.{Picked}
 
 pub meant-at : (vs : List Value) (i : ℕ) (d : Value) → i < length vs → meant (get_or vs i d) ≡ get_or (map meant vs) i nothing
@@ -13,7 +13,7 @@ meant-at [] i d h = absurd (omega arith)
 meant-at (v ∷ vs) zero d h = refl
 meant-at (v ∷ vs) (suc i) d h = meant-at vs i d (omega arith)
 
-pub picked : (s t : Said) (vs : List Value) (i : ℕ) (r : Option Value) → s ≡ t → Means vs (contentsOf t) → Picked (map meant vs) i r → Picked (contentsOf s) i r
+pub picked : (s t : Said) (vs : List Value) (i : ℕ) (r : Option Value) → s ≡ t → Means vs (contents_of t) → Picked (map meant vs) i r → Picked (contents_of s) i r
 picked s t vs i r e m h =
     let P : List Content → Type 0 = λ x. Picked x i r in
-    subst P (means_is vs (contentsOf t) m ∙ ap contentsOf (sym e)) h
+    subst P (means_is vs (contents_of t) m ∙ ap contents_of (sym e)) h

@@ -48,8 +48,8 @@ taking channel.Recovery t = cond (t == 65) (Some kind.Logon) (cond (t == 53) (So
 taking channel.Follower t = cond (t == 66) (Some kind.LogonReply) (cond (t == 53) (Some kind.Logout) (cond (t == 48) (Some kind.Heartbeat) (cond (t == 78) (Some kind.MissedMessageRequestAck) (cond (t == 80) (Some kind.MissedMessageReport) (cond (t == 51) (Some kind.Reject) (cond (t == 56) (Some kind.ExecutionReport) (cond (t == 57) (Some kind.OrderCancelReject) (cond (t == 114) (Some kind.OrderMassCancelReport) (None)))))))))
 
 -- the same three, shut, so that a proof takes each as one unknown
-unfoldable pub letterOf : Kind → ℕ
-letterOf k = letters k
+unfoldable pub letter_of : Kind → ℕ
+letter_of k = letters k
 
 unfoldable pub total_of : Kind → ℕ
 total_of k = totals k

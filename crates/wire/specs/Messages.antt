@@ -26,135 +26,135 @@ use Rattle.messages.specs.declared.requests.OrderCancelReplaceRequest.{OrderCanc
 use Rattle.messages.specs.declared.reports.ExecutionReport.{ExecutionReport}
 use Rattle.messages.specs.declared.reports.OrderCancelReject.{OrderCancelReject}
 use Rattle.messages.specs.declared.reports.OrderMassCancelReport.{OrderMassCancelReport}
-use Rattle.wire.specs.Kinds.{letterOf, total_of, takes}
-use Rattle.layout.specs.Layout.{Content, part, place, width, form_of, matters, firstBad, Says, textPlaces}
+use Rattle.wire.specs.Kinds.{letter_of, total_of, takes}
+use Rattle.layout.specs.Layout.{Content, part, place, width, form_of, matters, first_bad, Says, text_places}
 use Rattle.layout.specs.Writing.{header, encode}
 use Rattle.layout.specs.Holding.{HoldsIn}
-use Rattle.messages.specs.Session.{logon, logonContents, logonHeard, logonKept, logonPlaces, logonReply, logonReplyContents, logonReplyHeard, logonReplyKept, logonReplyPlaces, logout, logoutContents, logoutHeard, logoutKept, logoutPlaces, missedMessageRequest, missedMessageRequestContents, missedMessageRequestHeard, missedMessageRequestKept, missedMessageRequestPlaces, missedMessageRequestAck, missedMessageRequestAckContents, missedMessageRequestAckHeard, missedMessageRequestAckKept, missedMessageRequestAckPlaces, missedMessageReport, missedMessageReportContents, missedMessageReportHeard, missedMessageReportKept, missedMessageReportPlaces, reject, rejectContents, rejectHeard, rejectKept, rejectPlaces}
-use Rattle.messages.specs.Requests.{newOrder, newOrderContents, newOrderHeard, newOrderKept, newOrderPlaces, orderCancelRequest, orderCancelRequestContents, orderCancelRequestHeard, orderCancelRequestKept, orderCancelRequestPlaces, orderCancelReplaceRequest, orderCancelReplaceRequestContents, orderCancelReplaceRequestHeard, orderCancelReplaceRequestKept, orderCancelReplaceRequestPlaces, orderMassCancelRequest, orderMassCancelRequestContents, orderMassCancelRequestHeard, orderMassCancelRequestKept, orderMassCancelRequestPlaces, MassCancelSaid}
-use Rattle.messages.specs.Reports.{executionReport, executionReportContents, executionReportHeard, executionReportKept, executionReportPlaces, orderCancelReject, orderCancelRejectContents, orderCancelRejectHeard, orderCancelRejectKept, orderCancelRejectPlaces, orderMassCancelReport, orderMassCancelReportContents, orderMassCancelReportHeard, orderMassCancelReportKept, orderMassCancelReportPlaces}
+use Rattle.messages.specs.Session.{logon, logon_contents, logon_heard, logon_kept, logon_places, logon_reply, logon_reply_contents, logon_reply_heard, logon_reply_kept, logon_reply_places, logout, logout_contents, logout_heard, logout_kept, logout_places, missed_message_request, missed_message_request_contents, missed_message_request_heard, missed_message_request_kept, missed_message_request_places, missed_message_request_ack, missed_message_request_ack_contents, missed_message_request_ack_heard, missed_message_request_ack_kept, missed_message_request_ack_places, missed_message_report, missed_message_report_contents, missed_message_report_heard, missed_message_report_kept, missed_message_report_places, reject, reject_contents, reject_heard, reject_kept, reject_places}
+use Rattle.messages.specs.Requests.{new_order, new_order_contents, new_order_heard, new_order_kept, new_order_places, order_cancel_request, order_cancel_request_contents, order_cancel_request_heard, order_cancel_request_kept, order_cancel_request_places, order_cancel_replace_request, order_cancel_replace_request_contents, order_cancel_replace_request_heard, order_cancel_replace_request_kept, order_cancel_replace_request_places, order_mass_cancel_request, order_mass_cancel_request_contents, order_mass_cancel_request_heard, order_mass_cancel_request_kept, order_mass_cancel_request_places, MassCancelSaid}
+use Rattle.messages.specs.Reports.{execution_report, execution_report_contents, execution_report_heard, execution_report_kept, execution_report_places, order_cancel_reject, order_cancel_reject_contents, order_cancel_reject_heard, order_cancel_reject_kept, order_cancel_reject_places, order_mass_cancel_report, order_mass_cancel_report_contents, order_mass_cancel_report_heard, order_mass_cancel_report_kept, order_mass_cancel_report_places}
 
 -- what a message says, whether it is borrowed or owned
 pub data Said : Type 0 where
-  theLogon : Logon (List ℕ) → Said
-  theLogonReply : LogonReply (List ℕ) → Said
-  theLogout : Logout (List ℕ) → Said
-  theHeartbeat : Said
-  theMissedMessageRequest : MissedMessageRequest ℕ → Said
-  theMissedMessageRequestAck : MissedMessageRequestAck → Said
-  theMissedMessageReport : MissedMessageReport → Said
-  theReject : Reject (List ℕ) (List ℕ) → Said
-  theNewOrder : NewOrder (List ℕ) (List ℕ) (List ℕ) (List ℕ) → Said
-  theOrderCancelRequest : OrderCancelRequest (List ℕ) (List ℕ) (List ℕ) → Said
-  theOrderCancelReplaceRequest : OrderCancelReplaceRequest (List ℕ) (List ℕ) (List ℕ) (List ℕ) → Said
-  theOrderMassCancelRequest : MassCancelSaid → Said
-  theExecutionReport : ExecutionReport (List ℕ) (List ℕ) (List ℕ) (List ℕ) → Said
-  theOrderCancelReject : OrderCancelReject (List ℕ) (List ℕ) → Said
-  theOrderMassCancelReport : OrderMassCancelReport (List ℕ) → Said
+  the_logon : Logon (List ℕ) → Said
+  the_logon_reply : LogonReply (List ℕ) → Said
+  the_logout : Logout (List ℕ) → Said
+  the_heartbeat : Said
+  the_missed_message_request : MissedMessageRequest ℕ → Said
+  the_missed_message_request_ack : MissedMessageRequestAck → Said
+  the_missed_message_report : MissedMessageReport → Said
+  the_reject : Reject (List ℕ) (List ℕ) → Said
+  the_new_order : NewOrder (List ℕ) (List ℕ) (List ℕ) (List ℕ) → Said
+  the_order_cancel_request : OrderCancelRequest (List ℕ) (List ℕ) (List ℕ) → Said
+  the_order_cancel_replace_request : OrderCancelReplaceRequest (List ℕ) (List ℕ) (List ℕ) (List ℕ) → Said
+  the_order_mass_cancel_request : MassCancelSaid → Said
+  the_execution_report : ExecutionReport (List ℕ) (List ℕ) (List ℕ) (List ℕ) → Said
+  the_order_cancel_reject : OrderCancelReject (List ℕ) (List ℕ) → Said
+  the_order_mass_cancel_report : OrderMassCancelReport (List ℕ) → Said
 
-abbrev pub heardOf : Message → Said
-heardOf (message.Logon m) = theLogon (logonHeard m)
-heardOf (message.LogonReply m) = theLogonReply (logonReplyHeard m)
-heardOf (message.Logout m) = theLogout (logoutHeard m)
-heardOf message.Heartbeat = theHeartbeat
-heardOf (message.MissedMessageRequest m) = theMissedMessageRequest (missedMessageRequestHeard m)
-heardOf (message.MissedMessageRequestAck m) = theMissedMessageRequestAck (missedMessageRequestAckHeard m)
-heardOf (message.MissedMessageReport m) = theMissedMessageReport (missedMessageReportHeard m)
-heardOf (message.Reject m) = theReject (rejectHeard m.fields)
-heardOf (message.NewOrder m) = theNewOrder (newOrderHeard m.fields)
-heardOf (message.OrderCancelRequest m) = theOrderCancelRequest (orderCancelRequestHeard m.fields)
-heardOf (message.OrderCancelReplaceRequest m) = theOrderCancelReplaceRequest (orderCancelReplaceRequestHeard m.fields)
-heardOf (message.OrderMassCancelRequest m) = theOrderMassCancelRequest (orderMassCancelRequestHeard m)
-heardOf (message.ExecutionReport m) = theExecutionReport (executionReportHeard m.fields)
-heardOf (message.OrderCancelReject m) = theOrderCancelReject (orderCancelRejectHeard m.fields)
-heardOf (message.OrderMassCancelReport m) = theOrderMassCancelReport (orderMassCancelReportHeard m)
+abbrev pub heard_of : Message → Said
+heard_of (message.Logon m) = the_logon (logon_heard m)
+heard_of (message.LogonReply m) = the_logon_reply (logon_reply_heard m)
+heard_of (message.Logout m) = the_logout (logout_heard m)
+heard_of message.Heartbeat = the_heartbeat
+heard_of (message.MissedMessageRequest m) = the_missed_message_request (missed_message_request_heard m)
+heard_of (message.MissedMessageRequestAck m) = the_missed_message_request_ack (missed_message_request_ack_heard m)
+heard_of (message.MissedMessageReport m) = the_missed_message_report (missed_message_report_heard m)
+heard_of (message.Reject m) = the_reject (reject_heard m.fields)
+heard_of (message.NewOrder m) = the_new_order (new_order_heard m.fields)
+heard_of (message.OrderCancelRequest m) = the_order_cancel_request (order_cancel_request_heard m.fields)
+heard_of (message.OrderCancelReplaceRequest m) = the_order_cancel_replace_request (order_cancel_replace_request_heard m.fields)
+heard_of (message.OrderMassCancelRequest m) = the_order_mass_cancel_request (order_mass_cancel_request_heard m)
+heard_of (message.ExecutionReport m) = the_execution_report (execution_report_heard m.fields)
+heard_of (message.OrderCancelReject m) = the_order_cancel_reject (order_cancel_reject_heard m.fields)
+heard_of (message.OrderMassCancelReport m) = the_order_mass_cancel_report (order_mass_cancel_report_heard m)
 
-abbrev pub keptOf : OwnedMessage → Said
-keptOf (owned.Logon m) = theLogon (logonKept m)
-keptOf (owned.LogonReply m) = theLogonReply (logonReplyKept m)
-keptOf (owned.Logout m) = theLogout (logoutKept m)
-keptOf owned.Heartbeat = theHeartbeat
-keptOf (owned.MissedMessageRequest m) = theMissedMessageRequest (missedMessageRequestKept m)
-keptOf (owned.MissedMessageRequestAck m) = theMissedMessageRequestAck (missedMessageRequestAckKept m)
-keptOf (owned.MissedMessageReport m) = theMissedMessageReport (missedMessageReportKept m)
-keptOf (owned.Reject m) = theReject (rejectKept m)
-keptOf (owned.NewOrder m) = theNewOrder (newOrderKept m)
-keptOf (owned.OrderCancelRequest m) = theOrderCancelRequest (orderCancelRequestKept m)
-keptOf (owned.OrderCancelReplaceRequest m) = theOrderCancelReplaceRequest (orderCancelReplaceRequestKept m)
-keptOf (owned.OrderMassCancelRequest m) = theOrderMassCancelRequest (orderMassCancelRequestKept m)
-keptOf (owned.ExecutionReport m) = theExecutionReport (executionReportKept m)
-keptOf (owned.OrderCancelReject m) = theOrderCancelReject (orderCancelRejectKept m)
-keptOf (owned.OrderMassCancelReport m) = theOrderMassCancelReport (orderMassCancelReportKept m)
+abbrev pub kept_of : OwnedMessage → Said
+kept_of (owned.Logon m) = the_logon (logon_kept m)
+kept_of (owned.LogonReply m) = the_logon_reply (logon_reply_kept m)
+kept_of (owned.Logout m) = the_logout (logout_kept m)
+kept_of owned.Heartbeat = the_heartbeat
+kept_of (owned.MissedMessageRequest m) = the_missed_message_request (missed_message_request_kept m)
+kept_of (owned.MissedMessageRequestAck m) = the_missed_message_request_ack (missed_message_request_ack_kept m)
+kept_of (owned.MissedMessageReport m) = the_missed_message_report (missed_message_report_kept m)
+kept_of (owned.Reject m) = the_reject (reject_kept m)
+kept_of (owned.NewOrder m) = the_new_order (new_order_kept m)
+kept_of (owned.OrderCancelRequest m) = the_order_cancel_request (order_cancel_request_kept m)
+kept_of (owned.OrderCancelReplaceRequest m) = the_order_cancel_replace_request (order_cancel_replace_request_kept m)
+kept_of (owned.OrderMassCancelRequest m) = the_order_mass_cancel_request (order_mass_cancel_request_kept m)
+kept_of (owned.ExecutionReport m) = the_execution_report (execution_report_kept m)
+kept_of (owned.OrderCancelReject m) = the_order_cancel_reject (order_cancel_reject_kept m)
+kept_of (owned.OrderMassCancelReport m) = the_order_mass_cancel_report (order_mass_cancel_report_kept m)
 
 abbrev pub kind_of : Said → Kind
-kind_of (theLogon m) = kind.Logon
-kind_of (theLogonReply m) = kind.LogonReply
-kind_of (theLogout m) = kind.Logout
-kind_of theHeartbeat = kind.Heartbeat
-kind_of (theMissedMessageRequest m) = kind.MissedMessageRequest
-kind_of (theMissedMessageRequestAck m) = kind.MissedMessageRequestAck
-kind_of (theMissedMessageReport m) = kind.MissedMessageReport
-kind_of (theReject m) = kind.Reject
-kind_of (theNewOrder m) = kind.NewOrder
-kind_of (theOrderCancelRequest m) = kind.OrderCancelRequest
-kind_of (theOrderCancelReplaceRequest m) = kind.OrderCancelReplaceRequest
-kind_of (theOrderMassCancelRequest m) = kind.OrderMassCancelRequest
-kind_of (theExecutionReport m) = kind.ExecutionReport
-kind_of (theOrderCancelReject m) = kind.OrderCancelReject
-kind_of (theOrderMassCancelReport m) = kind.OrderMassCancelReport
+kind_of (the_logon m) = kind.Logon
+kind_of (the_logon_reply m) = kind.LogonReply
+kind_of (the_logout m) = kind.Logout
+kind_of the_heartbeat = kind.Heartbeat
+kind_of (the_missed_message_request m) = kind.MissedMessageRequest
+kind_of (the_missed_message_request_ack m) = kind.MissedMessageRequestAck
+kind_of (the_missed_message_report m) = kind.MissedMessageReport
+kind_of (the_reject m) = kind.Reject
+kind_of (the_new_order m) = kind.NewOrder
+kind_of (the_order_cancel_request m) = kind.OrderCancelRequest
+kind_of (the_order_cancel_replace_request m) = kind.OrderCancelReplaceRequest
+kind_of (the_order_mass_cancel_request m) = kind.OrderMassCancelRequest
+kind_of (the_execution_report m) = kind.ExecutionReport
+kind_of (the_order_cancel_reject m) = kind.OrderCancelReject
+kind_of (the_order_mass_cancel_report m) = kind.OrderMassCancelReport
 
 -- what its fields hold
-abbrev pub contentsOf : Said → List Content
-contentsOf (theLogon m) = logonContents m
-contentsOf (theLogonReply m) = logonReplyContents m
-contentsOf (theLogout m) = logoutContents m
-contentsOf theHeartbeat = []
-contentsOf (theMissedMessageRequest m) = missedMessageRequestContents m
-contentsOf (theMissedMessageRequestAck m) = missedMessageRequestAckContents m
-contentsOf (theMissedMessageReport m) = missedMessageReportContents m
-contentsOf (theReject m) = rejectContents m
-contentsOf (theNewOrder m) = newOrderContents m
-contentsOf (theOrderCancelRequest m) = orderCancelRequestContents m
-contentsOf (theOrderCancelReplaceRequest m) = orderCancelReplaceRequestContents m
-contentsOf (theOrderMassCancelRequest m) = orderMassCancelRequestContents m
-contentsOf (theExecutionReport m) = executionReportContents m
-contentsOf (theOrderCancelReject m) = orderCancelRejectContents m
-contentsOf (theOrderMassCancelReport m) = orderMassCancelReportContents m
+abbrev pub contents_of : Said → List Content
+contents_of (the_logon m) = logon_contents m
+contents_of (the_logon_reply m) = logon_reply_contents m
+contents_of (the_logout m) = logout_contents m
+contents_of the_heartbeat = []
+contents_of (the_missed_message_request m) = missed_message_request_contents m
+contents_of (the_missed_message_request_ack m) = missed_message_request_ack_contents m
+contents_of (the_missed_message_report m) = missed_message_report_contents m
+contents_of (the_reject m) = reject_contents m
+contents_of (the_new_order m) = new_order_contents m
+contents_of (the_order_cancel_request m) = order_cancel_request_contents m
+contents_of (the_order_cancel_replace_request m) = order_cancel_replace_request_contents m
+contents_of (the_order_mass_cancel_request m) = order_mass_cancel_request_contents m
+contents_of (the_execution_report m) = execution_report_contents m
+contents_of (the_order_cancel_reject m) = order_cancel_reject_contents m
+contents_of (the_order_mass_cancel_report m) = order_mass_cancel_report_contents m
 
 abbrev pub table_of : Kind → List Field
 table_of kind.Logon = logon
-table_of kind.LogonReply = logonReply
+table_of kind.LogonReply = logon_reply
 table_of kind.Logout = logout
 table_of kind.Heartbeat = []
-table_of kind.MissedMessageRequest = missedMessageRequest
-table_of kind.MissedMessageRequestAck = missedMessageRequestAck
-table_of kind.MissedMessageReport = missedMessageReport
+table_of kind.MissedMessageRequest = missed_message_request
+table_of kind.MissedMessageRequestAck = missed_message_request_ack
+table_of kind.MissedMessageReport = missed_message_report
 table_of kind.Reject = reject
-table_of kind.NewOrder = newOrder
-table_of kind.OrderCancelRequest = orderCancelRequest
-table_of kind.OrderCancelReplaceRequest = orderCancelReplaceRequest
-table_of kind.OrderMassCancelRequest = orderMassCancelRequest
-table_of kind.ExecutionReport = executionReport
-table_of kind.OrderCancelReject = orderCancelReject
-table_of kind.OrderMassCancelReport = orderMassCancelReport
+table_of kind.NewOrder = new_order
+table_of kind.OrderCancelRequest = order_cancel_request
+table_of kind.OrderCancelReplaceRequest = order_cancel_replace_request
+table_of kind.OrderMassCancelRequest = order_mass_cancel_request
+table_of kind.ExecutionReport = execution_report
+table_of kind.OrderCancelReject = order_cancel_reject
+table_of kind.OrderMassCancelReport = order_mass_cancel_report
 
 -- where its texts were read
 abbrev pub places_of : Message → List ℕ
-places_of (message.Logon m) = logonPlaces m
-places_of (message.LogonReply m) = logonReplyPlaces m
-places_of (message.Logout m) = logoutPlaces m
+places_of (message.Logon m) = logon_places m
+places_of (message.LogonReply m) = logon_reply_places m
+places_of (message.Logout m) = logout_places m
 places_of message.Heartbeat = []
-places_of (message.MissedMessageRequest m) = missedMessageRequestPlaces m
-places_of (message.MissedMessageRequestAck m) = missedMessageRequestAckPlaces m
-places_of (message.MissedMessageReport m) = missedMessageReportPlaces m
-places_of (message.Reject m) = rejectPlaces m.fields
-places_of (message.NewOrder m) = newOrderPlaces m.fields
-places_of (message.OrderCancelRequest m) = orderCancelRequestPlaces m.fields
-places_of (message.OrderCancelReplaceRequest m) = orderCancelReplaceRequestPlaces m.fields
-places_of (message.OrderMassCancelRequest m) = orderMassCancelRequestPlaces m
-places_of (message.ExecutionReport m) = executionReportPlaces m.fields
-places_of (message.OrderCancelReject m) = orderCancelRejectPlaces m.fields
-places_of (message.OrderMassCancelReport m) = orderMassCancelReportPlaces m
+places_of (message.MissedMessageRequest m) = missed_message_request_places m
+places_of (message.MissedMessageRequestAck m) = missed_message_request_ack_places m
+places_of (message.MissedMessageReport m) = missed_message_report_places m
+places_of (message.Reject m) = reject_places m.fields
+places_of (message.NewOrder m) = new_order_places m.fields
+places_of (message.OrderCancelRequest m) = order_cancel_request_places m.fields
+places_of (message.OrderCancelReplaceRequest m) = order_cancel_replace_request_places m.fields
+places_of (message.OrderMassCancelRequest m) = order_mass_cancel_request_places m
+places_of (message.ExecutionReport m) = execution_report_places m.fields
+places_of (message.OrderCancelReject m) = order_cancel_reject_places m.fields
+places_of (message.OrderMassCancelReport m) = order_mass_cancel_report_places m
 
 -- the checks of the header, in their order: a message's kind, or a rule and an offset
 abbrev pub sized : List ℕ → Option Kind → Result Kind (ℕ × ℕ)
@@ -166,35 +166,35 @@ opening ch bs =
     cond (nat_lt (length bs) 4) (Err (1, 1)) (cond (nat_lt (length bs) (le (part 1 2 bs) + 3)) (Err (1, 1))
     (cond (le (part 0 1 bs) == 2) (sized bs (takes ch (le (part 3 1 bs)))) (Err (2, 0))))
 
-abbrev pub atField : Option ℕ → Option (ℕ × ℕ)
-atField None = None
-atField (Some offset) = Some (5, offset)
+abbrev pub at_field : Option ℕ → Option (ℕ × ℕ)
+at_field None = None
+at_field (Some offset) = Some (5, offset)
 
-abbrev pub afterOpening : List ℕ → Result Kind (ℕ × ℕ) → Option (ℕ × ℕ)
-afterOpening bs (Err e) = Some e
-afterOpening bs (Ok k) = atField (firstBad (table_of k) bs)
+abbrev pub after_opening : List ℕ → Result Kind (ℕ × ℕ) → Option (ℕ × ℕ)
+after_opening bs (Err e) = Some e
+after_opening bs (Ok k) = at_field (first_bad (table_of k) bs)
 
 -- the first check that fails, with its offset
 abbrev pub verdict : Channel → List ℕ → Option (ℕ × ℕ)
-verdict ch bs = afterOpening bs (opening ch bs)
+verdict ch bs = after_opening bs (opening ch bs)
 
 -- a message says what its bytes hold, and its texts are the parts that hold them
 pub record Reads (ch : Channel) (bs : List ℕ) (m : Message) : Type 0 where
   pub passes : verdict ch bs ≡ None
-  pub opens : opening ch bs ≡ Ok (kind_of (heardOf m))
-  pub says : Says (contentsOf (heardOf m)) (table_of (kind_of (heardOf m))) bs
-  pub placed : places_of m ≡ textPlaces (table_of (kind_of (heardOf m))) bs
+  pub opens : opening ch bs ≡ Ok (kind_of (heard_of m))
+  pub says : Says (contents_of (heard_of m)) (table_of (kind_of (heard_of m))) bs
+  pub placed : places_of m ≡ text_places (table_of (kind_of (heard_of m))) bs
 
 abbrev pub WasRead : Channel → List ℕ → Result Message Fault → Type 0
 WasRead ch bs r = MatchResult r (λ m. Reads ch bs m) (λ e. verdict ch bs ≡ Some (e.rule, e.offset))
 
 -- the one written form of what a message says
 abbrev pub written : Said → List ℕ
-written m = header (letterOf (kind_of m)) (total_of (kind_of m)) ++ encode (table_of (kind_of m)) (contentsOf m)
+written m = header (letter_of (kind_of m)) (total_of (kind_of m)) ++ encode (table_of (kind_of m)) (contents_of m)
 
 -- what a message may say
 abbrev pub Holdable : Said → Type 0
-Holdable m = HoldsIn (table_of (kind_of m)) (contentsOf m)
+Holdable m = HoldsIn (table_of (kind_of m)) (contents_of m)
 
 -- the fields of a message that was read, with nulls for what is reserved or does not matter
 abbrev pub reserved : Form → Bool
@@ -217,13 +217,13 @@ blanked (f ∷ fs) bs =
 
 -- writing undoes reading: a message that was read is written as its bytes stood, but for those fields
 abbrev pub Again : List ℕ → Message → Type 0
-Again bs m = written (heardOf m) ≡ take 4 bs ++ blanked (table_of (kind_of (heardOf m))) bs
+Again bs m = written (heard_of m) ≡ take 4 bs ++ blanked (table_of (kind_of (heard_of m))) bs
 
 -- reading undoes writing: each reader that takes such messages reads this very one, and no other, from its bytes
 abbrev pub GivenBack : Said → Type 0
 GivenBack m =
-    (ch : Channel) → takes ch (letterOf (kind_of m)) ≡ Some (kind_of m)
-    → (verdict ch (written m) ≡ None) × ((b : Message) → Reads ch (written m) b → heardOf b ≡ m)
+    (ch : Channel) → takes ch (letter_of (kind_of m)) ≡ Some (kind_of m)
+    → (verdict ch (written m) ≡ None) × ((b : Message) → Reads ch (written m) b → heard_of b ≡ m)
 
 -- a message was written to the front of a buffer, or the buffer is too short and stands as it was
 abbrev pub Wrote : Said → List ℕ → List ℕ → Result ℕ TooShort → Type 0

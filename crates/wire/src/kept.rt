@@ -1,12 +1,12 @@
 // From a message as it was read to one of its own, and its values in the order of its layout.
 ghost use Rattle.std.specs.Prelude.{◌≡◌, true, false, map, MatchOption};
 ghost use Rattle.layout.specs.Values.{meant};
-ghost use Rattle.messages.specs.Terms.{scopeHeard, scopeKept};
-ghost use Rattle.messages.specs.Session.{logonHeard, logonKept, logonReplyHeard, logonReplyKept, logoutHeard, logoutKept, missedMessageRequestHeard, missedMessageRequestKept, rejectHeard, rejectKept};
-ghost use Rattle.messages.specs.Requests.{newOrderHeard, newOrderKept, orderCancelRequestHeard, orderCancelRequestKept, orderCancelReplaceRequestHeard, orderCancelReplaceRequestKept, orderMassCancelRequestHeard, orderMassCancelRequestKept};
-ghost use Rattle.messages.specs.Reports.{executionReportHeard, executionReportKept, orderCancelRejectHeard, orderCancelRejectKept, orderMassCancelReportHeard, orderMassCancelReportKept};
-ghost use Rattle.wire.specs.Keeping.{Picked, scopeFits, fitsSaid, logonFits, logonReplyFits, logoutFits, missedMessageRequestFits, rejectFits, newOrderFits, orderCancelRequestFits, orderCancelReplaceRequestFits, orderMassCancelRequestFits, executionReportFits, orderCancelRejectFits, orderMassCancelReportFits};
-ghost use Rattle.wire.specs.Messages.{heardOf, keptOf, kind_of, contentsOf};
+ghost use Rattle.messages.specs.Terms.{scope_heard, scope_kept};
+ghost use Rattle.messages.specs.Session.{logon_heard, logon_kept, logon_reply_heard, logon_reply_kept, logout_heard, logout_kept, missed_message_request_heard, missed_message_request_kept, reject_heard, reject_kept};
+ghost use Rattle.messages.specs.Requests.{new_order_heard, new_order_kept, order_cancel_request_heard, order_cancel_request_kept, order_cancel_replace_request_heard, order_cancel_replace_request_kept, order_mass_cancel_request_heard, order_mass_cancel_request_kept};
+ghost use Rattle.messages.specs.Reports.{execution_report_heard, execution_report_kept, order_cancel_reject_heard, order_cancel_reject_kept, order_mass_cancel_report_heard, order_mass_cancel_report_kept};
+ghost use Rattle.wire.specs.Keeping.{Picked, scope_fits, fits_said, logon_fits, logon_reply_fits, logout_fits, missed_message_request_fits, reject_fits, new_order_fits, order_cancel_request_fits, order_cancel_replace_request_fits, order_mass_cancel_request_fits, execution_report_fits, order_cancel_reject_fits, order_mass_cancel_report_fits};
+ghost use Rattle.wire.specs.Messages.{heard_of, kept_of, kind_of, contents_of};
 
 use crate::kinds::Kind;
 use crate::message::{Message, OwnedMessage};
@@ -21,7 +21,7 @@ use texts::names::*;
 use texts::values::Text;
 
 fn keep_logon(m: &Logon<Text<'_>>) -> Option<Logon<CompId>>
-    ensures { MatchOption result (logonFits (logonHeard m.now) ≡ false) (λ o. (logonFits (logonHeard m.now) ≡ true) × (logonKept o ≡ logonHeard m.now)) }
+    ensures { MatchOption result (logon_fits (logon_heard m.now) ≡ false) (λ o. (logon_fits (logon_heard m.now) ≡ true) × (logon_kept o ≡ logon_heard m.now)) }
 {
     Some(Logon {
         comp_id: FixedText::new(m.comp_id.bytes)?,
@@ -32,7 +32,7 @@ fn keep_logon(m: &Logon<Text<'_>>) -> Option<Logon<CompId>>
 }
 
 fn keep_logon_reply(m: &LogonReply<Text<'_>>) -> Option<LogonReply<Reason>>
-    ensures { MatchOption result (logonReplyFits (logonReplyHeard m.now) ≡ false) (λ o. (logonReplyFits (logonReplyHeard m.now) ≡ true) × (logonReplyKept o ≡ logonReplyHeard m.now)) }
+    ensures { MatchOption result (logon_reply_fits (logon_reply_heard m.now) ≡ false) (λ o. (logon_reply_fits (logon_reply_heard m.now) ≡ true) × (logon_reply_kept o ≡ logon_reply_heard m.now)) }
 {
     Some(LogonReply {
         reject_code: m.reject_code,
@@ -41,7 +41,7 @@ fn keep_logon_reply(m: &LogonReply<Text<'_>>) -> Option<LogonReply<Reason>>
 }
 
 fn keep_logout(m: &Logout<Text<'_>>) -> Option<Logout<LogoutReason>>
-    ensures { MatchOption result (logoutFits (logoutHeard m.now) ≡ false) (λ o. (logoutFits (logoutHeard m.now) ≡ true) × (logoutKept o ≡ logoutHeard m.now)) }
+    ensures { MatchOption result (logout_fits (logout_heard m.now) ≡ false) (λ o. (logout_fits (logout_heard m.now) ≡ true) × (logout_kept o ≡ logout_heard m.now)) }
 {
     Some(Logout {
         reason: FixedText::new(m.reason.bytes)?,
@@ -51,7 +51,7 @@ fn keep_logout(m: &Logout<Text<'_>>) -> Option<Logout<LogoutReason>>
 fn keep_missed_message_request(
     m: &MissedMessageRequest<u32>,
 ) -> Option<MissedMessageRequest<LastSequence>>
-    ensures { MatchOption result (missedMessageRequestFits (missedMessageRequestHeard m.now) ≡ false) (λ o. (missedMessageRequestFits (missedMessageRequestHeard m.now) ≡ true) × (missedMessageRequestKept o ≡ missedMessageRequestHeard m.now)) }
+    ensures { MatchOption result (missed_message_request_fits (missed_message_request_heard m.now) ≡ false) (λ o. (missed_message_request_fits (missed_message_request_heard m.now) ≡ true) × (missed_message_request_kept o ≡ missed_message_request_heard m.now)) }
 {
     Some(MissedMessageRequest {
         partition: m.partition,
@@ -60,7 +60,7 @@ fn keep_missed_message_request(
 }
 
 fn keep_reject(m: &Reject<Text<'_>, Text<'_>>) -> Option<Reject<Reason, ClientOrderId>>
-    ensures { MatchOption result (rejectFits (rejectHeard m.now) ≡ false) (λ o. (rejectFits (rejectHeard m.now) ≡ true) × (rejectKept o ≡ rejectHeard m.now)) }
+    ensures { MatchOption result (reject_fits (reject_heard m.now) ≡ false) (λ o. (reject_fits (reject_heard m.now) ≡ true) × (reject_kept o ≡ reject_heard m.now)) }
 {
     Some(Reject {
         code: m.code,
@@ -73,7 +73,7 @@ fn keep_reject(m: &Reject<Text<'_>, Text<'_>>) -> Option<Reject<Reason, ClientOr
 fn keep_new_order(
     m: &NewOrder<Text<'_>, Text<'_>, Text<'_>, Text<'_>>,
 ) -> Option<NewOrder<RequestId, TraderId, Account, Symbol>>
-    ensures { MatchOption result (newOrderFits (newOrderHeard m.now) ≡ false) (λ o. (newOrderFits (newOrderHeard m.now) ≡ true) × (newOrderKept o ≡ newOrderHeard m.now)) }
+    ensures { MatchOption result (new_order_fits (new_order_heard m.now) ≡ false) (λ o. (new_order_fits (new_order_heard m.now) ≡ true) × (new_order_kept o ≡ new_order_heard m.now)) }
 {
     Some(NewOrder {
         client_order_id: RequestId::new(m.client_order_id.bytes)?,
@@ -99,7 +99,7 @@ fn keep_new_order(
 fn keep_order_cancel_request(
     m: &OrderCancelRequest<Text<'_>, Text<'_>, Text<'_>>,
 ) -> Option<OrderCancelRequest<RequestId, ClientOrderId, Symbol>>
-    ensures { MatchOption result (orderCancelRequestFits (orderCancelRequestHeard m.now) ≡ false) (λ o. (orderCancelRequestFits (orderCancelRequestHeard m.now) ≡ true) × (orderCancelRequestKept o ≡ orderCancelRequestHeard m.now)) }
+    ensures { MatchOption result (order_cancel_request_fits (order_cancel_request_heard m.now) ≡ false) (λ o. (order_cancel_request_fits (order_cancel_request_heard m.now) ≡ true) × (order_cancel_request_kept o ≡ order_cancel_request_heard m.now)) }
 {
     Some(OrderCancelRequest {
         client_order_id: RequestId::new(m.client_order_id.bytes)?,
@@ -114,7 +114,7 @@ fn keep_order_cancel_request(
 fn keep_order_cancel_replace_request(
     m: &OrderCancelReplaceRequest<Text<'_>, Text<'_>, Text<'_>, Text<'_>>,
 ) -> Option<OrderCancelReplaceRequest<RequestId, ClientOrderId, Symbol, Account>>
-    ensures { MatchOption result (orderCancelReplaceRequestFits (orderCancelReplaceRequestHeard m.now) ≡ false) (λ o. (orderCancelReplaceRequestFits (orderCancelReplaceRequestHeard m.now) ≡ true) × (orderCancelReplaceRequestKept o ≡ orderCancelReplaceRequestHeard m.now)) }
+    ensures { MatchOption result (order_cancel_replace_request_fits (order_cancel_replace_request_heard m.now) ≡ false) (λ o. (order_cancel_replace_request_fits (order_cancel_replace_request_heard m.now) ≡ true) × (order_cancel_replace_request_kept o ≡ order_cancel_replace_request_heard m.now)) }
 {
     Some(OrderCancelReplaceRequest {
         client_order_id: RequestId::new(m.client_order_id.bytes)?,
@@ -135,7 +135,7 @@ fn keep_order_cancel_replace_request(
 }
 
 fn keep_order_mass_cancel_request(m: &OrderMassCancelRequest<'_>) -> Option<OwnedMassCancelRequest>
-    ensures { MatchOption result (orderMassCancelRequestFits (orderMassCancelRequestHeard m.now) ≡ false) (λ o. (orderMassCancelRequestFits (orderMassCancelRequestHeard m.now) ≡ true) × (orderMassCancelRequestKept o ≡ orderMassCancelRequestHeard m.now)) }
+    ensures { MatchOption result (order_mass_cancel_request_fits (order_mass_cancel_request_heard m.now) ≡ false) (λ o. (order_mass_cancel_request_fits (order_mass_cancel_request_heard m.now) ≡ true) × (order_mass_cancel_request_kept o ≡ order_mass_cancel_request_heard m.now)) }
 {
     Some(OwnedMassCancelRequest {
         client_order_id: RequestId::new(m.client_order_id.bytes)?,
@@ -146,7 +146,7 @@ fn keep_order_mass_cancel_request(m: &OrderMassCancelRequest<'_>) -> Option<Owne
 fn keep_execution_report(
     m: &ExecutionReport<Text<'_>, Text<'_>, Text<'_>, Text<'_>>,
 ) -> Option<ExecutionReport<Identifier, ClientOrderId, Symbol, Counterparty>>
-    ensures { MatchOption result (executionReportFits (executionReportHeard m.now) ≡ false) (λ o. (executionReportFits (executionReportHeard m.now) ≡ true) × (executionReportKept o ≡ executionReportHeard m.now)) }
+    ensures { MatchOption result (execution_report_fits (execution_report_heard m.now) ≡ false) (λ o. (execution_report_fits (execution_report_heard m.now) ≡ true) × (execution_report_kept o ≡ execution_report_heard m.now)) }
 {
     Some(ExecutionReport {
         partition: m.partition,
@@ -176,7 +176,7 @@ fn keep_execution_report(
 fn keep_order_cancel_reject(
     m: &OrderCancelReject<Text<'_>, Text<'_>>,
 ) -> Option<OrderCancelReject<ClientOrderId, Identifier>>
-    ensures { MatchOption result (orderCancelRejectFits (orderCancelRejectHeard m.now) ≡ false) (λ o. (orderCancelRejectFits (orderCancelRejectHeard m.now) ≡ true) × (orderCancelRejectKept o ≡ orderCancelRejectHeard m.now)) }
+    ensures { MatchOption result (order_cancel_reject_fits (order_cancel_reject_heard m.now) ≡ false) (λ o. (order_cancel_reject_fits (order_cancel_reject_heard m.now) ≡ true) × (order_cancel_reject_kept o ≡ order_cancel_reject_heard m.now)) }
 {
     Some(OrderCancelReject {
         partition: m.partition,
@@ -191,7 +191,7 @@ fn keep_order_cancel_reject(
 fn keep_order_mass_cancel_report(
     m: &OrderMassCancelReport<Text<'_>>,
 ) -> Option<OrderMassCancelReport<ClientOrderId>>
-    ensures { MatchOption result (orderMassCancelReportFits (orderMassCancelReportHeard m.now) ≡ false) (λ o. (orderMassCancelReportFits (orderMassCancelReportHeard m.now) ≡ true) × (orderMassCancelReportKept o ≡ orderMassCancelReportHeard m.now)) }
+    ensures { MatchOption result (order_mass_cancel_report_fits (order_mass_cancel_report_heard m.now) ≡ false) (λ o. (order_mass_cancel_report_fits (order_mass_cancel_report_heard m.now) ≡ true) × (order_mass_cancel_report_kept o ≡ order_mass_cancel_report_heard m.now)) }
 {
     Some(OrderMassCancelReport {
         partition: m.partition,
@@ -204,7 +204,7 @@ fn keep_order_mass_cancel_report(
 }
 
 fn keep_scope(scope: &Scope<Text<'_>, Text<'_>>) -> Option<Scope<Symbol, Segment>>
-    ensures { MatchOption result (scopeFits (scopeHeard scope.now) ≡ false) (λ o. (scopeFits (scopeHeard scope.now) ≡ true) × (scopeKept o ≡ scopeHeard scope.now)) }
+    ensures { MatchOption result (scope_fits (scope_heard scope.now) ≡ false) (λ o. (scope_fits (scope_heard scope.now) ≡ true) × (scope_kept o ≡ scope_heard scope.now)) }
 {
     match scope {
         Scope::FirmInstrument(symbol, book) => Some(Scope::FirmInstrument(
@@ -236,7 +236,7 @@ fn nth<'a>(values: &[Value<'a>], place: usize) -> Option<Value<'a>>
 impl Message<'_> {
     // Keeps a message, if its texts fit their fields: those of a message that was read do.
     pub fn keep(&self) -> Option<OwnedMessage>
-        ensures { MatchOption result (fitsSaid (heardOf self.now) ≡ false) (λ o. (fitsSaid (heardOf self.now) ≡ true) × (keptOf o ≡ heardOf self.now)) }
+        ensures { MatchOption result (fits_said (heard_of self.now) ≡ false) (λ o. (fits_said (heard_of self.now) ≡ true) × (kept_of o ≡ heard_of self.now)) }
     {
         match self {
             Message::Logon(m) => Some(OwnedMessage::Logon(keep_logon(m)?)),
@@ -274,7 +274,7 @@ impl Message<'_> {
 
 impl OwnedMessage {
     pub fn kind(&self) -> Kind
-        ensures { result ≡ kind_of (keptOf self.now) }
+        ensures { result ≡ kind_of (kept_of self.now) }
     {
         match self {
             OwnedMessage::Logon(_) => Kind::Logon,
@@ -297,13 +297,13 @@ impl OwnedMessage {
 
     // What the field of a number holds, counted from 0 in the order of the layout.
     pub fn value(&self, field: usize) -> Option<Value<'_>>
-        ensures { Picked (contentsOf (keptOf self.now)) field result }
+        ensures { Picked (contents_of (kept_of self.now)) field result }
     {
         self.pick(field)
     }
 
     fn pick(&self, field: usize) -> Option<Value<'_>>
-        ensures { Picked (contentsOf (keptOf self.now)) field result }
+        ensures { Picked (contents_of (kept_of self.now)) field result }
     {
         match self {
             OwnedMessage::Logon(m) => nth(&logon_values(m), field),

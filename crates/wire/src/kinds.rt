@@ -1,6 +1,6 @@
 // The kinds of messages, and which of them each reader takes.
 ghost use Rattle.std.specs.Prelude.{◌≡◌};
-ghost use Rattle.wire.specs.Kinds.{letterOf, total_of, takes};
+ghost use Rattle.wire.specs.Kinds.{letter_of, total_of, takes};
 
 // Who reads: the gateway on one of its two channels, or a follower.
 #[derive(Clone, Copy, Debug, PartialEq)]
@@ -31,9 +31,9 @@ pub enum Kind {
 
 impl Kind {
     // The byte that names the kind.
-    #[tactic(auto, unfolding(crate::specs::Kinds::letterOf))]
+    #[tactic(auto, unfolding(crate::specs::Kinds::letter_of))]
     pub(crate) fn letter(self) -> u8
-        ensures { result ≡ letterOf self }
+        ensures { result ≡ letter_of self }
     {
         match self {
             Kind::Logon => b'A',

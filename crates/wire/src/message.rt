@@ -1,7 +1,7 @@
 // Any message: read from bytes as a borrowed one, written to bytes from an owned one.
 ghost use Rattle.std.specs.Prelude.{◌≡◌, ℕ, ◌+◌, ◌<◌, ◌≤◌, ◌++◌, length, drop, IfOk, Ok, Err, MatchResult, OnOk};
 ghost use Rattle.wire.specs.Kinds.{totals, total_of};
-ghost use Rattle.wire.specs.Messages.{opening, keptOf, kind_of, written, Holdable, GivenBack, Apart, Again, WasRead, Wrote};
+ghost use Rattle.wire.specs.Messages.{opening, kept_of, kind_of, written, Holdable, GivenBack, Apart, Again, WasRead, Wrote};
 
 use crate::kinds::{Channel, Kind};
 use layout::field::Fault;
@@ -143,11 +143,11 @@ pub struct TooShort {
 }
 
 fn write_kind(message: &OwnedMessage, out: &mut [u8])
-    requires { total_of (kind_of (keptOf message.now)) ≤ length out.old }
-    ensures wrote { out.new ≡ written (keptOf message.now) ++ drop (total_of (kind_of (keptOf message.now))) out.old }
-    ensures holds { Holdable (keptOf message.now) }
-    ensures back { GivenBack (keptOf message.now) }
-    ensures apart { Apart (keptOf message.now) }
+    requires { total_of (kind_of (kept_of message.now)) ≤ length out.old }
+    ensures wrote { out.new ≡ written (kept_of message.now) ++ drop (total_of (kind_of (kept_of message.now))) out.old }
+    ensures holds { Holdable (kept_of message.now) }
+    ensures back { GivenBack (kept_of message.now) }
+    ensures apart { Apart (kept_of message.now) }
 {
     match message {
         OwnedMessage::Logon(m) => write_logon(m, out),
@@ -170,9 +170,9 @@ fn write_kind(message: &OwnedMessage, out: &mut [u8])
 
 // Writes a message in its one form to the front of a buffer; the bytes past it stay.
 pub fn write(message: &OwnedMessage, out: &mut [u8]) -> Result<usize, TooShort>
-    ensures bytes { Wrote (keptOf message.now) out.old out.new result }
-    ensures back { OnOk result (GivenBack (keptOf message.now)) }
-    ensures apart { OnOk result (Apart (keptOf message.now)) }
+    ensures bytes { Wrote (kept_of message.now) out.old out.new result }
+    ensures back { OnOk result (GivenBack (kept_of message.now)) }
+    ensures apart { OnOk result (Apart (kept_of message.now)) }
 {
     let total = message.kind().total();
     if out.len() < total {

@@ -1,7 +1,7 @@
 use Rattle.std.proofs.Common.{refl}
-use Rattle.texts.specs.Bytes.{isText, named}
+use Rattle.texts.specs.Bytes.{is_text, named}
 use Rattle.texts.specs.Identifiers.{base62}
-use Rattle.layout.specs.Layout.{taken, is_order, firstBad}
+use Rattle.layout.specs.Layout.{taken, is_order, first_bad}
 use Rattle.orders.specs.Examples.{Examples as OrdersWorked}
 use Rattle.wire.specs.Kinds.{takes, total_of}
 use Rattle.wire.specs.Messages.{opening}
@@ -11,5 +11,5 @@ orders-worked : OrdersWorked
 orders-worked t a = record { part = refl; left = refl; cancelled = refl; expired = refl; back_ordered = refl; back-withdrawn = refl; back-executed = refl; back-open = refl; back-status = refl; done = refl; nothing_left = refl; at-executed = refl; above-executed = refl; one_left = refl }
 
 pub returns : goal.returns
-unfolding opening takes total_of firstBad taken is_order isText named base62
+unfolding opening takes total_of first_bad taken is_order is_text named base62
 returns c = (refl, refl, refl, refl, refl, refl, refl, refl, refl, (refl, refl, refl), orders-worked)

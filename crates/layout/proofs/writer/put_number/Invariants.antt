@@ -1,9 +1,9 @@
 use Rattle.std.proofs.Common.{◌≡◌, ◌-◌, drop}
 use lib.Seq.{paste}
-use Rattle.texts.specs.Bytes.{toLe}
+use Rattle.texts.specs.Bytes.{to_le}
 use Rattle.layout.proofs.writer.put_number.Given as goal
 
 abbrev pub invariant-loop-i : goal.invariant-loop-i
 invariant-loop-i l =
-    (l.out ≡ paste l.initial.out l.at (toLe l.width l.number) l.i)
-    × (drop l.i (toLe l.width l.number) ≡ toLe (l.width - l.i) l.n)
+    (l.out ≡ paste l.initial.out l.at (to_le l.width l.number) l.i)
+    × (drop l.i (to_le l.width l.number) ≡ to_le (l.width - l.i) l.n)

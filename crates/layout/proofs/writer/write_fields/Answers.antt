@@ -4,7 +4,7 @@ use Rattle.layout.specs.declared.field.Form.TheVariants.{Text}
 use Rattle.layout.specs.declared.field.Field.TheVariants.{Always}
 use Rattle.layout.specs.declared.value.Value.TheVariants as value
 use Rattle.layout.specs.Values.{meant}
-use Rattle.layout.specs.Writing.{overAll}
+use Rattle.layout.specs.Writing.{over_all}
 use Rattle.layout.proofs.Overs.{message}
 use Rattle.layout.proofs.Turns.{reach, fits-turn, over-turn}
 use Rattle.layout.proofs.writer.write_fields.Goals as goal
@@ -29,7 +29,7 @@ loop-i-preserved c =
     let r = reach fs c.args.total i (Always 0 (Text 0)) h c.loop-i.invariant.1 in
     let f = fits-turn fs vs i (Always 0 (Text 0)) (value.Text record { ref_ptr = (0, 0); now = [] }) h k c.loop-i.invariant.2 in
     let o = over-turn fs vs c.loop-i.out i (Always 0 (Text 0)) (value.Text record { ref_ptr = (0, 0); now = [] }) h k in
-    (ap (overAll (drop (i + 1) fs) (drop (i + 1) (map meant vs))) c.put_field.ensures ∙ sym o ∙ c.loop-i.invariant.0, r.1, f.1)
+    (ap (over_all (drop (i + 1) fs) (drop (i + 1) (map meant vs))) c.put_field.ensures ∙ sym o ∙ c.loop-i.invariant.0, r.1, f.1)
 
 ended : {X : Type 0} (i : ℕ) (xs : List X) → length xs ≤ i → drop i xs ≡ []
 ended i xs h = drop_all i xs h
@@ -40,7 +40,7 @@ returns c =
     let vs = c.args.values.now in
     let i = c.loop-i.i in
     let h : length fs ≤ i = search rules in
-    let e : overAll (drop i fs) (drop i (map meant vs)) c.loop-i.out ≡ c.loop-i.out = rw (ended i fs h) in
+    let e : over_all (drop i fs) (drop i (map meant vs)) c.loop-i.out ≡ c.loop-i.out = rw (ended i fs h) in
     let l : length (map meant vs) ≡ length fs = length-map vs meant ∙ c.requires.each.0 in
-    sym e ∙ c.loop-i.invariant.0 ∙ ap (overAll fs (map meant vs)) c.put_header.ensures
+    sym e ∙ c.loop-i.invariant.0 ∙ ap (over_all fs (map meant vs)) c.put_header.ensures
     ∙ message c.args.letter c.args.total fs (map meant vs) c.args.out.now c.requires.table.1 l c.requires.each.1

@@ -1,7 +1,7 @@
 use Rattle.std.proofs.Common.{refl, ap, w32, to_z}
 use Rattle.layout.specs.Layout.Content.{words, figure, int32, price}
 use Rattle.messages.proofs.Pair.{◌⊹◌, blank, clocked, consed}
-use Rattle.messages.specs.Reports.{executionReport, executionReportContents, executionReportHeard, executionReportPlaces}
+use Rattle.messages.specs.Reports.{execution_report, execution_report_contents, execution_report_heard, execution_report_places}
 use Rattle.layout.proofs.Tables.{broken}
 use Rattle.messages.proofs.reports.read_execution_report.Goals as goal
 
@@ -66,4 +66,4 @@ returns c = (
 )
 
 pub returns-in_err-check : goal.returns-in_err-check
-returns-in_err-check c = broken executionReport (λ m. executionReportContents (executionReportHeard m)) executionReportPlaces c.args.r.now.src.now c.from_residual.result c.in_err-check.field-0.0 c.from_residual.ensures.1 c.in_err-check.ensures
+returns-in_err-check c = broken execution_report (λ m. execution_report_contents (execution_report_heard m)) execution_report_places c.args.r.now.src.now c.from_residual.result c.in_err-check.field-0.0 c.from_residual.ensures.1 c.in_err-check.ensures

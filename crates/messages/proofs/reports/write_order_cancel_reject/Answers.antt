@@ -1,21 +1,21 @@
 use Rattle.std.proofs.Common.{refl, arith}
-use Rattle.messages.specs.Reports.{orderCancelReject, orderCancelRejectContents, orderCancelRejectKept}
+use Rattle.messages.specs.Reports.{order_cancel_reject, order_cancel_reject_contents, order_cancel_reject_kept}
 use Rattle.layout.proofs.Turns.{means-long, fits-means, wrote-means}
-use Rattle.messages.proofs.Held.{orderCancelReject-holds}
+use Rattle.messages.proofs.Held.{order_cancel_reject-holds}
 use Rattle.messages.proofs.reports.write_order_cancel_reject.Goals as goal
 
 pub write_fields-requires : goal.write_fields-requires
 write_fields-requires c =
-    let h = orderCancelReject-holds c.args.m.now c.order_cancel_reject_values.ensures.typed in
+    let h = order_cancel_reject-holds c.args.m.now c.order_cancel_reject_values.ensures.typed in
     record {
       room = (c.requires, omega arith);
       table = (refl, refl);
-      each = (means-long c.order_cancel_reject_values.result (orderCancelRejectContents (orderCancelRejectKept c.args.m.now)) c.order_cancel_reject_values.ensures.means, fits-means orderCancelReject c.order_cancel_reject_values.result (orderCancelRejectContents (orderCancelRejectKept c.args.m.now)) c.order_cancel_reject_values.ensures.means h);
+      each = (means-long c.order_cancel_reject_values.result (order_cancel_reject_contents (order_cancel_reject_kept c.args.m.now)) c.order_cancel_reject_values.ensures.means, fits-means order_cancel_reject c.order_cancel_reject_values.result (order_cancel_reject_contents (order_cancel_reject_kept c.args.m.now)) c.order_cancel_reject_values.ensures.means h);
     }
 
 pub returns : goal.returns
 returns c =
     record {
-      wrote = wrote-means 57 63 orderCancelReject c.order_cancel_reject_values.result (orderCancelRejectContents (orderCancelRejectKept c.args.m.now)) c.args.out.now c.order_cancel_reject_values.ensures.means c.write_fields.ensures;
-      holds = orderCancelReject-holds c.args.m.now c.order_cancel_reject_values.ensures.typed;
+      wrote = wrote-means 57 63 order_cancel_reject c.order_cancel_reject_values.result (order_cancel_reject_contents (order_cancel_reject_kept c.args.m.now)) c.args.out.now c.order_cancel_reject_values.ensures.means c.write_fields.ensures;
+      holds = order_cancel_reject-holds c.args.m.now c.order_cancel_reject_values.ensures.typed;
     }

@@ -1,7 +1,7 @@
 use Rattle.std.proofs.Common.{refl, ap, w32, to_z}
 use Rattle.layout.specs.Layout.Content.{words, figure, int32}
 use Rattle.messages.proofs.Pair.{◌⊹◌, blank, consed}
-use Rattle.messages.specs.Requests.{newOrder, newOrderContents, newOrderHeard, newOrderPlaces}
+use Rattle.messages.specs.Requests.{new_order, new_order_contents, new_order_heard, new_order_places}
 use Rattle.layout.proofs.Tables.{broken}
 use Rattle.messages.proofs.requests.read_new_order.Goals as goal
 
@@ -64,4 +64,4 @@ returns c = (
 )
 
 pub returns-in_err-check : goal.returns-in_err-check
-returns-in_err-check c = broken newOrder (λ m. newOrderContents (newOrderHeard m)) newOrderPlaces c.args.r.now.src.now c.from_residual.result c.in_err-check.field-0.0 c.from_residual.ensures.1 c.in_err-check.ensures
+returns-in_err-check c = broken new_order (λ m. new_order_contents (new_order_heard m)) new_order_places c.args.r.now.src.now c.from_residual.result c.in_err-check.field-0.0 c.from_residual.ensures.1 c.in_err-check.ensures

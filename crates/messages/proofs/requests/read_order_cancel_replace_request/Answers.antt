@@ -1,7 +1,7 @@
 use Rattle.std.proofs.Common.{refl, ap, w32, to_z}
 use Rattle.layout.specs.Layout.Content.{words, order, figure, int32, price}
 use Rattle.messages.proofs.Pair.{◌⊹◌, blank, consed}
-use Rattle.messages.specs.Requests.{orderCancelReplaceRequest, orderCancelReplaceRequestContents, orderCancelReplaceRequestHeard, orderCancelReplaceRequestPlaces}
+use Rattle.messages.specs.Requests.{order_cancel_replace_request, order_cancel_replace_request_contents, order_cancel_replace_request_heard, order_cancel_replace_request_places}
 use Rattle.layout.proofs.Tables.{broken}
 use Rattle.messages.proofs.requests.read_order_cancel_replace_request.Goals as goal
 
@@ -45,4 +45,4 @@ returns c = (
 )
 
 pub returns-in_err-check : goal.returns-in_err-check
-returns-in_err-check c = broken orderCancelReplaceRequest (λ m. orderCancelReplaceRequestContents (orderCancelReplaceRequestHeard m)) orderCancelReplaceRequestPlaces c.args.r.now.src.now c.from_residual.result c.in_err-check.field-0.0 c.from_residual.ensures.1 c.in_err-check.ensures
+returns-in_err-check c = broken order_cancel_replace_request (λ m. order_cancel_replace_request_contents (order_cancel_replace_request_heard m)) order_cancel_replace_request_places c.args.r.now.src.now c.from_residual.result c.in_err-check.field-0.0 c.from_residual.ensures.1 c.in_err-check.ensures

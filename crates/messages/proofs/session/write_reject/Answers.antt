@@ -1,5 +1,5 @@
 use Rattle.std.proofs.Common.{refl, arith}
-use Rattle.messages.specs.Session.{reject, rejectContents, rejectKept}
+use Rattle.messages.specs.Session.{reject, reject_contents, reject_kept}
 use Rattle.layout.proofs.Turns.{means-long, fits-means, wrote-means}
 use Rattle.messages.proofs.Held.{reject-holds}
 use Rattle.messages.proofs.session.write_reject.Goals as goal
@@ -10,12 +10,12 @@ write_fields-requires c =
     record {
       room = (c.requires, omega arith);
       table = (refl, refl);
-      each = (means-long c.reject_values.result (rejectContents (rejectKept c.args.m.now)) c.reject_values.ensures.means, fits-means reject c.reject_values.result (rejectContents (rejectKept c.args.m.now)) c.reject_values.ensures.means h);
+      each = (means-long c.reject_values.result (reject_contents (reject_kept c.args.m.now)) c.reject_values.ensures.means, fits-means reject c.reject_values.result (reject_contents (reject_kept c.args.m.now)) c.reject_values.ensures.means h);
     }
 
 pub returns : goal.returns
 returns c =
     record {
-      wrote = wrote-means 51 59 reject c.reject_values.result (rejectContents (rejectKept c.args.m.now)) c.args.out.now c.reject_values.ensures.means c.write_fields.ensures;
+      wrote = wrote-means 51 59 reject c.reject_values.result (reject_contents (reject_kept c.args.m.now)) c.args.out.now c.reject_values.ensures.means c.write_fields.ensures;
       holds = reject-holds c.args.m.now c.reject_values.ensures.typed;
     }

@@ -1,7 +1,7 @@
 use Rattle.std.proofs.Common.{◌≡◌, ℕ, List, ◌-◌, ◌++◌, length, drop, replicate, ap, ◌∙◌}
 use Rattle.std.proofs.lemmas.List.{drop-replicate}
-use Rattle.texts.specs.Bytes.{said, isText, named, padded}
-use Rattle.texts.proofs.Padding.{length-padded, isText-padded, said-padded, named-padded}
+use Rattle.texts.specs.Bytes.{said, is_text, named, padded}
+use Rattle.texts.proofs.Padding.{length-padded, is_text-padded, said-padded, named-padded}
 use Rattle.texts.proofs.texts.filled.Goals as goal
 
 pub returns : goal.returns
@@ -12,7 +12,7 @@ returns g c =
     record {
       value = v;
       wide = ap length v ∙ length-padded g.row.N t c.requires.text_len_bound;
-      text = ap isText v ∙ isText-padded g.row.N t c.requires.text_value;
+      text = ap is_text v ∙ is_text-padded g.row.N t c.requires.text_value;
       said = ap said v ∙ said-padded g.row.N t c.requires.text_value;
       named = λ h. ap named v ∙ named-padded g.row.N t c.requires.text_value h;
     }

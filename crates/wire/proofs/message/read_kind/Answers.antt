@@ -1,9 +1,9 @@
 use Rattle.std.proofs.Common.{rules}
-use Rattle.layout.specs.Layout.{firstBad}
+use Rattle.layout.specs.Layout.{first_bad}
 use Rattle.wire.proofs.message.read_kind.Goals as goal
 
 pub returns-in-Heartbeat : goal.returns-in-Heartbeat
-unfolding firstBad
+unfolding first_bad
 returns-in-Heartbeat c = search rules
 
 pub returns-in_ok-read_logon-in-Logon : goal.returns-in_ok-read_logon-in-Logon

@@ -2,8 +2,8 @@ use Rattle.std.proofs.Common.{ℕ, ◌-◌, List, take, drop, ap, ◌∙◌, ari
 use Rattle.std.specs.List.{remove}
 use Rattle.matching.proofs.Rows.{removed-apart, removed-means}
 use Rattle.lit_book.specs.declared.order.Order.{Order}
-use Rattle.lit_book.specs.Books.{lit-means, lit-serves}
-use Rattle.lit_book.specs.Lists.{all_apart, all-open, in-turn, order-held, order-number, settled}
+use Rattle.lit_book.specs.Books.{lit_means, lit_serves}
+use Rattle.lit_book.specs.Lists.{all_apart, all_open, in_turn, order_held, order_number, settled}
 use Rattle.lit_book.specs.Rules.{Lit}
 use Rattle.lit_book.specs.Turns.{queued}
 use Rattle.lit_book.proofs.Tables.{back-turn, front-turn, parts-lit, parts-settled, removed-back, removed-front, removed-open}
@@ -18,7 +18,7 @@ invariant_of-self c =
     let n = c.args.number in
     let e = c.remove.ensures.items in
     let lt = c.if-i-resting.true in
-    let p = removed-front xs i k n b.apart c.requires lt (omega arith) in record { reserved = search rules; limited = search rules; within = search rules; apart = ap all_apart e ∙ removed-apart order-number order-held 256 lit-serves xs i b.apart; nonzero = ap all-open e ∙ removed-open xs i b.nonzero; kept_in_turn = ap (λ (l : List Order). in-turn (queued b.turns) (drop (k - 1) l)) e ∙ front-turn xs (remove xs i) i k (k - 1) n (queued b.turns) b.apart c.requires lt p b.kept_in_turn; uncrossed = ap (λ (l : List Order). settled (take (k - 1) l)) e ∙ parts-settled xs (remove xs i) k (k - 1) n _ p b.uncrossed }
+    let p = removed-front xs i k n b.apart c.requires lt (omega arith) in record { reserved = search rules; limited = search rules; within = search rules; apart = ap all_apart e ∙ removed-apart order_number order_held 256 lit_serves xs i b.apart; nonzero = ap all_open e ∙ removed-open xs i b.nonzero; kept_in_turn = ap (λ (l : List Order). in_turn (queued b.turns) (drop (k - 1) l)) e ∙ front-turn xs (remove xs i) i k (k - 1) n (queued b.turns) b.apart c.requires lt p b.kept_in_turn; uncrossed = ap (λ (l : List Order). settled (take (k - 1) l)) e ∙ parts-settled xs (remove xs i) k (k - 1) n _ p b.uncrossed }
 
 pub invariant_of-self-else-i-resting : goal.invariant_of-self-else-i-resting
 invariant_of-self-else-i-resting c =
@@ -29,7 +29,7 @@ invariant_of-self-else-i-resting c =
     let n = c.args.number in
     let e = c.remove.ensures.items in
     let ge = c.if-i-resting.false in
-    let p = removed-back xs i k n c.requires ge (omega arith) in record { reserved = search rules; limited = search rules; within = search rules; apart = ap all_apart e ∙ removed-apart order-number order-held 256 lit-serves xs i b.apart; nonzero = ap all-open e ∙ removed-open xs i b.nonzero; kept_in_turn = ap (λ (l : List ℕ). in-turn l (drop k c.remove.new.self.items)) c.leave.ensures ∙ ap (λ (l : List Order). in-turn (remove (queued b.turns) (i - k)) (drop k l)) e ∙ back-turn xs (remove xs i) i k n (queued b.turns) c.requires ge p b.kept_in_turn; uncrossed = ap (λ (l : List Order). settled (take k l)) e ∙ parts-settled xs (remove xs i) k k n _ p b.uncrossed }
+    let p = removed-back xs i k n c.requires ge (omega arith) in record { reserved = search rules; limited = search rules; within = search rules; apart = ap all_apart e ∙ removed-apart order_number order_held 256 lit_serves xs i b.apart; nonzero = ap all_open e ∙ removed-open xs i b.nonzero; kept_in_turn = ap (λ (l : List ℕ). in_turn l (drop k c.remove.new.self.items)) c.leave.ensures ∙ ap (λ (l : List Order). in_turn (remove (queued b.turns) (i - k)) (drop k l)) e ∙ back-turn xs (remove xs i) i k n (queued b.turns) c.requires ge p b.kept_in_turn; uncrossed = ap (λ (l : List Order). settled (take k l)) e ∙ parts-settled xs (remove xs i) k k n _ p b.uncrossed }
 
 pub returns-then-i-resting : goal.returns-then-i-resting
 returns-then-i-resting c =
@@ -41,7 +41,7 @@ returns-then-i-resting c =
     let f : List Order → Lit = λ l. record { resting = take (k - 1) l; waiting = drop (k - 1) l } in
     record {
       lists = ap f e ∙ parts-lit xs (remove xs c.args.i) k (k - 1) c.args.number _ p;
-      after = ap lit-means e ∙ removed-means order-number order-held 256 lit-serves xs c.args.i c.args.number b.apart c.requires;
+      after = ap lit_means e ∙ removed-means order_number order_held 256 lit_serves xs c.args.i c.args.number b.apart c.requires;
     }
 
 pub returns-else-i-resting : goal.returns-else-i-resting
@@ -54,5 +54,5 @@ returns-else-i-resting c =
     let f : List Order → Lit = λ l. record { resting = take k l; waiting = drop k l } in
     record {
       lists = ap f e ∙ parts-lit xs (remove xs c.args.i) k k c.args.number _ p;
-      after = ap lit-means e ∙ removed-means order-number order-held 256 lit-serves xs c.args.i c.args.number b.apart c.requires;
+      after = ap lit_means e ∙ removed-means order_number order_held 256 lit_serves xs c.args.i c.args.number b.apart c.requires;
     }

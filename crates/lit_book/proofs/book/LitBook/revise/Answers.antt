@@ -4,8 +4,8 @@ use Rattle.matching.proofs.Rows.{found-held}
 use Rattle.matching.specs.Look.{look}
 use Rattle.matching.specs.Meaning.{Meaning, opened}
 use Rattle.lit_book.specs.declared.order.Order.{Order}
-use Rattle.lit_book.specs.Books.{lit, lit-meaning, lit-serves, table}
-use Rattle.lit_book.specs.Lists.{order-held, order-number}
+use Rattle.lit_book.specs.Books.{lit, lit_meaning, lit_serves, table}
+use Rattle.lit_book.specs.Lists.{order_held, order_number}
 use Rattle.lit_book.specs.Orders.{repriced, sized}
 use Rattle.lit_book.specs.Rules.{goes_back}
 use Rattle.lit_book.proofs.Amends.{amended-back, amended-stays, gone, reopened, under_at}
@@ -16,15 +16,15 @@ add-requires c =
     let b = c.args.self.now in
     let x = c.index-order.result.now in
     let number : c.repriced-revised.result.number ≡ c.args.number =
-    ap order-number c.repriced-revised.ensures ∙ ap order-number c.sized.ensures ∙ ap order-number c.index-order.ensures ∙ c.requires.found.2 x in
+    ap order_number c.repriced-revised.ensures ∙ ap order_number c.sized.ensures ∙ ap order_number c.index-order.ensures ∙ c.requires.found.2 x in
     let quantity : c.repriced-revised.result.quantity ≡ c.args.quantity =
     ap (λ (o : Order). o.quantity) c.repriced-revised.ensures ∙ ap (λ (o : Order). o.quantity) c.sized.ensures in
     let fewer = ap (λ (m : Meaning). m.count) c.remove.ensures.after in
     let some = c.requires.found.0 in
     let positive = c.requires.some in
     record {
-      new = ap (λ (n : ℕ). is_some (look order-number order-held (table c.remove.new.self) n)) number
-          ∙ gone (lit-meaning b) (lit-meaning c.remove.new.self) c.args.number c.remove.ensures.after;
+      new = ap (λ (n : ℕ). is_some (look order_number order_held (table c.remove.new.self) n)) number
+          ∙ gone (lit_meaning b) (lit_meaning c.remove.new.self) c.args.number c.remove.ensures.after;
       room = omega arith;
       some = omega arith;
     }
@@ -36,8 +36,8 @@ returns-then-goes_back c =
     let x = c.index-order.result.now in
     let v = c.repriced-revised.result in
     let p = to_z-of_z w64 c.args.price c.ranges.price in
-    let own : x.number ≡ c.args.number = ap order-number c.index-order.ensures ∙ c.requires.found.2 x in
-    let number : v.number ≡ c.args.number = ap order-number c.repriced-revised.ensures ∙ ap order-number c.sized.ensures ∙ own in
+    let own : x.number ≡ c.args.number = ap order_number c.index-order.ensures ∙ c.requires.found.2 x in
+    let number : v.number ≡ c.args.number = ap order_number c.repriced-revised.ensures ∙ ap order_number c.sized.ensures ∙ own in
     let is : v ≡ repriced (sized x c.args.quantity) c.args.price =
     c.repriced-revised.ensures
     ∙ ap (λ (o : Order). repriced o (to_z w64 (of_z w64 c.args.price))) c.sized.ensures
@@ -48,12 +48,12 @@ returns-then-goes_back c =
     record {
       lists = amended-back (lit b) (lit c.remove.new.self) (lit c.add.new.self) x v c.args.number c.args.quantity c.args.price
           (under_at xs b.resting c.args.i c.args.number x c.requires.found c.index-order.ensures) own back is c.remove.ensures.lists c.add.ensures.lists;
-      after = reopened (lit-meaning b) (lit-meaning c.remove.new.self) (lit-meaning c.add.new.self) c.args.number c.args.quantity (order-held x) (order-held v)
-          (found-held order-number order-held 256 lit-serves xs c.args.i c.args.number x c.requires.found ∙ ap (λ (o : Order). Some (order-held o)) (sym c.index-order.ensures))
+      after = reopened (lit_meaning b) (lit_meaning c.remove.new.self) (lit_meaning c.add.new.self) c.args.number c.args.quantity (order_held x) (order_held v)
+          (found-held order_number order_held 256 lit_serves xs c.args.i c.args.number x c.requires.found ∙ ap (λ (o : Order). Some (order_held o)) (sym c.index-order.ensures))
           positive
-          (ap (λ (o : Order). Some (order-held o)) is)
+          (ap (λ (o : Order). Some (order_held o)) is)
           c.remove.ensures.after
-          (c.add.ensures.after ∙ ap (λ (n : ℕ). opened (lit-meaning c.remove.new.self) n (order-held v)) number);
+          (c.add.ensures.after ∙ ap (λ (n : ℕ). opened (lit_meaning c.remove.new.self) n (order_held v)) number);
     }
 
 pub returns-else-goes_back : goal.returns-else-goes_back
@@ -62,7 +62,7 @@ returns-else-goes_back c =
     let xs = b.orders.items in
     let x = c.index-order.result.now in
     let p = to_z-of_z w64 c.args.price c.ranges.price in
-    let own : x.number ≡ c.args.number = ap order-number c.index-order.ensures ∙ c.requires.found.2 x in
+    let own : x.number ≡ c.args.number = ap order_number c.index-order.ensures ∙ c.requires.found.2 x in
     let stays : goes_back x c.args.quantity c.args.price ≡ false = ap (goes_back x c.args.quantity) (sym p) ∙ sym c.if-goes_back.ensures in
     record {
       lists = amended-stays (lit b) (lit c.resize.new.self) x c.args.number c.args.quantity c.args.price
