@@ -1,31 +1,31 @@
 -- The codes of reports. `Unspecified` is a null byte. Assumes nothing.
 use Rattle.std.specs.Prelude.{ℕ, List, [], ◌∷◌}
 use Rattle.codes.specs.declared.report.ExecType.{ExecType}
-use Rattle.codes.specs.declared.report.ExecType.TheVariants as execType
+use Rattle.codes.specs.declared.report.ExecType.TheVariants as exec_type
 use Rattle.codes.specs.declared.report.Status.{Status}
 use Rattle.codes.specs.declared.report.Status.TheVariants as status
 use Rattle.codes.specs.declared.report.Liquidity.{Liquidity}
 use Rattle.codes.specs.declared.report.Liquidity.TheVariants as liquidity
 use Rattle.codes.specs.declared.report.TradeType.{TradeType}
-use Rattle.codes.specs.declared.report.TradeType.TheVariants as tradeType
+use Rattle.codes.specs.declared.report.TradeType.TheVariants as trade_type
 use Rattle.codes.specs.declared.report.Capacity.{Capacity}
 use Rattle.codes.specs.declared.report.Capacity.TheVariants as capacity
 use Rattle.codes.specs.declared.report.PriceDifferential.{PriceDifferential}
-use Rattle.codes.specs.declared.report.PriceDifferential.TheVariants as priceDifferential
+use Rattle.codes.specs.declared.report.PriceDifferential.TheVariants as price_differential
 use Rattle.codes.specs.declared.report.MassResponse.{MassResponse}
-use Rattle.codes.specs.declared.report.MassResponse.TheVariants as massResponse
+use Rattle.codes.specs.declared.report.MassResponse.TheVariants as mass_response
 
 -- why an Execution Report is sent
 abbrev pub exec_type_code : ExecType → ℕ
-exec_type_code execType.Unspecified = 0
-exec_type_code execType.New = 48
-exec_type_code execType.Cancelled = 52
-exec_type_code execType.Replaced = 53
-exec_type_code execType.Rejected = 56
-exec_type_code execType.Expired = 67
-exec_type_code execType.Restated = 68
-exec_type_code execType.Trade = 70
-exec_type_code execType.TradeCancel = 72
+exec_type_code exec_type.Unspecified = 0
+exec_type_code exec_type.New = 48
+exec_type_code exec_type.Cancelled = 52
+exec_type_code exec_type.Replaced = 53
+exec_type_code exec_type.Rejected = 56
+exec_type_code exec_type.Expired = 67
+exec_type_code exec_type.Restated = 68
+exec_type_code exec_type.Trade = 70
+exec_type_code exec_type.TradeCancel = 72
 
 abbrev pub exec_type_codes : List ℕ
 exec_type_codes = 0 ∷ 48 ∷ 52 ∷ 53 ∷ 56 ∷ 67 ∷ 68 ∷ 70 ∷ 72 ∷ []
@@ -54,8 +54,8 @@ liquidity_codes = 0 ∷ 65 ∷ 67 ∷ 82 ∷ []
 
 -- whether the executed part was shown
 abbrev pub trade_type_code : TradeType → ℕ
-trade_type_code tradeType.Visible = 0
-trade_type_code tradeType.Hidden = 1
+trade_type_code trade_type.Visible = 0
+trade_type_code trade_type.Hidden = 1
 
 abbrev pub trade_type_codes : List ℕ
 trade_type_codes = 0 ∷ 1 ∷ []
@@ -71,27 +71,27 @@ capacity_codes = 1 ∷ 2 ∷ 3 ∷ []
 
 -- how an order's price stands to the best one
 abbrev pub price_differential_code : PriceDifferential → ℕ
-price_differential_code priceDifferential.Unspecified = 0
-price_differential_code priceDifferential.JoinBest = 49
-price_differential_code priceDifferential.Second = 50
-price_differential_code priceDifferential.Third = 51
-price_differential_code priceDifferential.Fourth = 52
-price_differential_code priceDifferential.Fifth = 53
-price_differential_code priceDifferential.Sixth = 54
-price_differential_code priceDifferential.Seventh = 55
-price_differential_code priceDifferential.Eighth = 56
-price_differential_code priceDifferential.NinthOrWorse = 57
-price_differential_code priceDifferential.Aggressive = 65
-price_differential_code priceDifferential.NewBest = 66
-price_differential_code priceDifferential.Passive = 80
+price_differential_code price_differential.Unspecified = 0
+price_differential_code price_differential.JoinBest = 49
+price_differential_code price_differential.Second = 50
+price_differential_code price_differential.Third = 51
+price_differential_code price_differential.Fourth = 52
+price_differential_code price_differential.Fifth = 53
+price_differential_code price_differential.Sixth = 54
+price_differential_code price_differential.Seventh = 55
+price_differential_code price_differential.Eighth = 56
+price_differential_code price_differential.NinthOrWorse = 57
+price_differential_code price_differential.Aggressive = 65
+price_differential_code price_differential.NewBest = 66
+price_differential_code price_differential.Passive = 80
 
 abbrev pub price_differential_codes : List ℕ
 price_differential_codes = 0 ∷ 49 ∷ 50 ∷ 51 ∷ 52 ∷ 53 ∷ 54 ∷ 55 ∷ 56 ∷ 57 ∷ 65 ∷ 66 ∷ 80 ∷ []
 
 -- whether a mass cancel was accepted
 abbrev pub mass_response_code : MassResponse → ℕ
-mass_response_code massResponse.Rejected = 0
-mass_response_code massResponse.Accepted = 7
+mass_response_code mass_response.Rejected = 0
+mass_response_code mass_response.Accepted = 7
 
 abbrev pub mass_response_codes : List ℕ
 mass_response_codes = 0 ∷ 7 ∷ []

@@ -5,9 +5,9 @@ use Rattle.codes.specs.declared.session.Version.TheVariants as version
 use Rattle.codes.specs.declared.session.Partition.{Partition}
 use Rattle.codes.specs.declared.session.Partition.TheVariants as partition
 use Rattle.codes.specs.declared.session.AckResponse.{AckResponse}
-use Rattle.codes.specs.declared.session.AckResponse.TheVariants as ackResponse
+use Rattle.codes.specs.declared.session.AckResponse.TheVariants as ack_response
 use Rattle.codes.specs.declared.session.ReportResponse.{ReportResponse}
-use Rattle.codes.specs.declared.session.ReportResponse.TheVariants as reportResponse
+use Rattle.codes.specs.declared.session.ReportResponse.TheVariants as report_response
 
 -- the one version of the messages
 abbrev pub version_code : Version → ℕ
@@ -27,19 +27,19 @@ partition_codes = 1 ∷ 2 ∷ 3 ∷ []
 
 -- the answer to a Missed Message Request
 abbrev pub ack_response_code : AckResponse → ℕ
-ack_response_code ackResponse.Successful = 0
-ack_response_code ackResponse.LimitReached = 1
-ack_response_code ackResponse.InvalidAppId = 2
-ack_response_code ackResponse.ServiceUnavailable = 3
+ack_response_code ack_response.Successful = 0
+ack_response_code ack_response.LimitReached = 1
+ack_response_code ack_response.InvalidAppId = 2
+ack_response_code ack_response.ServiceUnavailable = 3
 
 abbrev pub ack_response_codes : List ℕ
 ack_response_codes = 0 ∷ 1 ∷ 2 ∷ 3 ∷ []
 
 -- how a download ended
 abbrev pub report_response_code : ReportResponse → ℕ
-report_response_code reportResponse.Complete = 0
-report_response_code reportResponse.MessageLimit = 1
-report_response_code reportResponse.ServiceUnavailable = 3
+report_response_code report_response.Complete = 0
+report_response_code report_response.MessageLimit = 1
+report_response_code report_response.ServiceUnavailable = 3
 
 abbrev pub report_response_codes : List ℕ
 report_response_codes = 0 ∷ 1 ∷ 3 ∷ []

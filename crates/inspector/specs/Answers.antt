@@ -13,15 +13,15 @@ use Rattle.inspector.specs.declared.line.Unclear.TheVariants as why
 use Rattle.inspector.specs.Lines.{Given, skipped, message, unclear, given}
 use Rattle.inspector.specs.Shown.{line_text}
 
-abbrev pub sentenceOf : Unclear → List ℕ
-sentenceOf why.UnknownReader = codes "not understood: the reader is none of real-time, recovery and follower"
-sentenceOf why.NoBytes = codes "not understood: no bytes are given; a message of none is written -"
-sentenceOf why.MoreWords = codes "not understood: there are more words than a reader and its bytes"
-sentenceOf why.NotHex = codes "not understood: one of the characters is no hex digit"
-sentenceOf why.OddDigits = codes "not understood: the number of hex digits is odd"
+abbrev pub sentence_of : Unclear → List ℕ
+sentence_of why.UnknownReader = codes "not understood: the reader is none of real-time, recovery and follower"
+sentence_of why.NoBytes = codes "not understood: no bytes are given; a message of none is written -"
+sentence_of why.MoreWords = codes "not understood: there are more words than a reader and its bytes"
+sentence_of why.NotHex = codes "not understood: one of the characters is no hex digit"
+sentence_of why.OddDigits = codes "not understood: the number of hex digits is odd"
 
-abbrev pub refusedText : ℕ → ℕ → List ℕ
-refusedText rule offset = codes "refused " ++ (decimal rule ++ (codes " at " ++ decimal offset))
+abbrev pub refused_text : ℕ → ℕ → List ℕ
+refused_text rule offset = codes "refused " ++ (decimal rule ++ (codes " at " ++ decimal offset))
 
 -- the line of a message: its values mean what its fields hold
 abbrev pub Rendered : Said → List ℕ → Type 0
@@ -36,7 +36,7 @@ pub record ReadAs (ch : Channel) (bs : List ℕ) (a : Answer) : Type 0 where
 
 -- the answer to a message, by the first check that fails
 abbrev pub ByVerdict : Option (ℕ × ℕ) → Channel → List ℕ → Answer → Type 0
-ByVerdict (Some fault) ch bs a = (string_bytes a.text ≡ refusedText fault.0 fault.1) × (a.outcome ≡ outcome.Refused fault.0)
+ByVerdict (Some fault) ch bs a = (string_bytes a.text ≡ refused_text fault.0 fault.1) × (a.outcome ≡ outcome.Refused fault.0)
 ByVerdict None ch bs a = ReadAs ch bs a
 
 abbrev pub AnswersRead : Channel → List ℕ → Answer → Type 0
@@ -46,7 +46,7 @@ abbrev pub Answers : Given → Option Answer → Type 0
 Answers skipped None = Unit {0}
 Answers skipped (Some a) = ⊥
 Answers (unclear why) None = ⊥
-Answers (unclear why) (Some a) = (string_bytes a.text ≡ sentenceOf why) × (a.outcome ≡ outcome.NotUnderstood)
+Answers (unclear why) (Some a) = (string_bytes a.text ≡ sentence_of why) × (a.outcome ≡ outcome.NotUnderstood)
 Answers (message ch bs) None = ⊥
 Answers (message ch bs) (Some a) = AnswersRead ch bs a
 

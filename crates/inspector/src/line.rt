@@ -2,7 +2,7 @@
 ghost use Rattle.std.specs.Prelude.{◌≡◌, Some, IfOk};
 ghost use Rattle.std.specs.Str.{bytes_eq};
 ghost use Rattle.inspector.specs.Lines.{skips, reader_of, bytes_given, given, says};
-ghost use Rattle.inspector.specs.Answers.{sentenceOf};
+ghost use Rattle.inspector.specs.Answers.{sentence_of};
 
 use crate::classes::{Class, word};
 use crate::hex::decode;
@@ -21,7 +21,7 @@ pub enum Unclear {
 }
 
 impl fmt::Display for Unclear {
-    ghost output = { λ why. Some (sentenceOf why) };
+    ghost output = { λ why. Some (sentence_of why) };
 
     fn fmt<W: fmt::Write>(&self, f: &mut fmt::Formatter<W>) -> fmt::Result {
         f.write_str(match self {

@@ -5,49 +5,49 @@ use Rattle.codes.specs.Order.{side_code, side_codes, order_type_code, order_type
 use Rattle.codes.specs.declared.order.Side.{Side}
 use Rattle.codes.specs.declared.order.Side.TheVariants as side
 use Rattle.codes.specs.declared.order.OrderType.{OrderType}
-use Rattle.codes.specs.declared.order.OrderType.TheVariants as orderType
+use Rattle.codes.specs.declared.order.OrderType.TheVariants as order_type
 use Rattle.codes.specs.declared.order.TimeInForce.{TimeInForce}
-use Rattle.codes.specs.declared.order.TimeInForce.TheVariants as timeInForce
+use Rattle.codes.specs.declared.order.TimeInForce.TheVariants as time_in_force
 use Rattle.codes.specs.declared.order.ClearingAccount.{ClearingAccount}
-use Rattle.codes.specs.declared.order.ClearingAccount.TheVariants as clearingAccount
+use Rattle.codes.specs.declared.order.ClearingAccount.TheVariants as clearing_account
 use Rattle.codes.specs.declared.order.OrderCapacity.{OrderCapacity}
-use Rattle.codes.specs.declared.order.OrderCapacity.TheVariants as orderCapacity
+use Rattle.codes.specs.declared.order.OrderCapacity.TheVariants as order_capacity
 use Rattle.codes.specs.declared.order.AutoCancel.{AutoCancel}
-use Rattle.codes.specs.declared.order.AutoCancel.TheVariants as autoCancel
+use Rattle.codes.specs.declared.order.AutoCancel.TheVariants as auto_cancel
 use Rattle.codes.specs.declared.order.OrderSubType.{OrderSubType}
-use Rattle.codes.specs.declared.order.OrderSubType.TheVariants as orderSubType
+use Rattle.codes.specs.declared.order.OrderSubType.TheVariants as order_sub_type
 use Rattle.codes.specs.declared.order.Book.{Book}
 use Rattle.codes.specs.declared.order.Book.TheVariants as book
 use Rattle.codes.specs.declared.order.ExecInstruction.{ExecInstruction}
-use Rattle.codes.specs.declared.order.ExecInstruction.TheVariants as execInstruction
+use Rattle.codes.specs.declared.order.ExecInstruction.TheVariants as exec_instruction
 use Rattle.codes.specs.declared.order.PassiveOnly.{PassiveOnly}
-use Rattle.codes.specs.declared.order.PassiveOnly.TheVariants as passiveOnly
+use Rattle.codes.specs.declared.order.PassiveOnly.TheVariants as passive_only
 use Rattle.codes.specs.declared.order.MassCancelType.{MassCancelType}
-use Rattle.codes.specs.declared.order.MassCancelType.TheVariants as massCancelType
+use Rattle.codes.specs.declared.order.MassCancelType.TheVariants as mass_cancel_type
 use Rattle.codes.specs.Session.{version_code, version_codes, partition_code, partition_codes, ack_response_code, ack_response_codes, report_response_code, report_response_codes}
 use Rattle.codes.specs.declared.session.Version.{Version}
 use Rattle.codes.specs.declared.session.Version.TheVariants as version
 use Rattle.codes.specs.declared.session.Partition.{Partition}
 use Rattle.codes.specs.declared.session.Partition.TheVariants as partition
 use Rattle.codes.specs.declared.session.AckResponse.{AckResponse}
-use Rattle.codes.specs.declared.session.AckResponse.TheVariants as ackResponse
+use Rattle.codes.specs.declared.session.AckResponse.TheVariants as ack_response
 use Rattle.codes.specs.declared.session.ReportResponse.{ReportResponse}
-use Rattle.codes.specs.declared.session.ReportResponse.TheVariants as reportResponse
+use Rattle.codes.specs.declared.session.ReportResponse.TheVariants as report_response
 use Rattle.codes.specs.Report.{exec_type_code, exec_type_codes, status_code, status_codes, liquidity_code, liquidity_codes, trade_type_code, trade_type_codes, capacity_code, capacity_codes, price_differential_code, price_differential_codes, mass_response_code, mass_response_codes}
 use Rattle.codes.specs.declared.report.ExecType.{ExecType}
-use Rattle.codes.specs.declared.report.ExecType.TheVariants as execType
+use Rattle.codes.specs.declared.report.ExecType.TheVariants as exec_type
 use Rattle.codes.specs.declared.report.Status.{Status}
 use Rattle.codes.specs.declared.report.Status.TheVariants as status
 use Rattle.codes.specs.declared.report.Liquidity.{Liquidity}
 use Rattle.codes.specs.declared.report.Liquidity.TheVariants as liquidity
 use Rattle.codes.specs.declared.report.TradeType.{TradeType}
-use Rattle.codes.specs.declared.report.TradeType.TheVariants as tradeType
+use Rattle.codes.specs.declared.report.TradeType.TheVariants as trade_type
 use Rattle.codes.specs.declared.report.Capacity.{Capacity}
 use Rattle.codes.specs.declared.report.Capacity.TheVariants as capacity
 use Rattle.codes.specs.declared.report.PriceDifferential.{PriceDifferential}
-use Rattle.codes.specs.declared.report.PriceDifferential.TheVariants as priceDifferential
+use Rattle.codes.specs.declared.report.PriceDifferential.TheVariants as price_differential
 use Rattle.codes.specs.declared.report.MassResponse.{MassResponse}
-use Rattle.codes.specs.declared.report.MassResponse.TheVariants as massResponse
+use Rattle.codes.specs.declared.report.MassResponse.TheVariants as mass_response
 
 pub side-listed : (x : Side) → taken (side_code x) side_codes ≡ true
 unfolding taken
@@ -56,33 +56,33 @@ side-listed side.Sell = refl
 
 pub time_in_force-listed : (x : TimeInForce) → taken (time_in_force_code x) time_in_force_codes ≡ true
 unfolding taken
-time_in_force-listed timeInForce.Day = refl
-time_in_force-listed timeInForce.GoodTillCancel = refl
-time_in_force-listed timeInForce.ImmediateOrCancel = refl
-time_in_force-listed timeInForce.FillOrKill = refl
-time_in_force-listed timeInForce.GoodTillDate = refl
-time_in_force-listed timeInForce.GoodTillTime = refl
+time_in_force-listed time_in_force.Day = refl
+time_in_force-listed time_in_force.GoodTillCancel = refl
+time_in_force-listed time_in_force.ImmediateOrCancel = refl
+time_in_force-listed time_in_force.FillOrKill = refl
+time_in_force-listed time_in_force.GoodTillDate = refl
+time_in_force-listed time_in_force.GoodTillTime = refl
 
 pub clearing_account-listed : (x : ClearingAccount) → taken (clearing_account_code x) clearing_account_codes ≡ true
 unfolding taken
-clearing_account-listed clearingAccount.Client = refl
-clearing_account-listed clearingAccount.House = refl
+clearing_account-listed clearing_account.Client = refl
+clearing_account-listed clearing_account.House = refl
 
 pub order_capacity-listed : (x : OrderCapacity) → taken (order_capacity_code x) order_capacity_codes ≡ true
 unfolding taken
-order_capacity-listed orderCapacity.RisklessPrincipal = refl
-order_capacity-listed orderCapacity.Principal = refl
-order_capacity-listed orderCapacity.Agency = refl
-order_capacity-listed orderCapacity.CfdGiveUp = refl
+order_capacity-listed order_capacity.RisklessPrincipal = refl
+order_capacity-listed order_capacity.Principal = refl
+order_capacity-listed order_capacity.Agency = refl
+order_capacity-listed order_capacity.CfdGiveUp = refl
 
 pub auto_cancel-listed : (x : AutoCancel) → taken (auto_cancel_code x) auto_cancel_codes ≡ true
 unfolding taken
-auto_cancel-listed autoCancel.Keep = refl
-auto_cancel-listed autoCancel.AsConfigured = refl
+auto_cancel-listed auto_cancel.Keep = refl
+auto_cancel-listed auto_cancel.AsConfigured = refl
 
 pub order_sub_type-listed : (x : OrderSubType) → taken (order_sub_type_code x) order_sub_type_codes ≡ true
 unfolding taken
-order_sub_type-listed orderSubType.Order = refl
+order_sub_type-listed order_sub_type.Order = refl
 
 pub book-listed : (x : Book) → taken (book_code x) book_codes ≡ true
 unfolding taken
@@ -91,18 +91,18 @@ book-listed book.Integrated = refl
 
 pub exec_instruction-listed : (x : ExecInstruction) → taken (exec_instruction_code x) exec_instruction_codes ≡ true
 unfolding taken
-exec_instruction-listed execInstruction.ContinuousAndPeriodic = refl
-exec_instruction-listed execInstruction.PeriodicOnly = refl
-exec_instruction-listed execInstruction.ContinuousOnly = refl
+exec_instruction-listed exec_instruction.ContinuousAndPeriodic = refl
+exec_instruction-listed exec_instruction.PeriodicOnly = refl
+exec_instruction-listed exec_instruction.ContinuousOnly = refl
 
 pub passive_only-listed : (x : PassiveOnly) → taken (passive_only_code x) passive_only_codes ≡ true
 unfolding taken
-passive_only-listed passiveOnly.NoConstraint = refl
-passive_only-listed passiveOnly.SetOrJoinBest = refl
-passive_only-listed passiveOnly.WithinOnePoint = refl
-passive_only-listed passiveOnly.WithinTwoPoints = refl
-passive_only-listed passiveOnly.RestOnEntry = refl
-passive_only-listed passiveOnly.SetBest = refl
+passive_only-listed passive_only.NoConstraint = refl
+passive_only-listed passive_only.SetOrJoinBest = refl
+passive_only-listed passive_only.WithinOnePoint = refl
+passive_only-listed passive_only.WithinTwoPoints = refl
+passive_only-listed passive_only.RestOnEntry = refl
+passive_only-listed passive_only.SetBest = refl
 
 pub version-listed : (x : Version) → taken (version_code x) version_codes ≡ true
 unfolding taken
@@ -116,16 +116,16 @@ partition-listed partition.Three = refl
 
 pub ack_response-listed : (x : AckResponse) → taken (ack_response_code x) ack_response_codes ≡ true
 unfolding taken
-ack_response-listed ackResponse.Successful = refl
-ack_response-listed ackResponse.LimitReached = refl
-ack_response-listed ackResponse.InvalidAppId = refl
-ack_response-listed ackResponse.ServiceUnavailable = refl
+ack_response-listed ack_response.Successful = refl
+ack_response-listed ack_response.LimitReached = refl
+ack_response-listed ack_response.InvalidAppId = refl
+ack_response-listed ack_response.ServiceUnavailable = refl
 
 pub report_response-listed : (x : ReportResponse) → taken (report_response_code x) report_response_codes ≡ true
 unfolding taken
-report_response-listed reportResponse.Complete = refl
-report_response-listed reportResponse.MessageLimit = refl
-report_response-listed reportResponse.ServiceUnavailable = refl
+report_response-listed report_response.Complete = refl
+report_response-listed report_response.MessageLimit = refl
+report_response-listed report_response.ServiceUnavailable = refl
 
 pub status-listed : (x : Status) → taken (status_code x) status_codes ≡ true
 unfolding taken
@@ -145,8 +145,8 @@ liquidity-listed liquidity.Removed = refl
 
 pub trade_type-listed : (x : TradeType) → taken (trade_type_code x) trade_type_codes ≡ true
 unfolding taken
-trade_type-listed tradeType.Visible = refl
-trade_type-listed tradeType.Hidden = refl
+trade_type-listed trade_type.Visible = refl
+trade_type-listed trade_type.Hidden = refl
 
 pub capacity-listed : (x : Capacity) → taken (capacity_code x) capacity_codes ≡ true
 unfolding taken
@@ -156,21 +156,21 @@ capacity-listed capacity.Agency = refl
 
 pub price_differential-listed : (x : PriceDifferential) → taken (price_differential_code x) price_differential_codes ≡ true
 unfolding taken
-price_differential-listed priceDifferential.Unspecified = refl
-price_differential-listed priceDifferential.JoinBest = refl
-price_differential-listed priceDifferential.Second = refl
-price_differential-listed priceDifferential.Third = refl
-price_differential-listed priceDifferential.Fourth = refl
-price_differential-listed priceDifferential.Fifth = refl
-price_differential-listed priceDifferential.Sixth = refl
-price_differential-listed priceDifferential.Seventh = refl
-price_differential-listed priceDifferential.Eighth = refl
-price_differential-listed priceDifferential.NinthOrWorse = refl
-price_differential-listed priceDifferential.Aggressive = refl
-price_differential-listed priceDifferential.NewBest = refl
-price_differential-listed priceDifferential.Passive = refl
+price_differential-listed price_differential.Unspecified = refl
+price_differential-listed price_differential.JoinBest = refl
+price_differential-listed price_differential.Second = refl
+price_differential-listed price_differential.Third = refl
+price_differential-listed price_differential.Fourth = refl
+price_differential-listed price_differential.Fifth = refl
+price_differential-listed price_differential.Sixth = refl
+price_differential-listed price_differential.Seventh = refl
+price_differential-listed price_differential.Eighth = refl
+price_differential-listed price_differential.NinthOrWorse = refl
+price_differential-listed price_differential.Aggressive = refl
+price_differential-listed price_differential.NewBest = refl
+price_differential-listed price_differential.Passive = refl
 
 pub mass_response-listed : (x : MassResponse) → taken (mass_response_code x) mass_response_codes ≡ true
 unfolding taken
-mass_response-listed massResponse.Rejected = refl
-mass_response-listed massResponse.Accepted = refl
+mass_response-listed mass_response.Rejected = refl
+mass_response-listed mass_response.Accepted = refl

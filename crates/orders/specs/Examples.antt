@@ -27,16 +27,16 @@ pub record Worked (t : Terms) (a : Ask) : Type 0 where
   pub cancelled : status_of (ended Cancelled (part_filled t a)) ≡ status.Cancelled
   pub expired : status_of (ended Expired (part_filled t a)) ≡ status.Expired
   pub back_ordered : (taken_back t a).ordered ≡ 60
-  pub back-withdrawn : (taken_back t a).withdrawn ≡ 60
-  pub back-executed : (taken_back t a).executed ≡ 0
-  pub back-open : (taken_back t a).leaves ≡ 0
-  pub back-status : status_of (taken_back t a) ≡ status.Cancelled
+  pub back_withdrawn : (taken_back t a).withdrawn ≡ 60
+  pub back_executed : (taken_back t a).executed ≡ 0
+  pub back_open : (taken_back t a).leaves ≡ 0
+  pub back_status : status_of (taken_back t a) ≡ status.Cancelled
   -- all of it filled and undone
   pub done : status_of (filled 60 (part_filled t a)) ≡ status.Filled
   pub nothing_left : status_of (undone 100 (filled 60 (part_filled t a))) ≡ status.Cancelled
   -- a replacement has to be above what is executed
-  pub at-executed : replace_fault 40 (part_filled t a) ≡ Some NotAboveExecuted
-  pub above-executed : replace_fault 41 (part_filled t a) ≡ None
+  pub at_executed : replace_fault 40 (part_filled t a) ≡ Some NotAboveExecuted
+  pub above_executed : replace_fault 41 (part_filled t a) ≡ None
   pub one_left : (replaced (for 41 a) (part_filled t a)).leaves ≡ 1
 
 abbrev pub Examples : Type 0

@@ -6,49 +6,49 @@ use Rattle.codes.specs.Order.{side_code, order_type_code, time_in_force_code, cl
 use Rattle.codes.specs.declared.order.Side.{Side}
 use Rattle.codes.specs.declared.order.Side.TheVariants as side
 use Rattle.codes.specs.declared.order.OrderType.{OrderType}
-use Rattle.codes.specs.declared.order.OrderType.TheVariants as orderType
+use Rattle.codes.specs.declared.order.OrderType.TheVariants as order_type
 use Rattle.codes.specs.declared.order.TimeInForce.{TimeInForce}
-use Rattle.codes.specs.declared.order.TimeInForce.TheVariants as timeInForce
+use Rattle.codes.specs.declared.order.TimeInForce.TheVariants as time_in_force
 use Rattle.codes.specs.declared.order.ClearingAccount.{ClearingAccount}
-use Rattle.codes.specs.declared.order.ClearingAccount.TheVariants as clearingAccount
+use Rattle.codes.specs.declared.order.ClearingAccount.TheVariants as clearing_account
 use Rattle.codes.specs.declared.order.OrderCapacity.{OrderCapacity}
-use Rattle.codes.specs.declared.order.OrderCapacity.TheVariants as orderCapacity
+use Rattle.codes.specs.declared.order.OrderCapacity.TheVariants as order_capacity
 use Rattle.codes.specs.declared.order.AutoCancel.{AutoCancel}
-use Rattle.codes.specs.declared.order.AutoCancel.TheVariants as autoCancel
+use Rattle.codes.specs.declared.order.AutoCancel.TheVariants as auto_cancel
 use Rattle.codes.specs.declared.order.OrderSubType.{OrderSubType}
-use Rattle.codes.specs.declared.order.OrderSubType.TheVariants as orderSubType
+use Rattle.codes.specs.declared.order.OrderSubType.TheVariants as order_sub_type
 use Rattle.codes.specs.declared.order.Book.{Book}
 use Rattle.codes.specs.declared.order.Book.TheVariants as book
 use Rattle.codes.specs.declared.order.ExecInstruction.{ExecInstruction}
-use Rattle.codes.specs.declared.order.ExecInstruction.TheVariants as execInstruction
+use Rattle.codes.specs.declared.order.ExecInstruction.TheVariants as exec_instruction
 use Rattle.codes.specs.declared.order.PassiveOnly.{PassiveOnly}
-use Rattle.codes.specs.declared.order.PassiveOnly.TheVariants as passiveOnly
+use Rattle.codes.specs.declared.order.PassiveOnly.TheVariants as passive_only
 use Rattle.codes.specs.declared.order.MassCancelType.{MassCancelType}
-use Rattle.codes.specs.declared.order.MassCancelType.TheVariants as massCancelType
+use Rattle.codes.specs.declared.order.MassCancelType.TheVariants as mass_cancel_type
 use Rattle.codes.specs.Session.{version_code, partition_code, ack_response_code, report_response_code}
 use Rattle.codes.specs.declared.session.Version.{Version}
 use Rattle.codes.specs.declared.session.Version.TheVariants as version
 use Rattle.codes.specs.declared.session.Partition.{Partition}
 use Rattle.codes.specs.declared.session.Partition.TheVariants as partition
 use Rattle.codes.specs.declared.session.AckResponse.{AckResponse}
-use Rattle.codes.specs.declared.session.AckResponse.TheVariants as ackResponse
+use Rattle.codes.specs.declared.session.AckResponse.TheVariants as ack_response
 use Rattle.codes.specs.declared.session.ReportResponse.{ReportResponse}
-use Rattle.codes.specs.declared.session.ReportResponse.TheVariants as reportResponse
+use Rattle.codes.specs.declared.session.ReportResponse.TheVariants as report_response
 use Rattle.codes.specs.Report.{exec_type_code, status_code, liquidity_code, trade_type_code, capacity_code, price_differential_code, mass_response_code}
 use Rattle.codes.specs.declared.report.ExecType.{ExecType}
-use Rattle.codes.specs.declared.report.ExecType.TheVariants as execType
+use Rattle.codes.specs.declared.report.ExecType.TheVariants as exec_type
 use Rattle.codes.specs.declared.report.Status.{Status}
 use Rattle.codes.specs.declared.report.Status.TheVariants as status
 use Rattle.codes.specs.declared.report.Liquidity.{Liquidity}
 use Rattle.codes.specs.declared.report.Liquidity.TheVariants as liquidity
 use Rattle.codes.specs.declared.report.TradeType.{TradeType}
-use Rattle.codes.specs.declared.report.TradeType.TheVariants as tradeType
+use Rattle.codes.specs.declared.report.TradeType.TheVariants as trade_type
 use Rattle.codes.specs.declared.report.Capacity.{Capacity}
 use Rattle.codes.specs.declared.report.Capacity.TheVariants as capacity
 use Rattle.codes.specs.declared.report.PriceDifferential.{PriceDifferential}
-use Rattle.codes.specs.declared.report.PriceDifferential.TheVariants as priceDifferential
+use Rattle.codes.specs.declared.report.PriceDifferential.TheVariants as price_differential
 use Rattle.codes.specs.declared.report.MassResponse.{MassResponse}
-use Rattle.codes.specs.declared.report.MassResponse.TheVariants as massResponse
+use Rattle.codes.specs.declared.report.MassResponse.TheVariants as mass_response
 use Rattle.messages.specs.declared.terms.Pricing.{Pricing}
 use Rattle.messages.specs.declared.terms.Pricing.TheVariants as pricing
 use Rattle.messages.specs.declared.terms.Target.{Target}
@@ -68,47 +68,47 @@ side-back side.Buy = refl
 side-back side.Sell = refl
 
 abbrev pub order_type_back : ℕ → OrderType
-order_type_back n = cond (eqb n 1) orderType.Market (orderType.Limit)
+order_type_back n = cond (eqb n 1) order_type.Market (order_type.Limit)
 
 abbrev pub time_in_force_back : ℕ → TimeInForce
-time_in_force_back n = cond (eqb n 0) timeInForce.Day (cond (eqb n 1) timeInForce.GoodTillCancel (cond (eqb n 3) timeInForce.ImmediateOrCancel (cond (eqb n 4) timeInForce.FillOrKill (cond (eqb n 6) timeInForce.GoodTillDate (timeInForce.GoodTillTime)))))
+time_in_force_back n = cond (eqb n 0) time_in_force.Day (cond (eqb n 1) time_in_force.GoodTillCancel (cond (eqb n 3) time_in_force.ImmediateOrCancel (cond (eqb n 4) time_in_force.FillOrKill (cond (eqb n 6) time_in_force.GoodTillDate (time_in_force.GoodTillTime)))))
 
 pub time_in_force-back : (x : TimeInForce) → time_in_force_back (time_in_force_code x) ≡ x
-time_in_force-back timeInForce.Day = refl
-time_in_force-back timeInForce.GoodTillCancel = refl
-time_in_force-back timeInForce.ImmediateOrCancel = refl
-time_in_force-back timeInForce.FillOrKill = refl
-time_in_force-back timeInForce.GoodTillDate = refl
-time_in_force-back timeInForce.GoodTillTime = refl
+time_in_force-back time_in_force.Day = refl
+time_in_force-back time_in_force.GoodTillCancel = refl
+time_in_force-back time_in_force.ImmediateOrCancel = refl
+time_in_force-back time_in_force.FillOrKill = refl
+time_in_force-back time_in_force.GoodTillDate = refl
+time_in_force-back time_in_force.GoodTillTime = refl
 
 abbrev pub clearing_account_back : ℕ → ClearingAccount
-clearing_account_back n = cond (eqb n 1) clearingAccount.Client (clearingAccount.House)
+clearing_account_back n = cond (eqb n 1) clearing_account.Client (clearing_account.House)
 
 pub clearing_account-back : (x : ClearingAccount) → clearing_account_back (clearing_account_code x) ≡ x
-clearing_account-back clearingAccount.Client = refl
-clearing_account-back clearingAccount.House = refl
+clearing_account-back clearing_account.Client = refl
+clearing_account-back clearing_account.House = refl
 
 abbrev pub order_capacity_back : ℕ → OrderCapacity
-order_capacity_back n = cond (eqb n 1) orderCapacity.RisklessPrincipal (cond (eqb n 2) orderCapacity.Principal (cond (eqb n 3) orderCapacity.Agency (orderCapacity.CfdGiveUp)))
+order_capacity_back n = cond (eqb n 1) order_capacity.RisklessPrincipal (cond (eqb n 2) order_capacity.Principal (cond (eqb n 3) order_capacity.Agency (order_capacity.CfdGiveUp)))
 
 pub order_capacity-back : (x : OrderCapacity) → order_capacity_back (order_capacity_code x) ≡ x
-order_capacity-back orderCapacity.RisklessPrincipal = refl
-order_capacity-back orderCapacity.Principal = refl
-order_capacity-back orderCapacity.Agency = refl
-order_capacity-back orderCapacity.CfdGiveUp = refl
+order_capacity-back order_capacity.RisklessPrincipal = refl
+order_capacity-back order_capacity.Principal = refl
+order_capacity-back order_capacity.Agency = refl
+order_capacity-back order_capacity.CfdGiveUp = refl
 
 abbrev pub auto_cancel_back : ℕ → AutoCancel
-auto_cancel_back n = cond (eqb n 0) autoCancel.Keep (autoCancel.AsConfigured)
+auto_cancel_back n = cond (eqb n 0) auto_cancel.Keep (auto_cancel.AsConfigured)
 
 pub auto_cancel-back : (x : AutoCancel) → auto_cancel_back (auto_cancel_code x) ≡ x
-auto_cancel-back autoCancel.Keep = refl
-auto_cancel-back autoCancel.AsConfigured = refl
+auto_cancel-back auto_cancel.Keep = refl
+auto_cancel-back auto_cancel.AsConfigured = refl
 
 abbrev pub order_sub_type_back : ℕ → OrderSubType
-order_sub_type_back n = orderSubType.Order
+order_sub_type_back n = order_sub_type.Order
 
 pub order_sub_type-back : (x : OrderSubType) → order_sub_type_back (order_sub_type_code x) ≡ x
-order_sub_type-back orderSubType.Order = refl
+order_sub_type-back order_sub_type.Order = refl
 
 abbrev pub book_back : ℕ → Book
 book_back n = cond (eqb n 0) book.DarkMidpoint (book.Integrated)
@@ -118,26 +118,26 @@ book-back book.DarkMidpoint = refl
 book-back book.Integrated = refl
 
 abbrev pub exec_instruction_back : ℕ → ExecInstruction
-exec_instruction_back n = cond (eqb n 0) execInstruction.ContinuousAndPeriodic (cond (eqb n 1) execInstruction.PeriodicOnly (execInstruction.ContinuousOnly))
+exec_instruction_back n = cond (eqb n 0) exec_instruction.ContinuousAndPeriodic (cond (eqb n 1) exec_instruction.PeriodicOnly (exec_instruction.ContinuousOnly))
 
 pub exec_instruction-back : (x : ExecInstruction) → exec_instruction_back (exec_instruction_code x) ≡ x
-exec_instruction-back execInstruction.ContinuousAndPeriodic = refl
-exec_instruction-back execInstruction.PeriodicOnly = refl
-exec_instruction-back execInstruction.ContinuousOnly = refl
+exec_instruction-back exec_instruction.ContinuousAndPeriodic = refl
+exec_instruction-back exec_instruction.PeriodicOnly = refl
+exec_instruction-back exec_instruction.ContinuousOnly = refl
 
 abbrev pub passive_only_back : ℕ → PassiveOnly
-passive_only_back n = cond (eqb n 0) passiveOnly.NoConstraint (cond (eqb n 1) passiveOnly.SetOrJoinBest (cond (eqb n 2) passiveOnly.WithinOnePoint (cond (eqb n 3) passiveOnly.WithinTwoPoints (cond (eqb n 99) passiveOnly.RestOnEntry (passiveOnly.SetBest)))))
+passive_only_back n = cond (eqb n 0) passive_only.NoConstraint (cond (eqb n 1) passive_only.SetOrJoinBest (cond (eqb n 2) passive_only.WithinOnePoint (cond (eqb n 3) passive_only.WithinTwoPoints (cond (eqb n 99) passive_only.RestOnEntry (passive_only.SetBest)))))
 
 pub passive_only-back : (x : PassiveOnly) → passive_only_back (passive_only_code x) ≡ x
-passive_only-back passiveOnly.NoConstraint = refl
-passive_only-back passiveOnly.SetOrJoinBest = refl
-passive_only-back passiveOnly.WithinOnePoint = refl
-passive_only-back passiveOnly.WithinTwoPoints = refl
-passive_only-back passiveOnly.RestOnEntry = refl
-passive_only-back passiveOnly.SetBest = refl
+passive_only-back passive_only.NoConstraint = refl
+passive_only-back passive_only.SetOrJoinBest = refl
+passive_only-back passive_only.WithinOnePoint = refl
+passive_only-back passive_only.WithinTwoPoints = refl
+passive_only-back passive_only.RestOnEntry = refl
+passive_only-back passive_only.SetBest = refl
 
 abbrev pub mass_cancel_type_back : ℕ → MassCancelType
-mass_cancel_type_back n = cond (eqb n 3) massCancelType.FirmInstrument (cond (eqb n 4) massCancelType.FirmSegment (cond (eqb n 7) massCancelType.CompId (cond (eqb n 8) massCancelType.Firm (cond (eqb n 9) massCancelType.CompIdInstrument (massCancelType.CompIdSegment)))))
+mass_cancel_type_back n = cond (eqb n 3) mass_cancel_type.FirmInstrument (cond (eqb n 4) mass_cancel_type.FirmSegment (cond (eqb n 7) mass_cancel_type.CompId (cond (eqb n 8) mass_cancel_type.Firm (cond (eqb n 9) mass_cancel_type.CompIdInstrument (mass_cancel_type.CompIdSegment)))))
 
 abbrev pub version_back : ℕ → Version
 version_back n = version.One
@@ -154,24 +154,24 @@ partition-back partition.Two = refl
 partition-back partition.Three = refl
 
 abbrev pub ack_response_back : ℕ → AckResponse
-ack_response_back n = cond (eqb n 0) ackResponse.Successful (cond (eqb n 1) ackResponse.LimitReached (cond (eqb n 2) ackResponse.InvalidAppId (ackResponse.ServiceUnavailable)))
+ack_response_back n = cond (eqb n 0) ack_response.Successful (cond (eqb n 1) ack_response.LimitReached (cond (eqb n 2) ack_response.InvalidAppId (ack_response.ServiceUnavailable)))
 
 pub ack_response-back : (x : AckResponse) → ack_response_back (ack_response_code x) ≡ x
-ack_response-back ackResponse.Successful = refl
-ack_response-back ackResponse.LimitReached = refl
-ack_response-back ackResponse.InvalidAppId = refl
-ack_response-back ackResponse.ServiceUnavailable = refl
+ack_response-back ack_response.Successful = refl
+ack_response-back ack_response.LimitReached = refl
+ack_response-back ack_response.InvalidAppId = refl
+ack_response-back ack_response.ServiceUnavailable = refl
 
 abbrev pub report_response_back : ℕ → ReportResponse
-report_response_back n = cond (eqb n 0) reportResponse.Complete (cond (eqb n 1) reportResponse.MessageLimit (reportResponse.ServiceUnavailable))
+report_response_back n = cond (eqb n 0) report_response.Complete (cond (eqb n 1) report_response.MessageLimit (report_response.ServiceUnavailable))
 
 pub report_response-back : (x : ReportResponse) → report_response_back (report_response_code x) ≡ x
-report_response-back reportResponse.Complete = refl
-report_response-back reportResponse.MessageLimit = refl
-report_response-back reportResponse.ServiceUnavailable = refl
+report_response-back report_response.Complete = refl
+report_response-back report_response.MessageLimit = refl
+report_response-back report_response.ServiceUnavailable = refl
 
 abbrev pub exec_type_back : ℕ → ExecType
-exec_type_back n = cond (eqb n 0) execType.Unspecified (cond (eqb n 48) execType.New (cond (eqb n 52) execType.Cancelled (cond (eqb n 53) execType.Replaced (cond (eqb n 56) execType.Rejected (cond (eqb n 67) execType.Expired (cond (eqb n 68) execType.Restated (cond (eqb n 70) execType.Trade (execType.TradeCancel))))))))
+exec_type_back n = cond (eqb n 0) exec_type.Unspecified (cond (eqb n 48) exec_type.New (cond (eqb n 52) exec_type.Cancelled (cond (eqb n 53) exec_type.Replaced (cond (eqb n 56) exec_type.Rejected (cond (eqb n 67) exec_type.Expired (cond (eqb n 68) exec_type.Restated (cond (eqb n 70) exec_type.Trade (exec_type.TradeCancel))))))))
 
 abbrev pub status_back : ℕ → Status
 status_back n = cond (eqb n 0) status.New (cond (eqb n 1) status.PartiallyFilled (cond (eqb n 2) status.Filled (cond (eqb n 4) status.Cancelled (cond (eqb n 6) status.Expired (status.Rejected)))))
@@ -194,11 +194,11 @@ liquidity-back liquidity.Uncrossing = refl
 liquidity-back liquidity.Removed = refl
 
 abbrev pub trade_type_back : ℕ → TradeType
-trade_type_back n = cond (eqb n 0) tradeType.Visible (tradeType.Hidden)
+trade_type_back n = cond (eqb n 0) trade_type.Visible (trade_type.Hidden)
 
 pub trade_type-back : (x : TradeType) → trade_type_back (trade_type_code x) ≡ x
-trade_type-back tradeType.Visible = refl
-trade_type-back tradeType.Hidden = refl
+trade_type-back trade_type.Visible = refl
+trade_type-back trade_type.Hidden = refl
 
 abbrev pub capacity_back : ℕ → Capacity
 capacity_back n = cond (eqb n 1) capacity.RisklessPrincipal (cond (eqb n 2) capacity.Principal (capacity.Agency))
@@ -209,29 +209,29 @@ capacity-back capacity.Principal = refl
 capacity-back capacity.Agency = refl
 
 abbrev pub price_differential_back : ℕ → PriceDifferential
-price_differential_back n = cond (eqb n 0) priceDifferential.Unspecified (cond (eqb n 49) priceDifferential.JoinBest (cond (eqb n 50) priceDifferential.Second (cond (eqb n 51) priceDifferential.Third (cond (eqb n 52) priceDifferential.Fourth (cond (eqb n 53) priceDifferential.Fifth (cond (eqb n 54) priceDifferential.Sixth (cond (eqb n 55) priceDifferential.Seventh (cond (eqb n 56) priceDifferential.Eighth (cond (eqb n 57) priceDifferential.NinthOrWorse (cond (eqb n 65) priceDifferential.Aggressive (cond (eqb n 66) priceDifferential.NewBest (priceDifferential.Passive))))))))))))
+price_differential_back n = cond (eqb n 0) price_differential.Unspecified (cond (eqb n 49) price_differential.JoinBest (cond (eqb n 50) price_differential.Second (cond (eqb n 51) price_differential.Third (cond (eqb n 52) price_differential.Fourth (cond (eqb n 53) price_differential.Fifth (cond (eqb n 54) price_differential.Sixth (cond (eqb n 55) price_differential.Seventh (cond (eqb n 56) price_differential.Eighth (cond (eqb n 57) price_differential.NinthOrWorse (cond (eqb n 65) price_differential.Aggressive (cond (eqb n 66) price_differential.NewBest (price_differential.Passive))))))))))))
 
 pub price_differential-back : (x : PriceDifferential) → price_differential_back (price_differential_code x) ≡ x
-price_differential-back priceDifferential.Unspecified = refl
-price_differential-back priceDifferential.JoinBest = refl
-price_differential-back priceDifferential.Second = refl
-price_differential-back priceDifferential.Third = refl
-price_differential-back priceDifferential.Fourth = refl
-price_differential-back priceDifferential.Fifth = refl
-price_differential-back priceDifferential.Sixth = refl
-price_differential-back priceDifferential.Seventh = refl
-price_differential-back priceDifferential.Eighth = refl
-price_differential-back priceDifferential.NinthOrWorse = refl
-price_differential-back priceDifferential.Aggressive = refl
-price_differential-back priceDifferential.NewBest = refl
-price_differential-back priceDifferential.Passive = refl
+price_differential-back price_differential.Unspecified = refl
+price_differential-back price_differential.JoinBest = refl
+price_differential-back price_differential.Second = refl
+price_differential-back price_differential.Third = refl
+price_differential-back price_differential.Fourth = refl
+price_differential-back price_differential.Fifth = refl
+price_differential-back price_differential.Sixth = refl
+price_differential-back price_differential.Seventh = refl
+price_differential-back price_differential.Eighth = refl
+price_differential-back price_differential.NinthOrWorse = refl
+price_differential-back price_differential.Aggressive = refl
+price_differential-back price_differential.NewBest = refl
+price_differential-back price_differential.Passive = refl
 
 abbrev pub mass_response_back : ℕ → MassResponse
-mass_response_back n = cond (eqb n 0) massResponse.Rejected (massResponse.Accepted)
+mass_response_back n = cond (eqb n 0) mass_response.Rejected (mass_response.Accepted)
 
 pub mass_response-back : (x : MassResponse) → mass_response_back (mass_response_code x) ≡ x
-mass_response-back massResponse.Rejected = refl
-mass_response-back massResponse.Accepted = refl
+mass_response-back mass_response.Rejected = refl
+mass_response-back mass_response.Accepted = refl
 
 abbrev pub order_back : Option ℕ → Option OrderId
 order_back o = option_map (λ n. record { number = n }) o
