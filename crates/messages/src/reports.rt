@@ -46,10 +46,7 @@ pub struct ExecutionReport<I, C, S, F> {
 }
 
 // An ExecutionReport as it was read.
-#[derive(Clone, Copy)]
-pub struct ReadExecutionReport<'a> {
-    pub fields: ExecutionReport<Text<'a>, Text<'a>, Text<'a>, Text<'a>>,
-}
+pub type ReadExecutionReport<'a> = ExecutionReport<Text<'a>, Text<'a>, Text<'a>, Text<'a>>;
 
 const EXECUTION_REPORT: [Field; 26] = [
     Field::Always(4, Form::Code(Codes::Partitions)),
@@ -165,10 +162,7 @@ pub struct OrderCancelReject<C, I> {
 }
 
 // An OrderCancelReject as it was read.
-#[derive(Clone, Copy)]
-pub struct ReadOrderCancelReject<'a> {
-    pub fields: OrderCancelReject<Text<'a>, Text<'a>>,
-}
+pub type ReadOrderCancelReject<'a> = OrderCancelReject<Text<'a>, Text<'a>>;
 
 const ORDER_CANCEL_REJECT: [Field; 7] = [
     Field::Always(4, Form::Code(Codes::Partitions)),

@@ -44,10 +44,7 @@ pub struct NewOrder<C, T, A, S> {
 }
 
 // A NewOrder as it was read.
-#[derive(Clone, Copy)]
-pub struct ReadNewOrder<'a> {
-    pub fields: NewOrder<Text<'a>, Text<'a>, Text<'a>, Text<'a>>,
-}
+pub type ReadNewOrder<'a> = NewOrder<Text<'a>, Text<'a>, Text<'a>, Text<'a>>;
 
 const NEW_ORDER: [Field; 21] = [
     Field::Always(4, Form::Name(20)),
@@ -142,10 +139,7 @@ pub struct OrderCancelRequest<C, O, S> {
 }
 
 // An OrderCancelRequest as it was read.
-#[derive(Clone, Copy)]
-pub struct ReadOrderCancelRequest<'a> {
-    pub fields: OrderCancelRequest<Text<'a>, Text<'a>, Text<'a>>,
-}
+pub type ReadOrderCancelRequest<'a> = OrderCancelRequest<Text<'a>, Text<'a>, Text<'a>>;
 
 const ORDER_CANCEL_REQUEST: [Field; 7] = [
     Field::Always(4, Form::Name(20)),
@@ -211,10 +205,12 @@ pub struct OrderCancelReplaceRequest<C, O, S, A> {
 }
 
 // An OrderCancelReplaceRequest as it was read.
-#[derive(Clone, Copy)]
-pub struct ReadOrderCancelReplaceRequest<'a> {
-    pub fields: OrderCancelReplaceRequest<Text<'a>, Text<'a>, Text<'a>, Text<'a>>,
-}
+pub type ReadOrderCancelReplaceRequest<'a> = OrderCancelReplaceRequest<
+    Text<'a>,
+    Text<'a>,
+    Text<'a>,
+    Text<'a>,
+>;
 
 const ORDER_CANCEL_REPLACE_REQUEST: [Field; 17] = [
     Field::Always(4, Form::Name(20)),

@@ -205,10 +205,7 @@ pub struct Reject<R, C> {
 }
 
 // A Reject as it was read.
-#[derive(Clone, Copy)]
-pub struct ReadReject<'a> {
-    pub fields: Reject<Text<'a>, Text<'a>>,
-}
+pub type ReadReject<'a> = Reject<Text<'a>, Text<'a>>;
 
 const REJECT: [Field; 4] = [
     Field::Always(4, Form::Int32),

@@ -60,13 +60,13 @@ heard_of message.Heartbeat = the_heartbeat
 heard_of (message.MissedMessageRequest m) = the_missed_message_request (missed_message_request_heard m)
 heard_of (message.MissedMessageRequestAck m) = the_missed_message_request_ack (missed_message_request_ack_heard m)
 heard_of (message.MissedMessageReport m) = the_missed_message_report (missed_message_report_heard m)
-heard_of (message.Reject m) = the_reject (reject_heard m.fields)
-heard_of (message.NewOrder m) = the_new_order (new_order_heard m.fields)
-heard_of (message.OrderCancelRequest m) = the_order_cancel_request (order_cancel_request_heard m.fields)
-heard_of (message.OrderCancelReplaceRequest m) = the_order_cancel_replace_request (order_cancel_replace_request_heard m.fields)
+heard_of (message.Reject m) = the_reject (reject_heard m)
+heard_of (message.NewOrder m) = the_new_order (new_order_heard m)
+heard_of (message.OrderCancelRequest m) = the_order_cancel_request (order_cancel_request_heard m)
+heard_of (message.OrderCancelReplaceRequest m) = the_order_cancel_replace_request (order_cancel_replace_request_heard m)
 heard_of (message.OrderMassCancelRequest m) = the_order_mass_cancel_request (order_mass_cancel_request_heard m)
-heard_of (message.ExecutionReport m) = the_execution_report (execution_report_heard m.fields)
-heard_of (message.OrderCancelReject m) = the_order_cancel_reject (order_cancel_reject_heard m.fields)
+heard_of (message.ExecutionReport m) = the_execution_report (execution_report_heard m)
+heard_of (message.OrderCancelReject m) = the_order_cancel_reject (order_cancel_reject_heard m)
 heard_of (message.OrderMassCancelReport m) = the_order_mass_cancel_report (order_mass_cancel_report_heard m)
 
 abbrev pub kept_of : OwnedMessage → Said
@@ -147,13 +147,13 @@ places_of message.Heartbeat = []
 places_of (message.MissedMessageRequest m) = missed_message_request_places m
 places_of (message.MissedMessageRequestAck m) = missed_message_request_ack_places m
 places_of (message.MissedMessageReport m) = missed_message_report_places m
-places_of (message.Reject m) = reject_places m.fields
-places_of (message.NewOrder m) = new_order_places m.fields
-places_of (message.OrderCancelRequest m) = order_cancel_request_places m.fields
-places_of (message.OrderCancelReplaceRequest m) = order_cancel_replace_request_places m.fields
+places_of (message.Reject m) = reject_places m
+places_of (message.NewOrder m) = new_order_places m
+places_of (message.OrderCancelRequest m) = order_cancel_request_places m
+places_of (message.OrderCancelReplaceRequest m) = order_cancel_replace_request_places m
 places_of (message.OrderMassCancelRequest m) = order_mass_cancel_request_places m
-places_of (message.ExecutionReport m) = execution_report_places m.fields
-places_of (message.OrderCancelReject m) = order_cancel_reject_places m.fields
+places_of (message.ExecutionReport m) = execution_report_places m
+places_of (message.OrderCancelReject m) = order_cancel_reject_places m
 places_of (message.OrderMassCancelReport m) = order_mass_cancel_report_places m
 
 -- the checks of the header, in their order: a message's kind, or a rule and an offset

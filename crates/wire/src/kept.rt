@@ -248,22 +248,22 @@ impl Message<'_> {
             )),
             Message::MissedMessageRequestAck(m) => Some(OwnedMessage::MissedMessageRequestAck(*m)),
             Message::MissedMessageReport(m) => Some(OwnedMessage::MissedMessageReport(*m)),
-            Message::Reject(m) => Some(OwnedMessage::Reject(keep_reject(&m.fields)?)),
-            Message::NewOrder(m) => Some(OwnedMessage::NewOrder(keep_new_order(&m.fields)?)),
+            Message::Reject(m) => Some(OwnedMessage::Reject(keep_reject(m)?)),
+            Message::NewOrder(m) => Some(OwnedMessage::NewOrder(keep_new_order(m)?)),
             Message::OrderCancelRequest(m) => Some(OwnedMessage::OrderCancelRequest(
-                keep_order_cancel_request(&m.fields)?,
+                keep_order_cancel_request(m)?,
             )),
             Message::OrderCancelReplaceRequest(m) => Some(OwnedMessage::OrderCancelReplaceRequest(
-                keep_order_cancel_replace_request(&m.fields)?,
+                keep_order_cancel_replace_request(m)?,
             )),
             Message::OrderMassCancelRequest(m) => Some(OwnedMessage::OrderMassCancelRequest(
                 keep_order_mass_cancel_request(m)?,
             )),
             Message::ExecutionReport(m) => Some(OwnedMessage::ExecutionReport(keep_execution_report(
-                &m.fields,
+                m,
             )?)),
             Message::OrderCancelReject(m) => Some(OwnedMessage::OrderCancelReject(
-                keep_order_cancel_reject(&m.fields)?,
+                keep_order_cancel_reject(m)?,
             )),
             Message::OrderMassCancelReport(m) => Some(OwnedMessage::OrderMassCancelReport(
                 keep_order_mass_cancel_report(m)?,

@@ -98,29 +98,17 @@ fn read_kind<'a>(channel: Channel, bytes: &'a [u8]) -> Result<Message<'a>, Fault
         Kind::MissedMessageReport => Ok(Message::MissedMessageReport(read_missed_message_report(
             &r,
         )?)),
-        Kind::Reject => Ok(Message::Reject(ReadReject {
-            fields: read_reject(&r)?,
-        })),
-        Kind::NewOrder => Ok(Message::NewOrder(ReadNewOrder {
-            fields: read_new_order(&r)?,
-        })),
-        Kind::OrderCancelRequest => Ok(Message::OrderCancelRequest(ReadOrderCancelRequest {
-            fields: read_order_cancel_request(&r)?,
-        })),
+        Kind::Reject => Ok(Message::Reject(read_reject(&r)?)),
+        Kind::NewOrder => Ok(Message::NewOrder(read_new_order(&r)?)),
+        Kind::OrderCancelRequest => Ok(Message::OrderCancelRequest(read_order_cancel_request(&r)?)),
         Kind::OrderCancelReplaceRequest => Ok(Message::OrderCancelReplaceRequest(
-            ReadOrderCancelReplaceRequest {
-                fields: read_order_cancel_replace_request(&r)?,
-            },
+            read_order_cancel_replace_request(&r)?,
         )),
         Kind::OrderMassCancelRequest => Ok(Message::OrderMassCancelRequest(
             read_order_mass_cancel_request(&r)?,
         )),
-        Kind::ExecutionReport => Ok(Message::ExecutionReport(ReadExecutionReport {
-            fields: read_execution_report(&r)?,
-        })),
-        Kind::OrderCancelReject => Ok(Message::OrderCancelReject(ReadOrderCancelReject {
-            fields: read_order_cancel_reject(&r)?,
-        })),
+        Kind::ExecutionReport => Ok(Message::ExecutionReport(read_execution_report(&r)?)),
+        Kind::OrderCancelReject => Ok(Message::OrderCancelReject(read_order_cancel_reject(&r)?)),
         Kind::OrderMassCancelReport => Ok(Message::OrderMassCancelReport(
             read_order_mass_cancel_report(&r)?,
         )),
