@@ -20,7 +20,7 @@ use Rattle.messages.specs.declared.requests.OrderCancelReplaceRequest.{OrderCanc
 use Rattle.messages.specs.declared.reports.ExecutionReport.{ExecutionReport}
 use Rattle.messages.specs.declared.reports.OrderCancelReject.{OrderCancelReject}
 use Rattle.messages.specs.declared.reports.OrderMassCancelReport.{OrderMassCancelReport}
-use Rattle.messages.specs.declared.requests.OwnedMassCancelRequest.{OwnedMassCancelRequest}
+use Rattle.messages.specs.declared.requests.OrderMassCancelRequest.{OrderMassCancelRequest}
 use Rattle.messages.specs.Session.{logon, logon_contents, logon_kept, logon_reply, logon_reply_contents, logon_reply_kept, logon_reply_typed, logout, logout_contents, logout_kept, missed_message_request, missed_message_request_contents, missed_message_request_kept, missed_message_request_typed, missed_message_request_ack, missed_message_request_ack_contents, missed_message_request_ack_kept, missed_message_report, missed_message_report_contents, missed_message_report_kept, reject, reject_contents, reject_kept, reject_typed}
 use Rattle.messages.specs.Requests.{new_order, new_order_contents, new_order_kept, new_order_typed, order_cancel_request, order_cancel_request_contents, order_cancel_request_kept, order_cancel_request_typed, order_cancel_replace_request, order_cancel_replace_request_contents, order_cancel_replace_request_kept, order_cancel_replace_request_typed, order_mass_cancel_request, order_mass_cancel_request_contents, order_mass_cancel_request_kept}
 use Rattle.messages.specs.Reports.{execution_report, execution_report_contents, execution_report_kept, execution_report_typed, order_cancel_reject, order_cancel_reject_contents, order_cancel_reject_kept, order_cancel_reject_typed, order_mass_cancel_report, order_mass_cancel_report_contents, order_mass_cancel_report_kept, order_mass_cancel_report_typed}
@@ -127,7 +127,7 @@ order_cancel_replace_request-holds m t =
     ⊹ refl
     ⊹ tt
 
-pub order_mass_cancel_request-holds : (m : OwnedMassCancelRequest) → HoldsIn order_mass_cancel_request (order_mass_cancel_request_contents (order_mass_cancel_request_kept m))
+pub order_mass_cancel_request-holds : (m : OrderMassCancelRequest RequestId (FixedText 6) (FixedText 4)) → HoldsIn order_mass_cancel_request (order_mass_cancel_request_contents (order_mass_cancel_request_kept m))
 order_mass_cancel_request-holds m =
     (refl, said-short m.client_order_id.id, printable-said m.client_order_id.id.bytes, name-given m.client_order_id)
     ⊹ (refl, scope-listed m.scope)

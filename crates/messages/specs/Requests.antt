@@ -16,7 +16,6 @@ use Rattle.messages.specs.declared.requests.NewOrder.{NewOrder}
 use Rattle.messages.specs.declared.requests.OrderCancelRequest.{OrderCancelRequest}
 use Rattle.messages.specs.declared.requests.OrderCancelReplaceRequest.{OrderCancelReplaceRequest}
 use Rattle.messages.specs.declared.requests.OrderMassCancelRequest.{OrderMassCancelRequest}
-use Rattle.messages.specs.declared.requests.OwnedMassCancelRequest.{OwnedMassCancelRequest}
 use Rattle.messages.specs.declared.terms.Scope.{Scope}
 use Rattle.layout.specs.Layout.{Content}
 use Rattle.layout.specs.Layout.Content.{words, order, figure, int32, price, nothing}
@@ -191,14 +190,13 @@ order_mass_cancel_request =
     ∷ []
 
 -- what it says
-pub record MassCancelSaid : Type 0 where
-  pub client_order_id : List ℕ
-  pub scope : Scope (List ℕ) (List ℕ)
+abbrev pub MassCancelSaid : Type 0
+MassCancelSaid = OrderMassCancelRequest (List ℕ) (List ℕ) (List ℕ)
 
-abbrev pub order_mass_cancel_request_heard : OrderMassCancelRequest → MassCancelSaid
+abbrev pub order_mass_cancel_request_heard : OrderMassCancelRequest Text Text Text → MassCancelSaid
 order_mass_cancel_request_heard m = record { client_order_id = m.client_order_id.bytes.now; scope = scope_heard m.scope }
 
-abbrev pub order_mass_cancel_request_kept : OwnedMassCancelRequest → MassCancelSaid
+abbrev pub order_mass_cancel_request_kept : OrderMassCancelRequest RequestId (FixedText 6) (FixedText 4) → MassCancelSaid
 order_mass_cancel_request_kept m = record { client_order_id = said m.client_order_id.id.bytes; scope = scope_kept m.scope }
 
 abbrev pub order_mass_cancel_request_contents : MassCancelSaid → List Content
@@ -212,7 +210,7 @@ order_mass_cancel_request_contents m =
     ∷ nothing
     ∷ []
 
-abbrev pub order_mass_cancel_request_places : OrderMassCancelRequest → List ℕ
+abbrev pub order_mass_cancel_request_places : OrderMassCancelRequest Text Text Text → List ℕ
 order_mass_cancel_request_places m = m.client_order_id.offset ∷ scope_places m.scope
 
 -- its numbers fit their types

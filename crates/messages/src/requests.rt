@@ -291,17 +291,13 @@ pub fn order_cancel_replace_request_values(
 
 // Cancels all orders of a firm or a CompID, or those of an instrument or a segment.
 #[derive(Clone, Copy)]
-pub struct OrderMassCancelRequest<'a> {
-    pub client_order_id: Text<'a>,
-    pub scope: Scope<Text<'a>, Text<'a>>,
+pub struct OrderMassCancelRequest<C, S, G> {
+    pub client_order_id: C,
+    pub scope: Scope<S, G>,
 }
 
-// The same, owned: a struct of its own, since its scope holds text.
-#[derive(Clone, Copy)]
-pub struct OwnedMassCancelRequest {
-    pub client_order_id: RequestId,
-    pub scope: Scope<Symbol, Segment>,
-}
+// An OrderMassCancelRequest as it was read.
+pub type ReadOrderMassCancelRequest<'a> = OrderMassCancelRequest<Text<'a>, Text<'a>, Text<'a>>;
 
 const ORDER_MASS_CANCEL_REQUEST: [Field; 7] = [
     Field::Always(4, Form::Name(20)),
@@ -315,7 +311,7 @@ const ORDER_MASS_CANCEL_REQUEST: [Field; 7] = [
 
 pub fn read_order_mass_cancel_request<'a>(
     r: &Reader<'a>,
-) -> Result<OrderMassCancelRequest<'a>, Fault>
+) -> Result<OrderMassCancelRequest<Text<'a>, Text<'a>, Text<'a>>, Fault>
     requires { length r.now.src.now ≡ 46 }
     ensures { Body order_mass_cancel_request (λ m. order_mass_cancel_request_contents (order_mass_cancel_request_heard m)) order_mass_cancel_request_places r.now.src.now result }
 {
@@ -326,7 +322,9 @@ pub fn read_order_mass_cancel_request<'a>(
     })
 }
 
-pub fn order_mass_cancel_request_values(m: &OwnedMassCancelRequest) -> [Value<'_>; 7]
+pub fn order_mass_cancel_request_values(
+    m: &OrderMassCancelRequest<RequestId, Symbol, Segment>,
+) -> [Value<'_>; 7]
     ensures { Means result (order_mass_cancel_request_contents (order_mass_cancel_request_kept m.now)) }
 {
     [
@@ -382,7 +380,10 @@ pub fn write_order_cancel_replace_request(
     );
 }
 
-pub fn write_order_mass_cancel_request(m: &OwnedMassCancelRequest, out: &mut [u8])
+pub fn write_order_mass_cancel_request(
+    m: &OrderMassCancelRequest<RequestId, Symbol, Segment>,
+    out: &mut [u8],
+)
     requires { 46 ≤ length out.old }
     ensures wrote { Wrote 113 46 order_mass_cancel_request (order_mass_cancel_request_contents (order_mass_cancel_request_kept m.now)) out.old out.new }
     ensures holds { HoldsIn order_mass_cancel_request (order_mass_cancel_request_contents (order_mass_cancel_request_kept m.now)) }

@@ -134,10 +134,12 @@ fn keep_order_cancel_replace_request(
     })
 }
 
-fn keep_order_mass_cancel_request(m: &OrderMassCancelRequest<'_>) -> Option<OwnedMassCancelRequest>
+fn keep_order_mass_cancel_request(
+    m: &OrderMassCancelRequest<Text<'_>, Text<'_>, Text<'_>>,
+) -> Option<OrderMassCancelRequest<RequestId, Symbol, Segment>>
     ensures { MatchOption result (order_mass_cancel_request_fits (order_mass_cancel_request_heard m.now) ≡ false) (λ o. (order_mass_cancel_request_fits (order_mass_cancel_request_heard m.now) ≡ true) × (order_mass_cancel_request_kept o ≡ order_mass_cancel_request_heard m.now)) }
 {
-    Some(OwnedMassCancelRequest {
+    Some(OrderMassCancelRequest {
         client_order_id: RequestId::new(m.client_order_id.bytes)?,
         scope: keep_scope(&m.scope)?,
     })
