@@ -1,5 +1,5 @@
 -- The codes of an order's terms. Assumes nothing.
-use Rattle.std.specs.Prelude.{ℕ, List, [], ◌∷◌}
+use Rattle.std.specs.Prelude.{ℕ, List, [], ◌∷◌, codes}
 use Rattle.codes.specs.declared.order.Side.{Side}
 use Rattle.codes.specs.declared.order.Side.TheVariants as side
 use Rattle.codes.specs.declared.order.OrderType.{OrderType}
@@ -30,6 +30,11 @@ side_code side.Sell = 2
 
 abbrev pub side_codes : List ℕ
 side_codes = 1 ∷ 2 ∷ []
+
+-- the word for it
+abbrev pub side_text : Side → List ℕ
+side_text side.Buy = codes "buy"
+side_text side.Sell = codes "sell"
 
 -- whether an order has a limit
 abbrev pub order_type_code : OrderType → ℕ

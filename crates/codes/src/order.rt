@@ -1,8 +1,9 @@
 // The codes of an order's terms.
-ghost use Rattle.std.specs.Prelude.{◌≡◌, ℕ, true, false};
-ghost use Rattle.codes.specs.Order.{side_code, side_codes, order_type_code, order_type_codes, time_in_force_code, time_in_force_codes, clearing_account_code, clearing_account_codes, order_capacity_code, order_capacity_codes, auto_cancel_code, auto_cancel_codes, order_sub_type_code, order_sub_type_codes, book_code, book_codes, exec_instruction_code, exec_instruction_codes, passive_only_code, passive_only_codes, mass_cancel_type_code, mass_cancel_type_codes};
+ghost use Rattle.std.specs.Prelude.{◌≡◌, ℕ, true, false, Some};
+ghost use Rattle.codes.specs.Order.{side_code, side_codes, side_text, order_type_code, order_type_codes, time_in_force_code, time_in_force_codes, clearing_account_code, clearing_account_codes, order_capacity_code, order_capacity_codes, auto_cancel_code, auto_cancel_codes, order_sub_type_code, order_sub_type_codes, book_code, book_codes, exec_instruction_code, exec_instruction_codes, passive_only_code, passive_only_codes, mass_cancel_type_code, mass_cancel_type_codes};
 
 use crate::code::Code;
+use std::fmt;
 
 // Side of an order.
 #[derive(Clone, Copy, Debug, PartialEq)]
@@ -22,6 +23,26 @@ impl Code for Side {
             2 => Some(Side::Sell),
             _ => None,
         }
+    }
+}
+
+impl Side {
+    /// The word that a person types and reads.
+    pub fn text(self) -> &'static str
+        ensures { result.now ≡ side_text self }
+    {
+        match self {
+            Side::Buy => "buy",
+            Side::Sell => "sell",
+        }
+    }
+}
+
+impl fmt::Display for Side {
+    ghost output = { λ side. Some (side_text side) };
+
+    fn fmt<W: fmt::Write>(&self, f: &mut fmt::Formatter<W>) -> fmt::Result {
+        f.write_str(self.text())
     }
 }
 

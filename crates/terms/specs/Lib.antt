@@ -1,0 +1,3 @@
+pub mod Execution
+pub mod Pricing
+pub mod Target
