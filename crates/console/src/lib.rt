@@ -1,0 +1,134 @@
+// What the programs here have in common: a command line, inputs that are read a line at a time, and how a run ends.
+#![tactic(auto)]
+
+use clap::{Arg, ArgAction, ArgMatches, Command};
+use std::alloc::Global;
+use std::io::{BufRead, BufReader, Read};
+use std::process::ExitCode;
+use std::rt::{Env, Files};
+use std::{env, fs, io};
+
+/// What a program says of itself when it is asked for help.
+#[derive(Clone, Copy)]
+pub struct About {
+    pub name: &'static str,
+    /// In a line or two: what it reads and what it prints.
+    pub summary: &'static str,
+    /// The words of its input, each with what it does.
+    pub words: &'static str,
+}
+
+/// What a program does with its input.
+pub trait Session {
+    /// Answers one line, whose end is cut off; the line may be any bytes.
+    fn line<R: Print + AllocGlobal>(&mut self, rt: &R, line: &[u8]) -> io::Result<()>;
+
+    /// Says what is to be said behind the last line.
+    fn close<R: Print + AllocGlobal>(&mut self, rt: &R) -> io::Result<()>;
+}
+
+fn command<'a>(alloc: Global, about: About) -> Result<Command<'a>, clap::Error> {
+    let file = Arg::new(alloc, "FILE").action(ArgAction::Append).help(
+        "a file to read, or - for standard input; with none, standard input is read",
+    );
+    Ok(
+        Command::new(alloc, about.name)
+            .about(about.summary)
+            .after_help(about.words)
+            .arg(file)?,
+    )
+}
+
+fn parse<'a>(
+    alloc: Global,
+    about: About,
+    words: &'a [String],
+) -> Result<ArgMatches<'a>, clap::Error> {
+    command(alloc, about)?.try_get_matches_from(words)
+}
+
+/// One input, line by line to its end.
+fn feed<R: Print + AllocGlobal, I: Read + Drop, S: Session>(
+    rt: &R,
+    input: I,
+    session: &mut S,
+) -> io::Result<()> {
+    let mut input = BufReader::new(rt.alloc(), input)?;
+    let mut line = Vec::new(rt.alloc());
+    for _ in 0..u64::MAX {
+        line.clear();
+        if input.read_until(b'\n', &mut line)? == 0 {
+            break;
+        }
+        let bytes = line.as_slice();
+        session.line(rt, bytes.strip_suffix(b"\n").unwrap_or(bytes))?;
+    }
+    Ok(())
+}
+
+/// Each of the named inputs in turn, as if they were one; the first that cannot be opened is told of and ends it.
+fn feed_all<R: Print + Eprint + Input + Files + AllocGlobal, S: Session>(
+    rt: &R,
+    about: About,
+    names: &[&str],
+    session: &mut S,
+) -> io::Result<ExitCode> {
+    for name in names {
+        if *name == "-" {
+            feed(rt, rt.reader(), session)?;
+            continue;
+        }
+        match fs::open(rt, *name) {
+            Ok(file) => feed(rt, file, session)?,
+            Err(error) => {
+                let program = about.name;
+                eprintln!(rt; "{program}: cannot read {name}: {error}")?;
+                return Ok(ExitCode::FAILURE);
+            }
+        }
+    }
+    Ok(ExitCode::SUCCESS)
+}
+
+fn play<R: Print + Eprint + Input + Files + Env + AllocGlobal, S: Session>(
+    rt: &R,
+    about: About,
+    session: &mut S,
+) -> io::Result<ExitCode> {
+    let words: Vec<String> = env::args(rt)?.collect(rt.alloc())?;
+    let matches = match parse(rt.alloc(), about, &words) {
+        Ok(matches) => matches,
+        Err(error) => {
+            error.print(rt)?;
+            return Ok(ExitCode::from(error.exit_code() as u8));
+        }
+    };
+    let code = match matches.get_strs("FILE") {
+        Some(names) => feed_all(rt, about, names, session)?,
+        None => {
+            feed(rt, rt.reader(), session)?;
+            ExitCode::SUCCESS
+        }
+    };
+    session.close(rt)?;
+    Ok(code)
+}
+
+/// Runs a program: `--help` is answered and a command line that is not understood gets its usage and status 2; else each
+/// input is fed to the session, a line at a time. An error is told in a sentence, with status 1. That nobody reads the
+/// output any more is no error: it ends the run.
+pub fn run<R: Print + Eprint + Input + Files + Env + AllocGlobal, S: Session>(
+    rt: &R,
+    about: About,
+    session: &mut S,
+) -> ExitCode {
+    match play(rt, about, session) {
+        Ok(code) => code,
+        Err(error) if error.kind() == io::ErrorKind::BrokenPipe => ExitCode::SUCCESS,
+        Err(error) => {
+            let program = about.name;
+            let _ = eprintln!(rt; "{program}: {error}");
+            ExitCode::FAILURE
+        }
+    }
+}
