@@ -2,7 +2,7 @@ use Rattle.std.proofs.Common.{◌≡◌, ℕ, List, ◌-◌, ◌++◌, length, d
 use Rattle.std.proofs.lemmas.List.{drop-replicate}
 use Rattle.texts.specs.Bytes.{said, is_text, named, padded}
 use Rattle.texts.proofs.Padding.{length-padded, is_text-padded, said-padded, named-padded}
-use Rattle.texts.proofs.texts.filled.Goals as goal
+use Rattle.texts.proofs.fixed.filled.Goals as goal
 
 pub returns : goal.returns
 returns g c =
@@ -11,8 +11,8 @@ returns g c =
     rw (drop-replicate {X = ℕ} (length t) g.row.N 0) (ap (λ (xs : List ℕ). xs ++ replicate (g.row.N - length t) 0) c.copy_from_slice.ensures.after) in
     record {
       value = v;
-      wide = ap length v ∙ length-padded g.row.N t c.requires.text_len_bound;
-      text = ap is_text v ∙ is_text-padded g.row.N t c.requires.text_value;
-      said = ap said v ∙ said-padded g.row.N t c.requires.text_value;
-      named = λ h. ap named v ∙ named-padded g.row.N t c.requires.text_value h;
+      wide = ap length v ∙ length-padded g.row.N t c.requires.short;
+      text = ap is_text v ∙ is_text-padded g.row.N t c.requires.printable;
+      said = ap said v ∙ said-padded g.row.N t c.requires.printable;
+      named = λ h. ap named v ∙ named-padded g.row.N t c.requires.printable h;
     }
