@@ -1,11 +1,12 @@
 // The codes of reports. `Unspecified` is a null byte.
 ghost use Rattle.std.specs.Prelude.{◌≡◌, ℕ, true, false};
-ghost use Rattle.codes.specs.Report.{exec_type_code, exec_type_codes, status_code, status_codes, liquidity_code, liquidity_codes, trade_type_code, trade_type_codes, capacity_code, capacity_codes, price_differential_code, price_differential_codes, mass_response_code, mass_response_codes};
+ghost use Rattle.codes.specs.Member.{listed_of_found, same_of_found};
+ghost use Rattle.codes.specs.declared.lists.Codes.TheVariants as lists;
 
 use crate::code::Code;
 
-// Why an Execution Report is sent.
-#[derive(Clone, Copy, Debug, PartialEq)]
+/// Why an Execution Report is sent.
+#[derive(Clone, Copy, Debug, PartialEq, Eq)]
 pub enum ExecType {
     Unspecified = 0,
     New = 48,
@@ -19,9 +20,15 @@ pub enum ExecType {
 }
 
 impl Code for ExecType {
-    ghost coded = { λ c. exec_type_code c };
+    ghost use Rattle.codes.specs.Report.{exec_type_code, exec_type_found, exec_types};
 
-    ghost codes = { exec_type_codes };
+    ghost list = { lists.ExecTypes };
+
+    ghost coded = { λ x. exec_type_code x };
+
+    ghost every = { λ x. listed_of_found exec_type_code exec_types x (exec_type_found x) };
+
+    ghost one = { λ x y. same_of_found exec_type_code exec_types x y (exec_type_found x) (exec_type_found y) };
 
     fn of(byte: u8) -> Option<ExecType> {
         match byte {
@@ -37,10 +44,14 @@ impl Code for ExecType {
             _ => None,
         }
     }
+
+    fn byte(&self) -> u8 {
+        *self as u8
+    }
 }
 
-// The status of an order.
-#[derive(Clone, Copy, Debug, PartialEq)]
+/// The status of an order.
+#[derive(Clone, Copy, Debug, PartialEq, Eq)]
 pub enum Status {
     New = 0,
     PartiallyFilled = 1,
@@ -51,9 +62,15 @@ pub enum Status {
 }
 
 impl Code for Status {
-    ghost coded = { λ c. status_code c };
+    ghost use Rattle.codes.specs.Report.{status_code, status_found, statuses};
 
-    ghost codes = { status_codes };
+    ghost list = { lists.Statuses };
+
+    ghost coded = { λ x. status_code x };
+
+    ghost every = { λ x. listed_of_found status_code statuses x (status_found x) };
+
+    ghost one = { λ x y. same_of_found status_code statuses x y (status_found x) (status_found y) };
 
     fn of(byte: u8) -> Option<Status> {
         match byte {
@@ -66,10 +83,14 @@ impl Code for Status {
             _ => None,
         }
     }
+
+    fn byte(&self) -> u8 {
+        *self as u8
+    }
 }
 
-// Whether a fill added or removed liquidity.
-#[derive(Clone, Copy, Debug, PartialEq)]
+/// Whether a fill added or removed liquidity.
+#[derive(Clone, Copy, Debug, PartialEq, Eq)]
 pub enum Liquidity {
     Unspecified = 0,
     Added = 65,
@@ -78,9 +99,15 @@ pub enum Liquidity {
 }
 
 impl Code for Liquidity {
-    ghost coded = { λ c. liquidity_code c };
+    ghost use Rattle.codes.specs.Report.{liquidity_code, liquidity_found, liquidities};
 
-    ghost codes = { liquidity_codes };
+    ghost list = { lists.Liquidities };
+
+    ghost coded = { λ x. liquidity_code x };
+
+    ghost every = { λ x. listed_of_found liquidity_code liquidities x (liquidity_found x) };
+
+    ghost one = { λ x y. same_of_found liquidity_code liquidities x y (liquidity_found x) (liquidity_found y) };
 
     fn of(byte: u8) -> Option<Liquidity> {
         match byte {
@@ -91,19 +118,29 @@ impl Code for Liquidity {
             _ => None,
         }
     }
+
+    fn byte(&self) -> u8 {
+        *self as u8
+    }
 }
 
-// Whether the executed part was shown.
-#[derive(Clone, Copy, Debug, PartialEq)]
+/// Whether the executed part was shown.
+#[derive(Clone, Copy, Debug, PartialEq, Eq)]
 pub enum TradeType {
     Visible = 0,
     Hidden = 1,
 }
 
 impl Code for TradeType {
-    ghost coded = { λ c. trade_type_code c };
+    ghost use Rattle.codes.specs.Report.{trade_type_code, trade_type_found, trade_types};
 
-    ghost codes = { trade_type_codes };
+    ghost list = { lists.TradeTypes };
+
+    ghost coded = { λ x. trade_type_code x };
+
+    ghost every = { λ x. listed_of_found trade_type_code trade_types x (trade_type_found x) };
+
+    ghost one = { λ x y. same_of_found trade_type_code trade_types x y (trade_type_found x) (trade_type_found y) };
 
     fn of(byte: u8) -> Option<TradeType> {
         match byte {
@@ -112,10 +149,14 @@ impl Code for TradeType {
             _ => None,
         }
     }
+
+    fn byte(&self) -> u8 {
+        *self as u8
+    }
 }
 
-// The capacity that a report tells.
-#[derive(Clone, Copy, Debug, PartialEq)]
+/// The capacity that a report tells.
+#[derive(Clone, Copy, Debug, PartialEq, Eq)]
 pub enum Capacity {
     RisklessPrincipal = 1,
     Principal = 2,
@@ -123,9 +164,15 @@ pub enum Capacity {
 }
 
 impl Code for Capacity {
-    ghost coded = { λ c. capacity_code c };
+    ghost use Rattle.codes.specs.Report.{capacity_code, capacity_found, capacities};
 
-    ghost codes = { capacity_codes };
+    ghost list = { lists.Capacities };
+
+    ghost coded = { λ x. capacity_code x };
+
+    ghost every = { λ x. listed_of_found capacity_code capacities x (capacity_found x) };
+
+    ghost one = { λ x y. same_of_found capacity_code capacities x y (capacity_found x) (capacity_found y) };
 
     fn of(byte: u8) -> Option<Capacity> {
         match byte {
@@ -135,10 +182,14 @@ impl Code for Capacity {
             _ => None,
         }
     }
+
+    fn byte(&self) -> u8 {
+        *self as u8
+    }
 }
 
-// How an order's price stands to the best one.
-#[derive(Clone, Copy, Debug, PartialEq)]
+/// How an order's price stands to the best one.
+#[derive(Clone, Copy, Debug, PartialEq, Eq)]
 pub enum PriceDifferential {
     Unspecified = 0,
     JoinBest = 49,
@@ -156,9 +207,15 @@ pub enum PriceDifferential {
 }
 
 impl Code for PriceDifferential {
-    ghost coded = { λ c. price_differential_code c };
+    ghost use Rattle.codes.specs.Report.{price_differential_code, price_differential_found, price_differentials};
 
-    ghost codes = { price_differential_codes };
+    ghost list = { lists.PriceDifferentials };
+
+    ghost coded = { λ x. price_differential_code x };
+
+    ghost every = { λ x. listed_of_found price_differential_code price_differentials x (price_differential_found x) };
+
+    ghost one = { λ x y. same_of_found price_differential_code price_differentials x y (price_differential_found x) (price_differential_found y) };
 
     fn of(byte: u8) -> Option<PriceDifferential> {
         match byte {
@@ -178,19 +235,29 @@ impl Code for PriceDifferential {
             _ => None,
         }
     }
+
+    fn byte(&self) -> u8 {
+        *self as u8
+    }
 }
 
-// Whether a mass cancel was accepted.
-#[derive(Clone, Copy, Debug, PartialEq)]
+/// Whether a mass cancel was accepted.
+#[derive(Clone, Copy, Debug, PartialEq, Eq)]
 pub enum MassResponse {
     Rejected = 0,
     Accepted = 7,
 }
 
 impl Code for MassResponse {
-    ghost coded = { λ c. mass_response_code c };
+    ghost use Rattle.codes.specs.Report.{mass_response_code, mass_response_found, mass_responses};
 
-    ghost codes = { mass_response_codes };
+    ghost list = { lists.MassResponses };
+
+    ghost coded = { λ x. mass_response_code x };
+
+    ghost every = { λ x. listed_of_found mass_response_code mass_responses x (mass_response_found x) };
+
+    ghost one = { λ x y. same_of_found mass_response_code mass_responses x y (mass_response_found x) (mass_response_found y) };
 
     fn of(byte: u8) -> Option<MassResponse> {
         match byte {
@@ -198,5 +265,9 @@ impl Code for MassResponse {
             7 => Some(MassResponse::Accepted),
             _ => None,
         }
+    }
+
+    fn byte(&self) -> u8 {
+        *self as u8
     }
 }
