@@ -5,7 +5,7 @@ use clap::{Arg, ArgAction, ArgMatches, Command};
 use std::alloc::Global;
 use std::io::{BufRead, BufReader, Read};
 use std::process::ExitCode;
-use std::rt::{Env, Files};
+use std::rt::{Clock, Env, Files};
 use std::{env, fs, io};
 
 /// What a program says of itself when it is asked for help.
@@ -25,6 +25,17 @@ pub trait Session {
 
     /// Says what is to be said behind the last line.
     fn close<R: Print + AllocGlobal>(&mut self, rt: &R) -> io::Result<()>;
+}
+
+/// What a program that reads no input does.
+pub trait Task {
+    fn work<R: Print + Eprint + Clock + AllocGlobal>(&mut self, rt: &R) -> io::Result<()>;
+}
+
+fn bare<'a>(alloc: Global, about: About) -> Command<'a> {
+    Command::new(alloc, about.name)
+        .about(about.summary)
+        .after_help(about.words)
 }
 
 fn command<'a>(alloc: Global, about: About) -> Result<Command<'a>, clap::Error> {
@@ -114,15 +125,23 @@ fn play<R: Print + Eprint + Input + Files + Env + AllocGlobal, S: Session>(
     Ok(code)
 }
 
-/// Runs a program: `--help` is answered and a command line that is not understood gets its usage and status 2; else each
-/// input is fed to the session, a line at a time. An error is told in a sentence, with status 1. That nobody reads the
-/// output any more is no error: it ends the run.
-pub fn run<R: Print + Eprint + Input + Files + Env + AllocGlobal, S: Session>(
+fn perform<R: Print + Eprint + Env + Clock + AllocGlobal, T: Task>(
     rt: &R,
     about: About,
-    session: &mut S,
-) -> ExitCode {
-    match play(rt, about, session) {
+    task: &mut T,
+) -> io::Result<ExitCode> {
+    let words: Vec<String> = env::args(rt)?.collect(rt.alloc())?;
+    if let Err(error) = bare(rt.alloc(), about).try_get_matches_from(words.as_slice()) {
+        error.print(rt)?;
+        return Ok(ExitCode::from(error.exit_code() as u8));
+    }
+    task.work(rt)?;
+    Ok(ExitCode::SUCCESS)
+}
+
+/// How a run ends: an error is told in a sentence, with status 1. That nobody reads the output any more is no error.
+fn ended<R: Eprint>(rt: &R, about: About, outcome: io::Result<ExitCode>) -> ExitCode {
+    match outcome {
         Ok(code) => code,
         Err(error) if error.kind() == io::ErrorKind::BrokenPipe => ExitCode::SUCCESS,
         Err(error) => {
@@ -131,4 +150,25 @@ pub fn run<R: Print + Eprint + Input + Files + Env + AllocGlobal, S: Session>(
             ExitCode::FAILURE
         }
     }
+}
+
+/// Runs a program: `--help` is answered and a command line that is not understood gets its usage and status 2; else each
+/// input is fed to the session, a line at a time.
+pub fn run<R: Print + Eprint + Input + Files + Env + AllocGlobal, S: Session>(
+    rt: &R,
+    about: About,
+    session: &mut S,
+) -> ExitCode {
+    let outcome = play(rt, about, session);
+    ended(rt, about, outcome)
+}
+
+/// The same of a program that reads no input.
+pub fn run_task<R: Print + Eprint + Env + Clock + AllocGlobal, T: Task>(
+    rt: &R,
+    about: About,
+    task: &mut T,
+) -> ExitCode {
+    let outcome = perform(rt, about, task);
+    ended(rt, about, outcome)
 }

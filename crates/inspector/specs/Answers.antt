@@ -1,42 +1,30 @@
 -- What a line of input is answered. Assumes nothing.
-use Rattle.std.specs.Prelude.{◌≡◌, ℕ, List, ◌++◌, map, Some, None, string_bytes, codes, decimal, Option}
+use Rattle.std.specs.Prelude.{◌≡◌, ℕ, List, ◌++◌, Some, None, string_bytes, codes, decimal, Option}
 use Rattle.std.specs.Str.{bytes_eq}
+use Rattle.layout.specs.declared.fault.Fault.{Fault}
+use Rattle.layout.specs.Faults.{fault_number, fault_offset}
 use Rattle.wire.specs.declared.kinds.Channel.{Channel}
 use Rattle.wire.specs.declared.message.Message.{Message}
-use Rattle.layout.specs.declared.value.Value.{Value}
-use Rattle.layout.specs.Values.{meant}
-use Rattle.wire.specs.Messages.{Said, Reads, heard_of, kind_of, contents_of, written, verdict}
+use Rattle.wire.specs.Messages.{Reads, kind_of, contents_of, written, verdict}
 use Rattle.inspector.specs.declared.account.Outcome.TheVariants as outcome
 use Rattle.inspector.specs.declared.answer.Answer.{Answer}
-use Rattle.inspector.specs.declared.line.Unclear.{Unclear}
-use Rattle.inspector.specs.declared.line.Unclear.TheVariants as why
 use Rattle.inspector.specs.Lines.{Given, skipped, message, unclear, given}
-use Rattle.inspector.specs.Shown.{line_text}
+use Rattle.inspector.specs.Sentences.{sentence_of}
+use Rattle.inspector.specs.Shown.{message_text}
 
-abbrev pub sentence_of : Unclear → List ℕ
-sentence_of why.UnknownReader = codes "not understood: the reader is none of real-time, recovery and follower"
-sentence_of why.NoBytes = codes "not understood: no bytes are given; a message of none is written -"
-sentence_of why.MoreWords = codes "not understood: there are more words than a reader and its bytes"
-sentence_of why.NotHex = codes "not understood: one of the characters is no hex digit"
-sentence_of why.OddDigits = codes "not understood: the number of hex digits is odd"
+abbrev pub refused_text : Fault → List ℕ
+refused_text e = codes "refused " ++ (decimal (fault_number e) ++ (codes " at " ++ decimal (fault_offset e)))
 
-abbrev pub refused_text : ℕ → ℕ → List ℕ
-refused_text rule offset = codes "refused " ++ (decimal rule ++ (codes " at " ++ decimal offset))
-
--- the line of a message: its values mean what its fields hold
-abbrev pub Rendered : Said → List ℕ → Type 0
-Rendered m t = (vs : List Value) × ((map meant vs ≡ contents_of m) × (t ≡ line_text (kind_of m) vs))
-
--- the answer to a message that was read
+-- the answer to a message that was read: what its fields hold, and whether it is written as its bytes stood
 pub record ReadAs (ch : Channel) (bs : List ℕ) (a : Answer) : Type 0 where
   pub read : Message
   pub reads : Reads ch bs read
-  pub shows : Rendered (heard_of read) (string_bytes a.text)
-  pub counts : a.outcome ≡ outcome.Read (bytes_eq (written (heard_of read)) bs)
+  pub shows : string_bytes a.text ≡ message_text (kind_of read) (contents_of read)
+  pub counts : a.outcome ≡ outcome.Read (bytes_eq (written read) bs)
 
 -- the answer to a message, by the first check that fails
-abbrev pub ByVerdict : Option (ℕ × ℕ) → Channel → List ℕ → Answer → Type 0
-ByVerdict (Some fault) ch bs a = (string_bytes a.text ≡ refused_text fault.0 fault.1) × (a.outcome ≡ outcome.Refused fault.0)
+abbrev pub ByVerdict : Option Fault → Channel → List ℕ → Answer → Type 0
+ByVerdict (Some e) ch bs a = (string_bytes a.text ≡ refused_text e) × (a.outcome ≡ outcome.Refused e)
 ByVerdict None ch bs a = ReadAs ch bs a
 
 abbrev pub AnswersRead : Channel → List ℕ → Answer → Type 0

@@ -1,6 +1,6 @@
-pub mod Classes
-pub mod Hex
+pub mod Words
 pub mod Lines
+pub mod Sentences
 pub mod Shown
 pub mod Labels
 pub mod Account

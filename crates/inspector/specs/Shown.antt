@@ -1,17 +1,20 @@
 -- A message as text: its name, and each field that is not reserved under its name. Assumes nothing.
-use Rattle.std.specs.Prelude.{◌&&◌, ℕ, suc, ◌+◌, ◌*◌, ◌/◌, ◌%◌, Bool, true, false, cond, List, [], ◌∷◌, ◌++◌, ℤ, pos, negsuc, Some, None, codes, decimal, Option, ◌==◌, nat_le, nat_lt}
-use Rattle.std.proofs.Math.Utf8.{encodes}
-use Rattle.std.specs.Option.{option_map}
+use Rattle.std.specs.Prelude.{ℕ, suc, ◌+◌, ◌*◌, ◌/◌, ◌%◌, Bool, true, false, if◌then◌else◌, ◌&&◌, List, [], ◌∷◌, ◌++◌, ℤ, pos, negsuc, map, Some, None, codes, decimal, Option, ◌==◌, nat_le, nat_lt}
 use Rattle.std.specs.Fmt.{signed_decimal}
 use Rattle.texts.specs.Identifiers.{order_id_text}
+use Rattle.codes.specs.Lists.{alpha}
+use Rattle.layout.specs.declared.field.Form.{Form}
+use Rattle.layout.specs.declared.field.Form.TheVariants as form
+use Rattle.layout.specs.declared.field.Field.{Field}
+use Rattle.layout.specs.Layout.{Content, form_of, got}
 use Rattle.wire.specs.declared.kinds.Kind.{Kind}
-use Rattle.layout.specs.declared.value.Value.{Value}
-use Rattle.layout.specs.declared.value.Value.TheVariants as value
+use Rattle.wire.specs.Kinds.{table_of}
 use Rattle.inspector.specs.Labels.{title_of, names_of}
+use Rattle.layout.specs.Layout.Content.{words, order, figure, int8, int32, price, clock, nothing}
 
--- in double quotes, each byte as the character of its number
+-- in double quotes
 abbrev pub quoted : List ℕ → List ℕ
-quoted t = 34 ∷ (encodes t ++ (34 ∷ []))
+quoted t = 34 ∷ (t ++ (34 ∷ []))
 
 -- an order's identifier, or nothing, in double quotes
 abbrev pub order_text : Option ℕ → List ℕ
@@ -31,51 +34,78 @@ price_text (pos n) = amount n
 price_text (negsuc n) = 45 ∷ amount (suc n)
 
 abbrev pub hex_glyph : ℕ → ℕ
-hex_glyph d = cond (nat_lt d 10) (48 + d) (55 + d)
+hex_glyph d = if nat_lt d 10 then 48 + d else 55 + d
 
 -- a byte that is a character: itself where it is printable and no space, null, or 0x and two hex digits
 abbrev pub alpha_text : ℕ → List ℕ
 alpha_text b =
-    cond (b == 0) (codes "null") (cond (nat_le 33 b && nat_le b 126) (b ∷ [])
-    (48 ∷ (120 ∷ (hex_glyph (b / 16) ∷ (hex_glyph (b % 16) ∷ [])))))
+    if b == 0 then codes "null"
+    else if nat_le 33 b && nat_le b 126 then b ∷ []
+    else 48 ∷ (120 ∷ (hex_glyph (b / 16) ∷ (hex_glyph (b % 16) ∷ [])))
 
--- a time is shown as the one number that its eight bytes write: seconds in the lower four, microseconds in the upper
-abbrev pub value_text : Value → List ℕ
-value_text (value.Text t) = quoted t.now
-value_text (value.Order o) = order_text (option_map (λ i. i.number) o)
-value_text (value.Number n) = decimal n
-value_text (value.Int8 z) = signed_decimal z
-value_text (value.Int32 z) = signed_decimal z
-value_text (value.Price p) = price_text p.raw
-value_text (value.Time t) = decimal (t.seconds + 4294967296 * t.microseconds)
-value_text (value.Code b) = decimal b
-value_text (value.Alpha b) = alpha_text b
-value_text value.Ignored = codes "ignored"
-value_text value.Reserved = []
+-- whether a field's byte is a character and no number
+abbrev pub holds_alpha : Form → Bool
+holds_alpha (form.Text w) = false
+holds_alpha (form.Name w) = false
+holds_alpha form.Order = false
+holds_alpha form.UInt32 = false
+holds_alpha form.UInt64 = false
+holds_alpha form.Sequence = false
+holds_alpha form.Int8 = false
+holds_alpha form.Int32 = false
+holds_alpha form.Price = false
+holds_alpha form.Time = false
+holds_alpha (form.Code list) = alpha list
+holds_alpha form.Alpha = true
+holds_alpha (form.Reserved w) = false
 
-abbrev pub is_reserved : Value → Bool
-is_reserved (value.Text t) = false
-is_reserved (value.Order o) = false
-is_reserved (value.Number n) = false
-is_reserved (value.Int8 z) = false
-is_reserved (value.Int32 z) = false
-is_reserved (value.Price p) = false
-is_reserved (value.Time t) = false
-is_reserved (value.Code b) = false
-is_reserved (value.Alpha b) = false
-is_reserved value.Ignored = false
-is_reserved value.Reserved = true
+abbrev pub is_reserved : Form → Bool
+is_reserved (form.Text w) = false
+is_reserved (form.Name w) = false
+is_reserved form.Order = false
+is_reserved form.UInt32 = false
+is_reserved form.UInt64 = false
+is_reserved form.Sequence = false
+is_reserved form.Int8 = false
+is_reserved form.Int32 = false
+is_reserved form.Price = false
+is_reserved form.Time = false
+is_reserved (form.Code list) = false
+is_reserved form.Alpha = false
+is_reserved (form.Reserved w) = true
 
--- a space, the name, = and the value; nothing for a reserved field
-abbrev pub field_text : List ℕ → Value → List ℕ
-field_text name v = cond (is_reserved v) [] (32 ∷ (name ++ (61 ∷ value_text v)))
+-- what a field of a form holds; a time is shown as the one number that its eight bytes write
+abbrev pub content_text : Form → Content → List ℕ
+content_text f (words t) = quoted t
+content_text f (order o) = order_text o
+content_text f (figure n) = if holds_alpha f then alpha_text n else decimal n
+content_text f (int8 z) = signed_decimal z
+content_text f (int32 z) = signed_decimal z
+content_text f (price z) = price_text z
+content_text f (clock s u) = decimal (s + 4294967296 * u)
+content_text f nothing = codes "ignored"
+
+-- a space, the name, = and what the field holds; nothing for a reserved field
+abbrev pub field_text : List ℕ → Form → Content → List ℕ
+field_text name f v = if is_reserved f then [] else 32 ∷ (name ++ (61 ∷ content_text f v))
 
 -- one field after the other
-abbrev pub fields_text : List (List ℕ) → List Value → List ℕ
-fields_text [] vs = []
-fields_text (n ∷ ns) [] = []
-fields_text (n ∷ ns) (v ∷ vs) = field_text n v ++ fields_text ns vs
+abbrev pub fields_text : List (List ℕ) → List Field → List Content → List ℕ
+fields_text [] fs vs = []
+fields_text (n ∷ ns) [] vs = []
+fields_text (n ∷ ns) (f ∷ fs) [] = []
+fields_text (n ∷ ns) (f ∷ fs) (v ∷ vs) = field_text n (form_of f) v ++ fields_text ns fs vs
 
--- a message of a kind, with what its fields hold
-abbrev pub line_text : Kind → List Value → List ℕ
-line_text k vs = title_of k ++ fields_text (names_of k) vs
+-- the same, of fields that are read in a message's bytes
+abbrev pub bytes_text : List (List ℕ) → List Field → List ℕ → List ℕ
+bytes_text [] fs bs = []
+bytes_text (n ∷ ns) [] bs = []
+bytes_text (n ∷ ns) (f ∷ fs) bs = field_text n (form_of f) (got bs f) ++ bytes_text ns fs bs
+
+-- a message of a kind, by what its fields hold
+abbrev pub message_text : Kind → List Content → List ℕ
+message_text k vs = title_of k ++ fields_text (names_of k) (table_of k) vs
+
+-- and by its bytes
+abbrev pub shown_text : Kind → List ℕ → List ℕ
+shown_text k bs = title_of k ++ bytes_text (names_of k) (table_of k) bs

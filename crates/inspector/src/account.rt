@@ -1,42 +1,44 @@
 // The account of a run: how many lines there were, and what became of them.
-ghost use Rattle.std.specs.Prelude.{◌≡◌, true, Some};
+ghost use Rattle.std.specs.Prelude.{◌≡◌, Some};
 ghost use Rattle.inspector.specs.Account.{more, nothing, counted, summary_text};
 
+use layout::fault::Fault;
 use std::fmt;
 
-// What became of a line that is not skipped.
+/// What became of a line that is not skipped.
 #[derive(Clone, Copy)]
 pub enum Outcome {
-    // read, and whether it comes out the same when it is written again
+    /// Read, and whether it comes out the same when it is written again.
     Read(bool),
-    // refused, by this rule
-    Refused(u8),
+    Refused(Fault),
     NotUnderstood,
 }
 
-// Counts of lines. One that is full stays as it is.
+/// Counts of lines. One that is full stays as it is.
 #[derive(Clone, Copy)]
 pub struct Account {
     pub lines: u64,
     pub read: u64,
+    /// Of those read, how many come out the same when they are written again.
     pub same_again: u64,
     pub refused: u64,
-    pub rule_1: u64,
-    pub rule_2: u64,
-    pub rule_3: u64,
-    pub rule_4: u64,
-    pub rule_5: u64,
+    /// Of those refused, how many by each fault.
+    pub short: u64,
+    pub start: u64,
+    pub unknown: u64,
+    pub length: u64,
+    pub field: u64,
     pub not_understood: u64,
 }
 
-fn add_one(n: &mut u64)
-    ensures { n.new ≡ more n.old true }
+fn add_one(count: &mut u64)
+    ensures { count.new ≡ more count.old }
 {
-    *n = n.saturating_add(1);
+    *count = count.saturating_add(1);
 }
 
 impl Account {
-    // The account of no lines.
+    /// The account of no lines.
     pub fn new() -> Account
         ensures { result ≡ nothing }
     {
@@ -45,46 +47,43 @@ impl Account {
             read: 0,
             same_again: 0,
             refused: 0,
-            rule_1: 0,
-            rule_2: 0,
-            rule_3: 0,
-            rule_4: 0,
-            rule_5: 0,
+            short: 0,
+            start: 0,
+            unknown: 0,
+            length: 0,
+            field: 0,
             not_understood: 0,
         }
     }
 
-    // The account with one line more.
-    pub fn with(self, outcome: Outcome) -> Account
+    /// The account with one line more.
+    pub fn with(mut self, outcome: Outcome) -> Account
         ensures { result ≡ counted self outcome }
     {
-        let mut account = self;
-        add_one(&mut account.lines);
+        add_one(&mut self.lines);
         match outcome {
-            Outcome::Read(same) => {
-                add_one(&mut account.read);
-                if same {
-                    add_one(&mut account.same_again);
+            Outcome::Read(false) => add_one(&mut self.read),
+            Outcome::Read(true) => {
+                add_one(&mut self.read);
+                add_one(&mut self.same_again);
+            }
+            Outcome::Refused(fault) => {
+                add_one(&mut self.refused);
+                match fault {
+                    Fault::Short => add_one(&mut self.short),
+                    Fault::Start => add_one(&mut self.start),
+                    Fault::Unknown => add_one(&mut self.unknown),
+                    Fault::Length => add_one(&mut self.length),
+                    Fault::Field(_) => add_one(&mut self.field),
                 }
             }
-            Outcome::Refused(rule) => {
-                add_one(&mut account.refused);
-                match rule {
-                    1 => add_one(&mut account.rule_1),
-                    2 => add_one(&mut account.rule_2),
-                    3 => add_one(&mut account.rule_3),
-                    4 => add_one(&mut account.rule_4),
-                    5 => add_one(&mut account.rule_5),
-                    _ => {}
-                }
-            }
-            Outcome::NotUnderstood => add_one(&mut account.not_understood),
+            Outcome::NotUnderstood => add_one(&mut self.not_understood),
         }
-        account
+        self
     }
 }
 
-// The account in one line.
+/// The account in one line.
 impl fmt::Display for Account {
     ghost output = { λ account. Some (summary_text account) };
 
@@ -97,7 +96,7 @@ impl fmt::Display for Account {
         write!(
             f,
             "{} refused (rule 1: {}, rule 2: {}, rule 3: {}, rule 4: {}, rule 5: {}), ",
-            self.refused, self.rule_1, self.rule_2, self.rule_3, self.rule_4, self.rule_5
+            self.refused, self.short, self.start, self.unknown, self.length, self.field
         )?;
         write!(f, "{} not understood", self.not_understood)
     }

@@ -1,86 +1,78 @@
 // What a line of input is answered.
-ghost use Rattle.std.specs.Prelude.{◌≡◌, map, IfOk, string_bytes};
+ghost use Rattle.std.specs.Prelude.{◌≡◌, true, length, IfOk, string_bytes};
 ghost use Rattle.std.specs.Str.{bytes_eq};
-ghost use Rattle.layout.specs.Values.{meant};
-ghost use Rattle.wire.specs.Messages.{kept_of, contents_of, written};
-ghost use Rattle.inspector.specs.Answers.{Rendered, AnswersRead, Answered};
+ghost use Rattle.layout.specs.Layout.{Says, within};
+ghost use Rattle.wire.specs.Kinds.{table_of};
+ghost use Rattle.wire.specs.Messages.{kind_of, contents_of, written};
+ghost use Rattle.inspector.specs.Shown.{message_text};
+ghost use Rattle.inspector.specs.Answers.{AnswersRead, Answered};
 
 use crate::account::Outcome;
-use crate::failure::Failure;
 use crate::line::{Line, is_text, parse};
-use crate::shown;
-use layout::value::Value;
+use crate::shown::Shown;
+use layout::reader::Reader;
 use std::alloc::{AllocError, Global};
 use wire::kinds::Channel;
-use wire::message::{OwnedMessage, read, write};
+use wire::message::{Message, read, write};
 
-// The text to print for a line, and how the line counts.
+/// The most bytes that a message has.
+const LONGEST: usize = 145;
+
+/// The text to print for a line, and how the line counts.
 #[derive(Drop)]
 pub struct Answer {
     pub text: String,
     pub outcome: Outcome,
 }
 
-// What the fields of a message hold, in the order of its layout. No message has more than 26.
-fn values<'a>(heap: Global, message: &'a OwnedMessage) -> Result<Vec<Value<'a>>, AllocError>
-    ensures { IfOk result (λ v. map meant v.items ≡ contents_of (kept_of message.now)) }
+// A message as a line of text, from the bytes that it was read from.
+#[tactic(auto, using(crate::proofs::Shows::says_shown))]
+fn render(heap: Global, message: &Message<'_>, bytes: &[u8]) -> Result<String, AllocError>
+    requires inside { within (length bytes.now) (table_of (kind_of message.now)) ≡ true }
+    requires says { Says (contents_of message.now) (table_of (kind_of message.now)) bytes.now }
+    ensures { IfOk result (λ s. string_bytes s ≡ message_text (kind_of message.now) (contents_of message.now)) }
 {
-    let mut all = Vec::new(heap);
-    for i in 0..26 {
-        let Some(value) = message.value(i) else {
-            return Ok(all);
-        };
-        all.push(value)?;
-    }
-    Ok(all)
-}
-
-// A message as a line of text.
-pub fn render(heap: Global, message: &OwnedMessage) -> Result<String, Failure>
-    ensures { IfOk result (λ s. Rendered (kept_of message.now) (string_bytes s)) }
-{
-    let all = values(heap, message)?;
-    let line = shown::Line {
-        kind: message.kind(),
-        values: all.as_slice(),
+    let kind = message.kind();
+    let shown = Shown {
+        kind,
+        reader: Reader { src: bytes },
     };
-    Ok(line.to_string(heap)?)
+    shown.to_string(heap)
 }
 
 // Whether a message that was read from these bytes is written to the very same.
-fn is_same_again(message: &OwnedMessage, bytes: &[u8]) -> bool
-    ensures { result ≡ bytes_eq (written (kept_of message.now)) bytes.now }
+fn is_same_again(message: &Message<'_>, bytes: &[u8]) -> bool
+    ensures { result ≡ bytes_eq (written message.now) bytes.now }
 {
-    let mut out = [0; 145];
+    let mut out = [0; LONGEST];
     match write(message, &mut out) {
         Ok(n) => is_text(&out[0..n], bytes),
         Err(_) => false,
     }
 }
 
-fn answer_message(heap: Global, channel: Channel, bytes: &[u8]) -> Result<Answer, Failure>
+/// What the bytes of a message are answered: the message as text, or the check that refuses it and the offset.
+pub fn answer_message(heap: Global, channel: Channel, bytes: &[u8]) -> Result<Answer, AllocError>
     ensures { IfOk result (λ a. AnswersRead channel bytes.now a) }
 {
     match read(channel, bytes) {
-        Err(fault) => Ok(Answer {
-            text: format!(in heap; "refused {} at {}", fault.rule, fault.offset)?,
-            outcome: Outcome::Refused(fault.rule),
-        }),
-        Ok(message) => {
-            let Some(kept) = message.keep() else {
-                return Err(Failure::NotKept);
-            };
-            let outcome = Outcome::Read(is_same_again(&kept, bytes));
+        Err(fault) => {
+            let number = fault.number();
+            let offset = fault.offset();
             Ok(Answer {
-                text: render(heap, &kept)?,
-                outcome,
+                text: format!(in heap; "refused {number} at {offset}")?,
+                outcome: Outcome::Refused(fault),
             })
         }
+        Ok(message) => Ok(Answer {
+            text: render(heap, &message, bytes)?,
+            outcome: Outcome::Read(is_same_again(&message, bytes)),
+        }),
     }
 }
 
-// The answer to a line, or none where it is skipped.
-pub fn answer_to(heap: Global, line: &[u8]) -> Result<Option<Answer>, Failure>
+/// The answer to a line, or none where it is skipped.
+pub fn answer_to(heap: Global, line: &[u8]) -> Result<Option<Answer>, AllocError>
     ensures { IfOk result (λ a. Answered line.now a) }
 {
     match parse(heap, line)? {

@@ -5,26 +5,26 @@ ghost use Rattle.inspector.specs.Labels.{title_of, names_of, spelt};
 use wire::kinds::Kind;
 
 // The names of a message's fields, in the order of its layout. A reserved field has none.
-const LOGON: [&str; 4] = ["CompID", "Password", "NewPassword", "MessageVersion"];
+pub(crate) const LOGON: [&str; 4] = ["CompID", "Password", "NewPassword", "MessageVersion"];
 
-const LOGON_REPLY: [&str; 2] = ["RejectCode", "PasswordExpiryDayCount"];
+pub(crate) const LOGON_REPLY: [&str; 2] = ["RejectCode", "PasswordExpiryDayCount"];
 
-const LOGOUT: [&str; 1] = ["LogoutReason"];
+pub(crate) const LOGOUT: [&str; 1] = ["LogoutReason"];
 
-const MISSED_MESSAGE_REQUEST: [&str; 2] = ["AppID", "LastMsgSeqNum"];
+pub(crate) const MISSED_MESSAGE_REQUEST: [&str; 2] = ["AppID", "LastMsgSeqNum"];
 
-const MISSED_MESSAGE_REQUEST_ACK: [&str; 1] = ["ResponseType"];
+pub(crate) const MISSED_MESSAGE_REQUEST_ACK: [&str; 1] = ["ResponseType"];
 
-const MISSED_MESSAGE_REPORT: [&str; 1] = ["ResponseType"];
+pub(crate) const MISSED_MESSAGE_REPORT: [&str; 1] = ["ResponseType"];
 
-const REJECT: [&str; 4] = [
+pub(crate) const REJECT: [&str; 4] = [
     "RejectCode",
     "RejectReason",
     "RejectedMessageType",
     "ClientOrderID",
 ];
 
-const NEW_ORDER: [&str; 21] = [
+pub(crate) const NEW_ORDER: [&str; 21] = [
     "ClientOrderID",
     "TraderID",
     "Account",
@@ -48,7 +48,7 @@ const NEW_ORDER: [&str; 21] = [
     "PassiveOnlyOrder",
 ];
 
-const ORDER_CANCEL_REQUEST: [&str; 7] = [
+pub(crate) const ORDER_CANCEL_REQUEST: [&str; 7] = [
     "ClientOrderID",
     "OriginalClientOrderID",
     "OrderID",
@@ -58,7 +58,7 @@ const ORDER_CANCEL_REQUEST: [&str; 7] = [
     "",
 ];
 
-const ORDER_CANCEL_REPLACE_REQUEST: [&str; 17] = [
+pub(crate) const ORDER_CANCEL_REPLACE_REQUEST: [&str; 17] = [
     "ClientOrderID",
     "OriginalClientOrderID",
     "OrderID",
@@ -78,7 +78,7 @@ const ORDER_CANCEL_REPLACE_REQUEST: [&str; 17] = [
     "",
 ];
 
-const ORDER_MASS_CANCEL_REQUEST: [&str; 7] = [
+pub(crate) const ORDER_MASS_CANCEL_REQUEST: [&str; 7] = [
     "ClientOrderID",
     "MassCancelType",
     "CommonSymbol",
@@ -88,7 +88,7 @@ const ORDER_MASS_CANCEL_REQUEST: [&str; 7] = [
     "",
 ];
 
-const EXECUTION_REPORT: [&str; 26] = [
+pub(crate) const EXECUTION_REPORT: [&str; 26] = [
     "AppID",
     "SequenceNo",
     "ExecutionID",
@@ -117,7 +117,7 @@ const EXECUTION_REPORT: [&str; 26] = [
     "",
 ];
 
-const ORDER_CANCEL_REJECT: [&str; 7] = [
+pub(crate) const ORDER_CANCEL_REJECT: [&str; 7] = [
     "AppID",
     "SequenceNo",
     "ClientOrderID",
@@ -127,7 +127,7 @@ const ORDER_CANCEL_REJECT: [&str; 7] = [
     "",
 ];
 
-const ORDER_MASS_CANCEL_REPORT: [&str; 8] = [
+pub(crate) const ORDER_MASS_CANCEL_REPORT: [&str; 8] = [
     "AppID",
     "SequenceNo",
     "ClientOrderID",

@@ -3,10 +3,7 @@
 
 pub mod account;
 pub mod answer;
-mod classes;
-pub mod failure;
-mod hex;
 mod labels;
 pub mod line;
 mod shown;
-mod values;
+mod words;

@@ -1,17 +1,19 @@
 // One line of input: who reads, and the bytes of one message.
 ghost use Rattle.std.specs.Prelude.{◌≡◌, Some, IfOk};
+ghost use Rattle.std.specs.List.{list_all};
 ghost use Rattle.std.specs.Str.{bytes_eq};
-ghost use Rattle.inspector.specs.Lines.{skips, reader_of, bytes_given, given, says};
-ghost use Rattle.inspector.specs.Answers.{sentence_of};
+ghost use Rattle.hex.specs.Hex.{is_hex_digit, decode_of};
+ghost use Rattle.inspector.specs.Lines.{is_skipped, channel_of, decoded, bytes_given, given, says};
+ghost use Rattle.inspector.specs.Sentences.{sentence_of};
 
-use crate::classes::{Class, word};
-use crate::hex::decode;
+use crate::words::{blanks, word};
+use hex::FromHexError;
 use std::alloc::{AllocError, Global};
 use std::fmt;
 use wire::kinds::Channel;
 
-// Why a line is not understood.
-#[derive(Clone, Copy)]
+/// Why a line is not understood.
+#[derive(Clone, Copy, Debug, PartialEq)]
 pub enum Unclear {
     UnknownReader,
     NoBytes,
@@ -20,11 +22,12 @@ pub enum Unclear {
     OddDigits,
 }
 
-impl fmt::Display for Unclear {
-    ghost output = { λ why. Some (sentence_of why) };
-
-    fn fmt<W: fmt::Write>(&self, f: &mut fmt::Formatter<W>) -> fmt::Result {
-        f.write_str(match self {
+impl Unclear {
+    /// The sentence that a person reads.
+    pub fn text(self) -> &'static str
+        ensures { result.now ≡ sentence_of self }
+    {
+        match self {
             Unclear::UnknownReader => {
                 "not understood: the reader is none of real-time, recovery and follower"
             }
@@ -34,23 +37,31 @@ impl fmt::Display for Unclear {
                 "not understood: there are more words than a reader and its bytes",
             Unclear::NotHex => "not understood: one of the characters is no hex digit",
             Unclear::OddDigits => "not understood: the number of hex digits is odd",
-        })
+        }
     }
 }
 
+impl fmt::Display for Unclear {
+    ghost output = { λ why. Some (sentence_of why) };
+
+    fn fmt<W: fmt::Write>(&self, f: &mut fmt::Formatter<W>) -> fmt::Result {
+        f.write_str(self.text())
+    }
+}
+
+/// What a line says.
 #[derive(Drop)]
 pub enum Line {
-    // blank, or a comment
+    /// Blank, or a comment.
     Skipped,
     Message(Channel, Vec<u8>),
     Unclear(Unclear),
 }
 
 fn is_skipped(line: &[u8]) -> bool
-    ensures { result ≡ skips line.now }
+    ensures { result ≡ is_skipped line.now }
 {
-    let n = line.len();
-    Class::Blank.front(line) == n || line[0] == b'#'
+    blanks(line) == line.len() || line[0] == b'#'
 }
 
 pub(crate) fn is_text(word: &[u8], text: &[u8]) -> bool
@@ -59,8 +70,8 @@ pub(crate) fn is_text(word: &[u8], text: &[u8]) -> bool
     word == text
 }
 
-fn reader(name: &[u8]) -> Option<Channel>
-    ensures { result ≡ reader_of name.now }
+fn channel(name: &[u8]) -> Option<Channel>
+    ensures { result ≡ channel_of name.now }
 {
     if is_text(name, b"real-time") {
         Some(Channel::RealTime)
@@ -73,23 +84,38 @@ fn reader(name: &[u8]) -> Option<Channel>
     }
 }
 
+fn is_hex(digits: &[u8]) -> bool
+    ensures { result ≡ list_all is_hex_digit digits.now }
+{
+    digits.iter().all(|b| {
+        matches!(*b, b'0'..=b'9' | b'A'..=b'F' | b'a'..=b'f')
+    })
+}
+
+fn decode(heap: Global, channel: Channel, digits: &[u8]) -> Result<Line, AllocError>
+    ensures { IfOk result (λ l. says l ≡ decoded channel (decode_of digits.now)) }
+{
+    match hex::decode(heap, digits) {
+        Ok(bytes) => Ok(Line::Message(channel, bytes)),
+        Err(FromHexError::OddLength) => Ok(Line::Unclear(Unclear::OddDigits)),
+        Err(FromHexError::OutOfMemory) => Err(AllocError),
+        Err(_) => Ok(Line::Unclear(Unclear::NotHex)),
+    }
+}
+
 fn bytes_of(heap: Global, channel: Channel, digits: &[u8]) -> Result<Line, AllocError>
     ensures { IfOk result (λ l. says l ≡ bytes_given channel digits.now) }
 {
-    let n = digits.len();
     if is_text(digits, b"-") {
         return Ok(Line::Message(channel, Vec::new(heap)));
     }
-    if Class::Hex.front(digits) < n {
+    if !is_hex(digits) {
         return Ok(Line::Unclear(Unclear::NotHex));
     }
-    if n % 2 == 1 {
-        return Ok(Line::Unclear(Unclear::OddDigits));
-    }
-    Ok(Line::Message(channel, decode(heap, digits)?))
+    decode(heap, channel, digits)
 }
 
-// What a line says: `READER HEX`, the bytes in hex digits or `-` for none.
+/// What a line says: `READER HEX`, the bytes in hex digits or `-` for none.
 pub fn parse(heap: Global, line: &[u8]) -> Result<Line, AllocError>
     ensures { IfOk result (λ l. says l ≡ given line.now) }
 {
@@ -97,7 +123,7 @@ pub fn parse(heap: Global, line: &[u8]) -> Result<Line, AllocError>
         return Ok(Line::Skipped);
     }
     let (name, rest) = word(line);
-    let Some(channel) = reader(name) else {
+    let Some(channel) = channel(name) else {
         return Ok(Line::Unclear(Unclear::UnknownReader));
     };
     let (digits, rest) = word(rest);

@@ -1,6 +1,6 @@
 // The check of bytes against a message's layout.
 ghost use Rattle.std.specs.Prelude.{◌≡◌, ℕ, ◌+◌, ◌≤◌, true, length};
-ghost use Rattle.layout.specs.Layout.{ok_form, ok, wide, within, span, Checked, part};
+ghost use Rattle.layout.specs.Layout.{ok_form, ok, matters, wide, within, span, Checked, part};
 
 use crate::fault::Fault;
 use crate::field::{Field, Form};
@@ -26,16 +26,24 @@ impl Form {
 }
 
 impl Field {
-    // A field that does not matter is not looked at.
+    /// Whether the field matters in these bytes.
     #[tactic(auto, unfolding(crate::specs::Layout::taken))]
+    pub fn matters(self, r: &Reader<'_>) -> bool
+        requires { span self ≤ length r.now.src.now }
+        ensures { result ≡ matters r.now.src.now self }
+    {
+        match self {
+            Field::Always(_, _) => true,
+            Field::When(_, _, other, codes) => codes.has(r.u8(other)),
+        }
+    }
+
+    // A field that does not matter is not looked at.
     fn good(self, r: &Reader<'_>) -> bool
         requires { span self ≤ length r.now.src.now }
         ensures { result ≡ ok r.now.src.now self }
     {
-        match self {
-            Field::Always(at, form) => form.good(at, r),
-            Field::When(at, form, other, codes) => !codes.has(r.u8(other)) || form.good(at, r),
-        }
+        !self.matters(r) || self.form().good(self.at(), r)
     }
 }
 

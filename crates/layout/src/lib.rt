@@ -10,4 +10,3 @@ pub mod put;
 pub mod reader;
 pub mod sequence;
 pub mod take;
-pub mod value;

@@ -123,8 +123,8 @@ impl<'a> Reader<'a> {
         all_null(&field[end..]).then_some(end)
     }
 
-    // What a field says, if it holds text: its printable bytes.
-    pub(crate) fn text(&self, at: usize, width: usize) -> &'a [u8]
+    /// What a field says, if it holds text: its printable bytes.
+    pub fn text(&self, at: usize, width: usize) -> &'a [u8]
         requires { at + width ≤ length self.now.src.now }
         ensures { result.now ≡ said (part at width self.now.src.now) }
     {
