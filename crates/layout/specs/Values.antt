@@ -25,36 +25,36 @@ meant value.Reserved = nothing
 
 -- how a value reads: as what it is, as a character, not at all
 pub data Style : Type 0 where
-  plain : Style
+  literal : Style
   character : Style
   ignored : Style
   blank : Style
 
 abbrev pub style_of : Value → Style
-style_of (value.Text t) = plain
-style_of (value.Order o) = plain
-style_of (value.Number n) = plain
-style_of (value.Int8 z) = plain
-style_of (value.Int32 z) = plain
-style_of (value.Price p) = plain
-style_of (value.Time t) = plain
-style_of (value.Code b) = plain
+style_of (value.Text t) = literal
+style_of (value.Order o) = literal
+style_of (value.Number n) = literal
+style_of (value.Int8 z) = literal
+style_of (value.Int32 z) = literal
+style_of (value.Price p) = literal
+style_of (value.Time t) = literal
+style_of (value.Code b) = literal
 style_of (value.Alpha b) = character
 style_of value.Ignored = ignored
 style_of value.Reserved = blank
 
 abbrev pub form_style : Form → Style
-form_style (form.Text w) = plain
-form_style (form.Name w) = plain
-form_style form.Order = plain
-form_style form.UInt32 = plain
-form_style form.UInt64 = plain
-form_style form.Sequence = plain
-form_style form.Int8 = plain
-form_style form.Int32 = plain
-form_style form.Price = plain
-form_style form.Time = plain
-form_style (form.Code cs) = if alpha cs then character else plain
+form_style (form.Text w) = literal
+form_style (form.Name w) = literal
+form_style form.Order = literal
+form_style form.UInt32 = literal
+form_style form.UInt64 = literal
+form_style form.Sequence = literal
+form_style form.Int8 = literal
+form_style form.Int32 = literal
+form_style form.Price = literal
+form_style form.Time = literal
+form_style (form.Code cs) = if alpha cs then character else literal
 form_style form.Alpha = character
 form_style (form.Reserved w) = blank
 
