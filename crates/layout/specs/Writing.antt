@@ -7,6 +7,7 @@ use Rattle.texts.specs.Identifiers.{order_id_text}
 use Rattle.layout.specs.declared.field.Form.{Form}
 use Rattle.layout.specs.declared.field.Form.TheVariants.{Text, Name, Order, UInt32, UInt64, Sequence, Int8, Int32, Price, Time, Code, Alpha, Reserved}
 use Rattle.layout.specs.declared.field.Field.{Field}
+use Rattle.layout.specs.declared.put.TheConstants.{START}
 use Rattle.layout.specs.Layout.{Content, place, width, form_of, words_of, order_of, figure_of, int8_of, int32_of, price_of, seconds_of, micros_of, absent}
 
 -- an order's identifier, or nulls
@@ -42,7 +43,7 @@ encode (f ∷ fs) (v ∷ vs) = field_bytes f v ++ encode fs vs
 
 -- a message begins with the start byte, its length from the type on, and the type
 abbrev pub header : ℕ → ℕ → List ℕ
-header letter total = 2 ∷ to_le 2 (total - 3) ++ (letter ∷ [])
+header letter total = START ∷ to_le 2 (total - 3) ++ (letter ∷ [])
 
 -- what a buffer holds once bytes are written at a place
 unfoldable pub over : List ℕ → ℕ → List ℕ → List ℕ

@@ -14,6 +14,9 @@ use texts::identifiers::OrderId;
 use texts::text::{Name, Text};
 use texts::values::{Price, Time};
 
+/// The byte that each message begins with.
+pub const START: u8 = 2;
+
 // Bytes, at a place.
 #[tactic(auto, using(crate::proofs::Overs::put_over))]
 fn put(out: &mut [u8], at: usize, bytes: &[u8])
@@ -30,7 +33,7 @@ pub(crate) fn put_header(out: &mut [u8], letter: u8, total: u16)
     ensures { out.new ≡ over out.old 0 (header letter total) }
 {
     let len = (total - 3).to_le_bytes();
-    put(out, 0, &[2, len[0], len[1], letter]);
+    put(out, 0, &[START, len[0], len[1], letter]);
 }
 
 /// A text, as the whole field that it is.
