@@ -29,18 +29,18 @@ title_of kind.OrderMassCancelReport = codes "OrderMassCancelReport"
 
 -- the names of the fields, in the order of the layout; a reserved field has none
 abbrev pub names_of : Kind → List (List ℕ)
-names_of kind.Logon = spelt LOGON
-names_of kind.LogonReply = spelt LOGON_REPLY
-names_of kind.Logout = spelt LOGOUT
+names_of kind.Logon = map (λ n. n.now) LOGON
+names_of kind.LogonReply = map (λ n. n.now) LOGON_REPLY
+names_of kind.Logout = map (λ n. n.now) LOGOUT
 names_of kind.Heartbeat = []
-names_of kind.MissedMessageRequest = spelt MISSED_MESSAGE_REQUEST
-names_of kind.MissedMessageRequestAck = spelt MISSED_MESSAGE_REQUEST_ACK
-names_of kind.MissedMessageReport = spelt MISSED_MESSAGE_REPORT
-names_of kind.Reject = spelt REJECT
-names_of kind.NewOrder = spelt NEW_ORDER
-names_of kind.OrderCancelRequest = spelt ORDER_CANCEL_REQUEST
-names_of kind.OrderCancelReplaceRequest = spelt ORDER_CANCEL_REPLACE_REQUEST
-names_of kind.OrderMassCancelRequest = spelt ORDER_MASS_CANCEL_REQUEST
-names_of kind.ExecutionReport = spelt EXECUTION_REPORT
-names_of kind.OrderCancelReject = spelt ORDER_CANCEL_REJECT
-names_of kind.OrderMassCancelReport = spelt ORDER_MASS_CANCEL_REPORT
+names_of kind.MissedMessageRequest = map (λ n. n.now) MISSED_MESSAGE_REQUEST
+names_of kind.MissedMessageRequestAck = map (λ n. n.now) MISSED_MESSAGE_REQUEST_ACK
+names_of kind.MissedMessageReport = map (λ n. n.now) MISSED_MESSAGE_REPORT
+names_of kind.Reject = map (λ n. n.now) REJECT
+names_of kind.NewOrder = map (λ n. n.now) NEW_ORDER
+names_of kind.OrderCancelRequest = map (λ n. n.now) ORDER_CANCEL_REQUEST
+names_of kind.OrderCancelReplaceRequest = map (λ n. n.now) ORDER_CANCEL_REPLACE_REQUEST
+names_of kind.OrderMassCancelRequest = map (λ n. n.now) ORDER_MASS_CANCEL_REQUEST
+names_of kind.ExecutionReport = map (λ n. n.now) EXECUTION_REPORT
+names_of kind.OrderCancelReject = map (λ n. n.now) ORDER_CANCEL_REJECT
+names_of kind.OrderMassCancelReport = map (λ n. n.now) ORDER_MASS_CANCEL_REPORT
