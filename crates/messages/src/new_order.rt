@@ -1,5 +1,5 @@
 // New Order: type D, 97 bytes.
-ghost use Rattle.std.specs.Prelude.{◌≡◌, ◌≤◌, length, refl};
+ghost use Rattle.std.specs.Prelude.{◌≡◌, ◌+◌, ◌≤◌, length, refl};
 ghost use Rattle.std.proofs.Common.{rules};
 ghost use Rattle.messages.specs.declared.new_order.TheConstants.{LETTER, TABLE, TOTAL};
 ghost use Rattle.codes.specs.Order.{order_type_code};
@@ -35,16 +35,22 @@ pub struct NewOrder<'a> {
     pub account: Text<'a, 10>,
     pub clearing_account: ClearingAccount,
     pub symbol: Text<'a, 6>,
+    /// The order's type, and its limit where it has one.
     pub pricing: Pricing,
     pub time_in_force: TimeInForce,
+    /// When the order is to end, where its time in force asks for that.
     pub expire_time: u32,
     pub side: Side,
+    /// In shares, as the next one is.
     pub quantity: i32,
+    /// How many of them are shown.
     pub display_quantity: i32,
     pub capacity: OrderCapacity,
     pub auto_cancel: AutoCancel,
     pub sub_type: OrderSubType,
+    /// The book, and for the dark one when the order takes part.
     pub target: Target,
+    /// The least that a trade may take, in shares; 0 where any will do.
     pub min_quantity: i32,
     pub passive_only: PassiveOnly,
 }
@@ -153,7 +159,7 @@ impl<'a> Framed<'a> for NewOrder<'a> {
         put_code(out, 58, &self.side);
         put_i32(out, 59, &self.quantity);
         put_i32(out, 63, &self.display_quantity);
-        put_limit(out, &self.pricing);
+        put_limit(out, 67, &self.pricing);
         put_code(out, 75, &self.capacity);
         put_code(out, 76, &self.auto_cancel);
         put_code(out, 77, &self.sub_type);
@@ -180,13 +186,13 @@ fn pricing_at(r: &Reader<'_>) -> Pricing
 }
 
 #[tactic(auto, unfolding(layout::specs::Writing::field_bytes, layout::specs::Layout::taken))]
-fn put_limit(out: &mut [u8], pricing: &Pricing)
-    requires { 75 ≤ length out.old }
-    ensures wrote { out.new ≡ over out.old 67 (field_bytes (field.When 67 form.Price 52 list.LimitOnly) (pricing_price pricing.now)) }
-    ensures holds { Holds (λ n. order_type_code (order_type_of pricing.now)) (field.When 67 form.Price 52 list.LimitOnly) (pricing_price pricing.now) }
+fn put_limit(out: &mut [u8], at: usize, pricing: &Pricing)
+    requires { at + 8 ≤ length out.old }
+    ensures wrote { out.new ≡ over out.old at (field_bytes (field.When at form.Price 52 list.LimitOnly) (pricing_price pricing.now)) }
+    ensures holds { Holds (λ n. order_type_code (order_type_of pricing.now)) (field.When at form.Price 52 list.LimitOnly) (pricing_price pricing.now) }
 {
     match pricing {
-        Pricing::Market => put_blank(out, 67, 8),
-        Pricing::Limit(price) => put_price(out, 67, price),
+        Pricing::Market => put_blank(out, at, 8),
+        Pricing::Limit(price) => put_price(out, at, price),
     }
 }
