@@ -3,14 +3,11 @@ ghost use Rattle.std.specs.Prelude.{◌≡◌, ◌+◌, ◌≤◌, length, refl}
 ghost use Rattle.std.proofs.Common.{rules};
 ghost use Rattle.messages.specs.declared.execution_report.TheConstants.{LETTER, TABLE, TOTAL};
 ghost use Rattle.codes.specs.Report.{exec_type_code};
-ghost use Rattle.codes.specs.declared.lists.Codes.TheVariants as list;
 ghost use Rattle.terms.specs.Execution.{kind_of};
-ghost use Rattle.layout.specs.declared.field.Field.TheVariants as field;
-ghost use Rattle.layout.specs.declared.field.Form.TheVariants as form;
 ghost use Rattle.layout.specs.Holding.{Holds};
 ghost use Rattle.layout.specs.Layout.{AllOk, Says};
 ghost use Rattle.layout.specs.Writing.{field_bytes, over};
-ghost use Rattle.messages.specs.Terms.{execution_contents, execution_fields, execution_liquidity, execution_reject, execution_trade};
+ghost use Rattle.messages.specs.Terms.{execution_contents, execution_fields, execution_liquidity, execution_reject, execution_trade, liquidity_field, reject_field, trade_field};
 
 use codes::lists::Codes;
 use codes::order::{Book, Side};
@@ -216,11 +213,12 @@ fn execution_at(r: &Reader<'_>) -> Execution
     }
 }
 
+// The reject code, or nulls.
 #[tactic(auto, unfolding(layout::specs::Writing::field_bytes, layout::specs::Layout::taken))]
 fn put_reject_code(out: &mut [u8], at: usize, execution: &Execution)
     requires { at + 4 ≤ length out.old }
-    ensures wrote { out.new ≡ over out.old at (field_bytes (field.When at form.Int32 53 list.RejectedOnly) (execution_reject execution.now)) }
-    ensures holds { Holds (λ n. exec_type_code (kind_of execution.now)) (field.When at form.Int32 53 list.RejectedOnly) (execution_reject execution.now) }
+    ensures wrote { out.new ≡ over out.old at (field_bytes (reject_field at) (execution_reject execution.now)) }
+    ensures holds { Holds (λ n. exec_type_code (kind_of execution.now)) (reject_field at) (execution_reject execution.now) }
 {
     match execution {
         Execution::Rejected(code) => put_i32(out, at, code),
@@ -228,11 +226,12 @@ fn put_reject_code(out: &mut [u8], at: usize, execution: &Execution)
     }
 }
 
+// Whether the trade added or removed liquidity, or a null.
 #[tactic(auto, unfolding(layout::specs::Writing::field_bytes, layout::specs::Layout::taken))]
 fn put_liquidity(out: &mut [u8], at: usize, execution: &Execution)
     requires { at + 1 ≤ length out.old }
-    ensures wrote { out.new ≡ over out.old at (field_bytes (field.When at (form.Code list.Liquidities) 53 list.TradeOrCancel) (execution_liquidity execution.now)) }
-    ensures holds { Holds (λ n. exec_type_code (kind_of execution.now)) (field.When at (form.Code list.Liquidities) 53 list.TradeOrCancel) (execution_liquidity execution.now) }
+    ensures wrote { out.new ≡ over out.old at (field_bytes (liquidity_field at) (execution_liquidity execution.now)) }
+    ensures holds { Holds (λ n. exec_type_code (kind_of execution.now)) (liquidity_field at) (execution_liquidity execution.now) }
 {
     match execution {
         Execution::Trade(liquidity, _) | Execution::TradeCancel(liquidity) => put_code(
@@ -242,11 +241,12 @@ fn put_liquidity(out: &mut [u8], at: usize, execution: &Execution)
     }
 }
 
+// Whether the executed part was shown, or a null.
 #[tactic(auto, unfolding(layout::specs::Writing::field_bytes, layout::specs::Layout::taken))]
 fn put_trade_type(out: &mut [u8], at: usize, execution: &Execution)
     requires { at + 1 ≤ length out.old }
-    ensures wrote { out.new ≡ over out.old at (field_bytes (field.When at (form.Code list.TradeTypes) 53 list.TradeOnly) (execution_trade execution.now)) }
-    ensures holds { Holds (λ n. exec_type_code (kind_of execution.now)) (field.When at (form.Code list.TradeTypes) 53 list.TradeOnly) (execution_trade execution.now) }
+    ensures wrote { out.new ≡ over out.old at (field_bytes (trade_field at) (execution_trade execution.now)) }
+    ensures holds { Holds (λ n. exec_type_code (kind_of execution.now)) (trade_field at) (execution_trade execution.now) }
 {
     match execution {
         Execution::Trade(_, trade_type) => put_code(out, at, trade_type),

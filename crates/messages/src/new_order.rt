@@ -3,14 +3,11 @@ ghost use Rattle.std.specs.Prelude.{◌≡◌, ◌+◌, ◌≤◌, length, refl}
 ghost use Rattle.std.proofs.Common.{rules};
 ghost use Rattle.messages.specs.declared.new_order.TheConstants.{LETTER, TABLE, TOTAL};
 ghost use Rattle.codes.specs.Order.{order_type_code};
-ghost use Rattle.codes.specs.declared.lists.Codes.TheVariants as list;
 ghost use Rattle.terms.specs.Pricing.{order_type_of};
-ghost use Rattle.layout.specs.declared.field.Field.TheVariants as field;
-ghost use Rattle.layout.specs.declared.field.Form.TheVariants as form;
 ghost use Rattle.layout.specs.Holding.{Holds};
 ghost use Rattle.layout.specs.Layout.{AllOk, Says};
 ghost use Rattle.layout.specs.Writing.{field_bytes, over};
-ghost use Rattle.messages.specs.Terms.{pricing_contents, pricing_fields, pricing_price};
+ghost use Rattle.messages.specs.Terms.{limit_field, pricing_contents, pricing_fields, pricing_price};
 
 use crate::target::{put_target, target_at};
 use codes::lists::Codes;
@@ -185,11 +182,12 @@ fn pricing_at(r: &Reader<'_>) -> Pricing
     }
 }
 
+// The limit, or nulls.
 #[tactic(auto, unfolding(layout::specs::Writing::field_bytes, layout::specs::Layout::taken))]
 fn put_limit(out: &mut [u8], at: usize, pricing: &Pricing)
     requires { at + 8 ≤ length out.old }
-    ensures wrote { out.new ≡ over out.old at (field_bytes (field.When at form.Price 52 list.LimitOnly) (pricing_price pricing.now)) }
-    ensures holds { Holds (λ n. order_type_code (order_type_of pricing.now)) (field.When at form.Price 52 list.LimitOnly) (pricing_price pricing.now) }
+    ensures wrote { out.new ≡ over out.old at (field_bytes (limit_field at) (pricing_price pricing.now)) }
+    ensures holds { Holds (λ n. order_type_code (order_type_of pricing.now)) (limit_field at) (pricing_price pricing.now) }
 {
     match pricing {
         Pricing::Market => put_blank(out, at, 8),

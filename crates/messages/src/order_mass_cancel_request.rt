@@ -113,15 +113,12 @@ impl<'a> Framed<'a> for OrderMassCancelRequest<'a> {
 
 impl<'a> Scope<'a> {
     ghost use Rattle.codes.specs.Order.{mass_cancel_type_code};
-    ghost use Rattle.codes.specs.declared.lists.Codes.TheVariants as list;
-    ghost use Rattle.layout.specs.declared.field.Field.TheVariants as field;
-    ghost use Rattle.layout.specs.declared.field.Form.TheVariants as form;
     ghost use Rattle.layout.specs.Holding.{Holds};
     ghost use Rattle.layout.specs.Layout.{AllOk, Says, text_places};
     ghost use Rattle.layout.specs.Writing.{field_bytes, over};
-    ghost use Rattle.messages.specs.Terms.{scope_book, scope_contents, scope_fields, scope_kind, scope_places, scope_segment, scope_symbol};
+    ghost use Rattle.messages.specs.Terms.{book_field, scope_book, scope_contents, scope_fields, scope_kind, scope_places, scope_segment, scope_symbol, segment_field, symbol_field};
 
-    /// The code of the kind of mass cancel.
+    /// The kind of mass cancel, as its field names it.
     pub fn kind(&self) -> MassCancelType
         ensures { result ≡ scope_kind self.now }
     {
@@ -135,6 +132,7 @@ impl<'a> Scope<'a> {
         }
     }
 
+    // The kind, and what belongs to it.
     #[tactic(auto, unfolding(layout::specs::Layout::taken))]
     fn at(r: &Reader<'a>) -> Scope<'a>
         requires room { 46 ≤ length r.now.src.now }
@@ -153,11 +151,12 @@ impl<'a> Scope<'a> {
         }
     }
 
+    // The symbol of a mass cancel by instrument, or nulls.
     #[tactic(auto, unfolding(layout::specs::Writing::field_bytes, layout::specs::Layout::taken))]
     fn put_symbol(&self, out: &mut [u8], at: usize)
         requires { at + 6 ≤ length out.old }
-        ensures wrote { out.new ≡ over out.old at (field_bytes (field.When at (form.Text 6) 24 list.ByInstrument) (scope_symbol self.now)) }
-        ensures holds { Holds (λ n. mass_cancel_type_code (scope_kind self.now)) (field.When at (form.Text 6) 24 list.ByInstrument) (scope_symbol self.now) }
+        ensures wrote { out.new ≡ over out.old at (field_bytes (symbol_field at) (scope_symbol self.now)) }
+        ensures holds { Holds (λ n. mass_cancel_type_code (scope_kind self.now)) (symbol_field at) (scope_symbol self.now) }
     {
         match self {
             Scope::FirmInstrument(symbol, _) | Scope::CompIdInstrument(symbol, _) => put_text(
@@ -167,11 +166,12 @@ impl<'a> Scope<'a> {
         }
     }
 
+    // The segment of a mass cancel by segment, or nulls.
     #[tactic(auto, unfolding(layout::specs::Writing::field_bytes, layout::specs::Layout::taken))]
     fn put_segment(&self, out: &mut [u8], at: usize)
         requires { at + 4 ≤ length out.old }
-        ensures wrote { out.new ≡ over out.old at (field_bytes (field.When at (form.Text 4) 24 list.BySegment) (scope_segment self.now)) }
-        ensures holds { Holds (λ n. mass_cancel_type_code (scope_kind self.now)) (field.When at (form.Text 4) 24 list.BySegment) (scope_segment self.now) }
+        ensures wrote { out.new ≡ over out.old at (field_bytes (segment_field at) (scope_segment self.now)) }
+        ensures holds { Holds (λ n. mass_cancel_type_code (scope_kind self.now)) (segment_field at) (scope_segment self.now) }
     {
         match self {
             Scope::FirmSegment(segment) | Scope::CompIdSegment(segment) => put_text(
@@ -181,11 +181,12 @@ impl<'a> Scope<'a> {
         }
     }
 
+    // The book of a mass cancel by instrument, or a null.
     #[tactic(auto, unfolding(layout::specs::Writing::field_bytes, layout::specs::Layout::taken))]
     fn put_book(&self, out: &mut [u8], at: usize)
         requires { at + 1 ≤ length out.old }
-        ensures wrote { out.new ≡ over out.old at (field_bytes (field.When at (form.Code list.Books) 24 list.ByInstrument) (scope_book self.now)) }
-        ensures holds { Holds (λ n. mass_cancel_type_code (scope_kind self.now)) (field.When at (form.Code list.Books) 24 list.ByInstrument) (scope_book self.now) }
+        ensures wrote { out.new ≡ over out.old at (field_bytes (book_field at) (scope_book self.now)) }
+        ensures holds { Holds (λ n. mass_cancel_type_code (scope_kind self.now)) (book_field at) (scope_book self.now) }
     {
         match self {
             Scope::FirmInstrument(_, book) | Scope::CompIdInstrument(_, book) => put_code(
