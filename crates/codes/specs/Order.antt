@@ -1,6 +1,5 @@
 -- The codes of an order's terms: each enum's values and their bytes. Assumes nothing.
-use Rattle.std.proofs.Common.{◌≡◌, ℕ, List, [], ◌∷◌, Some, ◌==◌, refl, codes}
-use Rattle.std.specs.List.{find}
+use Rattle.std.specs.Prelude.{ℕ, List, [], ◌∷◌, codes}
 use Rattle.codes.specs.declared.order.Side.{Side}
 use Rattle.codes.specs.declared.order.Side.TheVariants as side
 use Rattle.codes.specs.declared.order.OrderType.{OrderType}
@@ -32,10 +31,6 @@ abbrev pub side_code : Side → ℕ
 side_code side.Buy = 1
 side_code side.Sell = 2
 
-pub side_found : (x : Side) → find (λ y. side_code x == side_code y) sides ≡ Some x
-side_found side.Buy = refl
-side_found side.Sell = refl
-
 -- the word for it
 abbrev pub side_text : Side → List ℕ
 side_text side.Buy = codes "buy"
@@ -48,10 +43,6 @@ order_types = order_type.Market ∷ order_type.Limit ∷ []
 abbrev pub order_type_code : OrderType → ℕ
 order_type_code order_type.Market = 1
 order_type_code order_type.Limit = 2
-
-pub order_type_found : (x : OrderType) → find (λ y. order_type_code x == order_type_code y) order_types ≡ Some x
-order_type_found order_type.Market = refl
-order_type_found order_type.Limit = refl
 
 -- how long an order stays
 abbrev pub times_in_force : List TimeInForce
@@ -67,14 +58,6 @@ time_in_force_code time_in_force.FillOrKill = 4
 time_in_force_code time_in_force.GoodTillDate = 6
 time_in_force_code time_in_force.GoodTillTime = 8
 
-pub time_in_force_found : (x : TimeInForce) → find (λ y. time_in_force_code x == time_in_force_code y) times_in_force ≡ Some x
-time_in_force_found time_in_force.Day = refl
-time_in_force_found time_in_force.GoodTillCancel = refl
-time_in_force_found time_in_force.ImmediateOrCancel = refl
-time_in_force_found time_in_force.FillOrKill = refl
-time_in_force_found time_in_force.GoodTillDate = refl
-time_in_force_found time_in_force.GoodTillTime = refl
-
 -- whose account clears a trade
 abbrev pub clearing_accounts : List ClearingAccount
 clearing_accounts = clearing_account.Client ∷ clearing_account.House ∷ []
@@ -82,10 +65,6 @@ clearing_accounts = clearing_account.Client ∷ clearing_account.House ∷ []
 abbrev pub clearing_account_code : ClearingAccount → ℕ
 clearing_account_code clearing_account.Client = 1
 clearing_account_code clearing_account.House = 3
-
-pub clearing_account_found : (x : ClearingAccount) → find (λ y. clearing_account_code x == clearing_account_code y) clearing_accounts ≡ Some x
-clearing_account_found clearing_account.Client = refl
-clearing_account_found clearing_account.House = refl
 
 -- in which capacity a firm enters an order
 abbrev pub order_capacities : List OrderCapacity
@@ -99,12 +78,6 @@ order_capacity_code order_capacity.Principal = 2
 order_capacity_code order_capacity.Agency = 3
 order_capacity_code order_capacity.CfdGiveUp = 4
 
-pub order_capacity_found : (x : OrderCapacity) → find (λ y. order_capacity_code x == order_capacity_code y) order_capacities ≡ Some x
-order_capacity_found order_capacity.RisklessPrincipal = refl
-order_capacity_found order_capacity.Principal = refl
-order_capacity_found order_capacity.Agency = refl
-order_capacity_found order_capacity.CfdGiveUp = refl
-
 -- whether an order is marked to end with the line; if so, the CompID's configuration decides
 abbrev pub auto_cancels : List AutoCancel
 auto_cancels = auto_cancel.Keep ∷ auto_cancel.AsConfigured ∷ []
@@ -113,19 +86,12 @@ abbrev pub auto_cancel_code : AutoCancel → ℕ
 auto_cancel_code auto_cancel.Keep = 0
 auto_cancel_code auto_cancel.AsConfigured = 1
 
-pub auto_cancel_found : (x : AutoCancel) → find (λ y. auto_cancel_code x == auto_cancel_code y) auto_cancels ≡ Some x
-auto_cancel_found auto_cancel.Keep = refl
-auto_cancel_found auto_cancel.AsConfigured = refl
-
 -- the one kind of request that a New Order makes
 abbrev pub order_sub_types : List OrderSubType
 order_sub_types = order_sub_type.Order ∷ []
 
 abbrev pub order_sub_type_code : OrderSubType → ℕ
 order_sub_type_code order_sub_type.Order = 0
-
-pub order_sub_type_found : (x : OrderSubType) → find (λ y. order_sub_type_code x == order_sub_type_code y) order_sub_types ≡ Some x
-order_sub_type_found order_sub_type.Order = refl
 
 -- the book that an order is for
 abbrev pub books : List Book
@@ -134,10 +100,6 @@ books = book.DarkMidpoint ∷ book.Integrated ∷ []
 abbrev pub book_code : Book → ℕ
 book_code book.DarkMidpoint = 0
 book_code book.Integrated = 1
-
-pub book_found : (x : Book) → find (λ y. book_code x == book_code y) books ≡ Some x
-book_found book.DarkMidpoint = refl
-book_found book.Integrated = refl
 
 -- when an order of the dark book takes part
 abbrev pub exec_instructions : List ExecInstruction
@@ -149,11 +111,6 @@ abbrev pub exec_instruction_code : ExecInstruction → ℕ
 exec_instruction_code exec_instruction.ContinuousAndPeriodic = 0
 exec_instruction_code exec_instruction.PeriodicOnly = 1
 exec_instruction_code exec_instruction.ContinuousOnly = 2
-
-pub exec_instruction_found : (x : ExecInstruction) → find (λ y. exec_instruction_code x == exec_instruction_code y) exec_instructions ≡ Some x
-exec_instruction_found exec_instruction.ContinuousAndPeriodic = refl
-exec_instruction_found exec_instruction.PeriodicOnly = refl
-exec_instruction_found exec_instruction.ContinuousOnly = refl
 
 -- whether an order must rest, and how near the best price
 abbrev pub passive_onlys : List PassiveOnly
@@ -169,14 +126,6 @@ passive_only_code passive_only.WithinTwoPoints = 3
 passive_only_code passive_only.RestOnEntry = 99
 passive_only_code passive_only.SetBest = 100
 
-pub passive_only_found : (x : PassiveOnly) → find (λ y. passive_only_code x == passive_only_code y) passive_onlys ≡ Some x
-passive_only_found passive_only.NoConstraint = refl
-passive_only_found passive_only.SetOrJoinBest = refl
-passive_only_found passive_only.WithinOnePoint = refl
-passive_only_found passive_only.WithinTwoPoints = refl
-passive_only_found passive_only.RestOnEntry = refl
-passive_only_found passive_only.SetBest = refl
-
 -- which orders a mass cancel takes
 abbrev pub mass_cancel_types : List MassCancelType
 mass_cancel_types =
@@ -190,11 +139,3 @@ mass_cancel_type_code mass_cancel_type.CompId = 7
 mass_cancel_type_code mass_cancel_type.Firm = 8
 mass_cancel_type_code mass_cancel_type.CompIdInstrument = 9
 mass_cancel_type_code mass_cancel_type.CompIdSegment = 15
-
-pub mass_cancel_type_found : (x : MassCancelType) → find (λ y. mass_cancel_type_code x == mass_cancel_type_code y) mass_cancel_types ≡ Some x
-mass_cancel_type_found mass_cancel_type.FirmInstrument = refl
-mass_cancel_type_found mass_cancel_type.FirmSegment = refl
-mass_cancel_type_found mass_cancel_type.CompId = refl
-mass_cancel_type_found mass_cancel_type.Firm = refl
-mass_cancel_type_found mass_cancel_type.CompIdInstrument = refl
-mass_cancel_type_found mass_cancel_type.CompIdSegment = refl

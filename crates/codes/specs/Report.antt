@@ -1,6 +1,5 @@
 -- The codes of reports: each enum's values and their bytes. `Unspecified` is a null byte. Assumes nothing.
-use Rattle.std.proofs.Common.{◌≡◌, ℕ, List, [], ◌∷◌, Some, ◌==◌, refl}
-use Rattle.std.specs.List.{find}
+use Rattle.std.specs.Prelude.{ℕ, List, [], ◌∷◌}
 use Rattle.codes.specs.declared.report.ExecType.{ExecType}
 use Rattle.codes.specs.declared.report.ExecType.TheVariants as exec_type
 use Rattle.codes.specs.declared.report.Status.{Status}
@@ -33,17 +32,6 @@ exec_type_code exec_type.Restated = 68
 exec_type_code exec_type.Trade = 70
 exec_type_code exec_type.TradeCancel = 72
 
-pub exec_type_found : (x : ExecType) → find (λ y. exec_type_code x == exec_type_code y) exec_types ≡ Some x
-exec_type_found exec_type.Unspecified = refl
-exec_type_found exec_type.New = refl
-exec_type_found exec_type.Cancelled = refl
-exec_type_found exec_type.Replaced = refl
-exec_type_found exec_type.Rejected = refl
-exec_type_found exec_type.Expired = refl
-exec_type_found exec_type.Restated = refl
-exec_type_found exec_type.Trade = refl
-exec_type_found exec_type.TradeCancel = refl
-
 -- the status of an order
 abbrev pub statuses : List Status
 statuses =
@@ -58,14 +46,6 @@ status_code status.Cancelled = 4
 status_code status.Expired = 6
 status_code status.Rejected = 8
 
-pub status_found : (x : Status) → find (λ y. status_code x == status_code y) statuses ≡ Some x
-status_found status.New = refl
-status_found status.PartiallyFilled = refl
-status_found status.Filled = refl
-status_found status.Cancelled = refl
-status_found status.Expired = refl
-status_found status.Rejected = refl
-
 -- whether a fill added or removed liquidity
 abbrev pub liquidities : List Liquidity
 liquidities = liquidity.Unspecified ∷ liquidity.Added ∷ liquidity.Uncrossing ∷ liquidity.Removed ∷ []
@@ -76,12 +56,6 @@ liquidity_code liquidity.Added = 65
 liquidity_code liquidity.Uncrossing = 67
 liquidity_code liquidity.Removed = 82
 
-pub liquidity_found : (x : Liquidity) → find (λ y. liquidity_code x == liquidity_code y) liquidities ≡ Some x
-liquidity_found liquidity.Unspecified = refl
-liquidity_found liquidity.Added = refl
-liquidity_found liquidity.Uncrossing = refl
-liquidity_found liquidity.Removed = refl
-
 -- whether the executed part was shown
 abbrev pub trade_types : List TradeType
 trade_types = trade_type.Visible ∷ trade_type.Hidden ∷ []
@@ -89,10 +63,6 @@ trade_types = trade_type.Visible ∷ trade_type.Hidden ∷ []
 abbrev pub trade_type_code : TradeType → ℕ
 trade_type_code trade_type.Visible = 0
 trade_type_code trade_type.Hidden = 1
-
-pub trade_type_found : (x : TradeType) → find (λ y. trade_type_code x == trade_type_code y) trade_types ≡ Some x
-trade_type_found trade_type.Visible = refl
-trade_type_found trade_type.Hidden = refl
 
 -- the capacity that a report tells
 abbrev pub capacities : List Capacity
@@ -102,11 +72,6 @@ abbrev pub capacity_code : Capacity → ℕ
 capacity_code capacity.RisklessPrincipal = 1
 capacity_code capacity.Principal = 2
 capacity_code capacity.Agency = 3
-
-pub capacity_found : (x : Capacity) → find (λ y. capacity_code x == capacity_code y) capacities ≡ Some x
-capacity_found capacity.RisklessPrincipal = refl
-capacity_found capacity.Principal = refl
-capacity_found capacity.Agency = refl
 
 -- how an order's price stands to the best one
 abbrev pub price_differentials : List PriceDifferential
@@ -131,21 +96,6 @@ price_differential_code price_differential.Aggressive = 65
 price_differential_code price_differential.NewBest = 66
 price_differential_code price_differential.Passive = 80
 
-pub price_differential_found : (x : PriceDifferential) → find (λ y. price_differential_code x == price_differential_code y) price_differentials ≡ Some x
-price_differential_found price_differential.Unspecified = refl
-price_differential_found price_differential.JoinBest = refl
-price_differential_found price_differential.Second = refl
-price_differential_found price_differential.Third = refl
-price_differential_found price_differential.Fourth = refl
-price_differential_found price_differential.Fifth = refl
-price_differential_found price_differential.Sixth = refl
-price_differential_found price_differential.Seventh = refl
-price_differential_found price_differential.Eighth = refl
-price_differential_found price_differential.NinthOrWorse = refl
-price_differential_found price_differential.Aggressive = refl
-price_differential_found price_differential.NewBest = refl
-price_differential_found price_differential.Passive = refl
-
 -- whether a mass cancel was accepted
 abbrev pub mass_responses : List MassResponse
 mass_responses = mass_response.Rejected ∷ mass_response.Accepted ∷ []
@@ -153,7 +103,3 @@ mass_responses = mass_response.Rejected ∷ mass_response.Accepted ∷ []
 abbrev pub mass_response_code : MassResponse → ℕ
 mass_response_code mass_response.Rejected = 0
 mass_response_code mass_response.Accepted = 7
-
-pub mass_response_found : (x : MassResponse) → find (λ y. mass_response_code x == mass_response_code y) mass_responses ≡ Some x
-mass_response_found mass_response.Rejected = refl
-mass_response_found mass_response.Accepted = refl

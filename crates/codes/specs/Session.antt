@@ -1,6 +1,5 @@
 -- The codes of sessions and of downloads: each enum's values and their bytes. Assumes nothing.
-use Rattle.std.proofs.Common.{◌≡◌, ℕ, List, [], ◌∷◌, Some, ◌==◌, refl}
-use Rattle.std.specs.List.{find}
+use Rattle.std.specs.Prelude.{ℕ, List, [], ◌∷◌}
 use Rattle.codes.specs.declared.session.Version.{Version}
 use Rattle.codes.specs.declared.session.Version.TheVariants as version
 use Rattle.codes.specs.declared.session.Partition.{Partition}
@@ -17,9 +16,6 @@ versions = version.One ∷ []
 abbrev pub version_code : Version → ℕ
 version_code version.One = 1
 
-pub version_found : (x : Version) → find (λ y. version_code x == version_code y) versions ≡ Some x
-version_found version.One = refl
-
 -- a part of the matching system, with sequence numbers of its own
 abbrev pub partitions : List Partition
 partitions = partition.One ∷ partition.Two ∷ partition.Three ∷ []
@@ -28,11 +24,6 @@ abbrev pub partition_code : Partition → ℕ
 partition_code partition.One = 1
 partition_code partition.Two = 2
 partition_code partition.Three = 3
-
-pub partition_found : (x : Partition) → find (λ y. partition_code x == partition_code y) partitions ≡ Some x
-partition_found partition.One = refl
-partition_found partition.Two = refl
-partition_found partition.Three = refl
 
 -- the answer to a Missed Message Request
 abbrev pub ack_responses : List AckResponse
@@ -46,12 +37,6 @@ ack_response_code ack_response.LimitReached = 1
 ack_response_code ack_response.InvalidAppId = 2
 ack_response_code ack_response.ServiceUnavailable = 3
 
-pub ack_response_found : (x : AckResponse) → find (λ y. ack_response_code x == ack_response_code y) ack_responses ≡ Some x
-ack_response_found ack_response.Successful = refl
-ack_response_found ack_response.LimitReached = refl
-ack_response_found ack_response.InvalidAppId = refl
-ack_response_found ack_response.ServiceUnavailable = refl
-
 -- how a download ended
 abbrev pub report_responses : List ReportResponse
 report_responses = report_response.Complete ∷ report_response.MessageLimit ∷ report_response.ServiceUnavailable ∷ []
@@ -60,8 +45,3 @@ abbrev pub report_response_code : ReportResponse → ℕ
 report_response_code report_response.Complete = 0
 report_response_code report_response.MessageLimit = 1
 report_response_code report_response.ServiceUnavailable = 3
-
-pub report_response_found : (x : ReportResponse) → find (λ y. report_response_code x == report_response_code y) report_responses ≡ Some x
-report_response_found report_response.Complete = refl
-report_response_found report_response.MessageLimit = refl
-report_response_found report_response.ServiceUnavailable = refl

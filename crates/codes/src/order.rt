@@ -1,7 +1,7 @@
 // The codes of an order's terms.
 ghost use Rattle.std.specs.Prelude.{◌≡◌, ℕ, true, false, Some};
 ghost use Rattle.codes.specs.Order.{side_text};
-ghost use Rattle.codes.specs.Member.{listed_of_found, same_of_found};
+ghost use Rattle.std.proofs.Common.{arith};
 ghost use Rattle.codes.specs.declared.lists.Codes.TheVariants as lists;
 
 use crate::code::Code;
@@ -15,15 +15,15 @@ pub enum Side {
 }
 
 impl Code for Side {
-    ghost use Rattle.codes.specs.Order.{side_code, side_found, sides};
+    ghost use Rattle.codes.specs.Order.{side_code};
 
     ghost list = { lists.Sides };
 
     ghost coded = { λ x. side_code x };
 
-    ghost every = { λ x. listed_of_found side_code sides x (side_found x) };
+    ghost every = { λ x. Prim.grind arith };
 
-    ghost one = { λ x y. same_of_found side_code sides x y (side_found x) (side_found y) };
+    ghost one = { λ x y h. Prim.grind arith };
 
     fn of(byte: u8) -> Option<Side> {
         match byte {
@@ -66,15 +66,15 @@ pub enum OrderType {
 }
 
 impl Code for OrderType {
-    ghost use Rattle.codes.specs.Order.{order_type_code, order_type_found, order_types};
+    ghost use Rattle.codes.specs.Order.{order_type_code};
 
     ghost list = { lists.OrderTypes };
 
     ghost coded = { λ x. order_type_code x };
 
-    ghost every = { λ x. listed_of_found order_type_code order_types x (order_type_found x) };
+    ghost every = { λ x. Prim.grind arith };
 
-    ghost one = { λ x y. same_of_found order_type_code order_types x y (order_type_found x) (order_type_found y) };
+    ghost one = { λ x y h. Prim.grind arith };
 
     fn of(byte: u8) -> Option<OrderType> {
         match byte {
@@ -101,15 +101,15 @@ pub enum TimeInForce {
 }
 
 impl Code for TimeInForce {
-    ghost use Rattle.codes.specs.Order.{time_in_force_code, time_in_force_found, times_in_force};
+    ghost use Rattle.codes.specs.Order.{time_in_force_code};
 
     ghost list = { lists.TimesInForce };
 
     ghost coded = { λ x. time_in_force_code x };
 
-    ghost every = { λ x. listed_of_found time_in_force_code times_in_force x (time_in_force_found x) };
+    ghost every = { λ x. Prim.grind arith };
 
-    ghost one = { λ x y. same_of_found time_in_force_code times_in_force x y (time_in_force_found x) (time_in_force_found y) };
+    ghost one = { λ x y h. Prim.grind arith };
 
     fn of(byte: u8) -> Option<TimeInForce> {
         match byte {
@@ -136,15 +136,15 @@ pub enum ClearingAccount {
 }
 
 impl Code for ClearingAccount {
-    ghost use Rattle.codes.specs.Order.{clearing_account_code, clearing_account_found, clearing_accounts};
+    ghost use Rattle.codes.specs.Order.{clearing_account_code};
 
     ghost list = { lists.ClearingAccounts };
 
     ghost coded = { λ x. clearing_account_code x };
 
-    ghost every = { λ x. listed_of_found clearing_account_code clearing_accounts x (clearing_account_found x) };
+    ghost every = { λ x. Prim.grind arith };
 
-    ghost one = { λ x y. same_of_found clearing_account_code clearing_accounts x y (clearing_account_found x) (clearing_account_found y) };
+    ghost one = { λ x y h. Prim.grind arith };
 
     fn of(byte: u8) -> Option<ClearingAccount> {
         match byte {
@@ -169,15 +169,15 @@ pub enum OrderCapacity {
 }
 
 impl Code for OrderCapacity {
-    ghost use Rattle.codes.specs.Order.{order_capacity_code, order_capacity_found, order_capacities};
+    ghost use Rattle.codes.specs.Order.{order_capacity_code};
 
     ghost list = { lists.OrderCapacities };
 
     ghost coded = { λ x. order_capacity_code x };
 
-    ghost every = { λ x. listed_of_found order_capacity_code order_capacities x (order_capacity_found x) };
+    ghost every = { λ x. Prim.grind arith };
 
-    ghost one = { λ x y. same_of_found order_capacity_code order_capacities x y (order_capacity_found x) (order_capacity_found y) };
+    ghost one = { λ x y h. Prim.grind arith };
 
     fn of(byte: u8) -> Option<OrderCapacity> {
         match byte {
@@ -202,15 +202,15 @@ pub enum AutoCancel {
 }
 
 impl Code for AutoCancel {
-    ghost use Rattle.codes.specs.Order.{auto_cancel_code, auto_cancel_found, auto_cancels};
+    ghost use Rattle.codes.specs.Order.{auto_cancel_code};
 
     ghost list = { lists.AutoCancels };
 
     ghost coded = { λ x. auto_cancel_code x };
 
-    ghost every = { λ x. listed_of_found auto_cancel_code auto_cancels x (auto_cancel_found x) };
+    ghost every = { λ x. Prim.grind arith };
 
-    ghost one = { λ x y. same_of_found auto_cancel_code auto_cancels x y (auto_cancel_found x) (auto_cancel_found y) };
+    ghost one = { λ x y h. Prim.grind arith };
 
     fn of(byte: u8) -> Option<AutoCancel> {
         match byte {
@@ -232,15 +232,15 @@ pub enum OrderSubType {
 }
 
 impl Code for OrderSubType {
-    ghost use Rattle.codes.specs.Order.{order_sub_type_code, order_sub_type_found, order_sub_types};
+    ghost use Rattle.codes.specs.Order.{order_sub_type_code};
 
     ghost list = { lists.OrderSubTypes };
 
     ghost coded = { λ x. order_sub_type_code x };
 
-    ghost every = { λ x. listed_of_found order_sub_type_code order_sub_types x (order_sub_type_found x) };
+    ghost every = { λ x. Prim.grind arith };
 
-    ghost one = { λ x y. same_of_found order_sub_type_code order_sub_types x y (order_sub_type_found x) (order_sub_type_found y) };
+    ghost one = { λ x y h. Prim.grind arith };
 
     fn of(byte: u8) -> Option<OrderSubType> {
         match byte {
@@ -262,15 +262,15 @@ pub enum Book {
 }
 
 impl Code for Book {
-    ghost use Rattle.codes.specs.Order.{book_code, book_found, books};
+    ghost use Rattle.codes.specs.Order.{book_code};
 
     ghost list = { lists.Books };
 
     ghost coded = { λ x. book_code x };
 
-    ghost every = { λ x. listed_of_found book_code books x (book_found x) };
+    ghost every = { λ x. Prim.grind arith };
 
-    ghost one = { λ x y. same_of_found book_code books x y (book_found x) (book_found y) };
+    ghost one = { λ x y h. Prim.grind arith };
 
     fn of(byte: u8) -> Option<Book> {
         match byte {
@@ -294,15 +294,15 @@ pub enum ExecInstruction {
 }
 
 impl Code for ExecInstruction {
-    ghost use Rattle.codes.specs.Order.{exec_instruction_code, exec_instruction_found, exec_instructions};
+    ghost use Rattle.codes.specs.Order.{exec_instruction_code};
 
     ghost list = { lists.ExecInstructions };
 
     ghost coded = { λ x. exec_instruction_code x };
 
-    ghost every = { λ x. listed_of_found exec_instruction_code exec_instructions x (exec_instruction_found x) };
+    ghost every = { λ x. Prim.grind arith };
 
-    ghost one = { λ x y. same_of_found exec_instruction_code exec_instructions x y (exec_instruction_found x) (exec_instruction_found y) };
+    ghost one = { λ x y h. Prim.grind arith };
 
     fn of(byte: u8) -> Option<ExecInstruction> {
         match byte {
@@ -330,15 +330,15 @@ pub enum PassiveOnly {
 }
 
 impl Code for PassiveOnly {
-    ghost use Rattle.codes.specs.Order.{passive_only_code, passive_only_found, passive_onlys};
+    ghost use Rattle.codes.specs.Order.{passive_only_code};
 
     ghost list = { lists.PassiveOnlys };
 
     ghost coded = { λ x. passive_only_code x };
 
-    ghost every = { λ x. listed_of_found passive_only_code passive_onlys x (passive_only_found x) };
+    ghost every = { λ x. Prim.grind arith };
 
-    ghost one = { λ x y. same_of_found passive_only_code passive_onlys x y (passive_only_found x) (passive_only_found y) };
+    ghost one = { λ x y h. Prim.grind arith };
 
     fn of(byte: u8) -> Option<PassiveOnly> {
         match byte {
@@ -369,15 +369,15 @@ pub enum MassCancelType {
 }
 
 impl Code for MassCancelType {
-    ghost use Rattle.codes.specs.Order.{mass_cancel_type_code, mass_cancel_type_found, mass_cancel_types};
+    ghost use Rattle.codes.specs.Order.{mass_cancel_type_code};
 
     ghost list = { lists.MassCancelTypes };
 
     ghost coded = { λ x. mass_cancel_type_code x };
 
-    ghost every = { λ x. listed_of_found mass_cancel_type_code mass_cancel_types x (mass_cancel_type_found x) };
+    ghost every = { λ x. Prim.grind arith };
 
-    ghost one = { λ x y. same_of_found mass_cancel_type_code mass_cancel_types x y (mass_cancel_type_found x) (mass_cancel_type_found y) };
+    ghost one = { λ x y h. Prim.grind arith };
 
     fn of(byte: u8) -> Option<MassCancelType> {
         match byte {

@@ -1,6 +1,6 @@
 // The codes of reports. `Unspecified` is a null byte.
 ghost use Rattle.std.specs.Prelude.{◌≡◌, ℕ, true, false};
-ghost use Rattle.codes.specs.Member.{listed_of_found, same_of_found};
+ghost use Rattle.std.proofs.Common.{arith};
 ghost use Rattle.codes.specs.declared.lists.Codes.TheVariants as lists;
 
 use crate::code::Code;
@@ -20,15 +20,15 @@ pub enum ExecType {
 }
 
 impl Code for ExecType {
-    ghost use Rattle.codes.specs.Report.{exec_type_code, exec_type_found, exec_types};
+    ghost use Rattle.codes.specs.Report.{exec_type_code};
 
     ghost list = { lists.ExecTypes };
 
     ghost coded = { λ x. exec_type_code x };
 
-    ghost every = { λ x. listed_of_found exec_type_code exec_types x (exec_type_found x) };
+    ghost every = { λ x. Prim.grind arith };
 
-    ghost one = { λ x y. same_of_found exec_type_code exec_types x y (exec_type_found x) (exec_type_found y) };
+    ghost one = { λ x y h. Prim.grind arith };
 
     fn of(byte: u8) -> Option<ExecType> {
         match byte {
@@ -62,15 +62,15 @@ pub enum Status {
 }
 
 impl Code for Status {
-    ghost use Rattle.codes.specs.Report.{status_code, status_found, statuses};
+    ghost use Rattle.codes.specs.Report.{status_code};
 
     ghost list = { lists.Statuses };
 
     ghost coded = { λ x. status_code x };
 
-    ghost every = { λ x. listed_of_found status_code statuses x (status_found x) };
+    ghost every = { λ x. Prim.grind arith };
 
-    ghost one = { λ x y. same_of_found status_code statuses x y (status_found x) (status_found y) };
+    ghost one = { λ x y h. Prim.grind arith };
 
     fn of(byte: u8) -> Option<Status> {
         match byte {
@@ -99,15 +99,15 @@ pub enum Liquidity {
 }
 
 impl Code for Liquidity {
-    ghost use Rattle.codes.specs.Report.{liquidity_code, liquidity_found, liquidities};
+    ghost use Rattle.codes.specs.Report.{liquidity_code};
 
     ghost list = { lists.Liquidities };
 
     ghost coded = { λ x. liquidity_code x };
 
-    ghost every = { λ x. listed_of_found liquidity_code liquidities x (liquidity_found x) };
+    ghost every = { λ x. Prim.grind arith };
 
-    ghost one = { λ x y. same_of_found liquidity_code liquidities x y (liquidity_found x) (liquidity_found y) };
+    ghost one = { λ x y h. Prim.grind arith };
 
     fn of(byte: u8) -> Option<Liquidity> {
         match byte {
@@ -132,15 +132,15 @@ pub enum TradeType {
 }
 
 impl Code for TradeType {
-    ghost use Rattle.codes.specs.Report.{trade_type_code, trade_type_found, trade_types};
+    ghost use Rattle.codes.specs.Report.{trade_type_code};
 
     ghost list = { lists.TradeTypes };
 
     ghost coded = { λ x. trade_type_code x };
 
-    ghost every = { λ x. listed_of_found trade_type_code trade_types x (trade_type_found x) };
+    ghost every = { λ x. Prim.grind arith };
 
-    ghost one = { λ x y. same_of_found trade_type_code trade_types x y (trade_type_found x) (trade_type_found y) };
+    ghost one = { λ x y h. Prim.grind arith };
 
     fn of(byte: u8) -> Option<TradeType> {
         match byte {
@@ -164,15 +164,15 @@ pub enum Capacity {
 }
 
 impl Code for Capacity {
-    ghost use Rattle.codes.specs.Report.{capacity_code, capacity_found, capacities};
+    ghost use Rattle.codes.specs.Report.{capacity_code};
 
     ghost list = { lists.Capacities };
 
     ghost coded = { λ x. capacity_code x };
 
-    ghost every = { λ x. listed_of_found capacity_code capacities x (capacity_found x) };
+    ghost every = { λ x. Prim.grind arith };
 
-    ghost one = { λ x y. same_of_found capacity_code capacities x y (capacity_found x) (capacity_found y) };
+    ghost one = { λ x y h. Prim.grind arith };
 
     fn of(byte: u8) -> Option<Capacity> {
         match byte {
@@ -207,15 +207,15 @@ pub enum PriceDifferential {
 }
 
 impl Code for PriceDifferential {
-    ghost use Rattle.codes.specs.Report.{price_differential_code, price_differential_found, price_differentials};
+    ghost use Rattle.codes.specs.Report.{price_differential_code};
 
     ghost list = { lists.PriceDifferentials };
 
     ghost coded = { λ x. price_differential_code x };
 
-    ghost every = { λ x. listed_of_found price_differential_code price_differentials x (price_differential_found x) };
+    ghost every = { λ x. Prim.grind arith };
 
-    ghost one = { λ x y. same_of_found price_differential_code price_differentials x y (price_differential_found x) (price_differential_found y) };
+    ghost one = { λ x y h. Prim.grind arith };
 
     fn of(byte: u8) -> Option<PriceDifferential> {
         match byte {
@@ -249,15 +249,15 @@ pub enum MassResponse {
 }
 
 impl Code for MassResponse {
-    ghost use Rattle.codes.specs.Report.{mass_response_code, mass_response_found, mass_responses};
+    ghost use Rattle.codes.specs.Report.{mass_response_code};
 
     ghost list = { lists.MassResponses };
 
     ghost coded = { λ x. mass_response_code x };
 
-    ghost every = { λ x. listed_of_found mass_response_code mass_responses x (mass_response_found x) };
+    ghost every = { λ x. Prim.grind arith };
 
-    ghost one = { λ x y. same_of_found mass_response_code mass_responses x y (mass_response_found x) (mass_response_found y) };
+    ghost one = { λ x y h. Prim.grind arith };
 
     fn of(byte: u8) -> Option<MassResponse> {
         match byte {

@@ -1,6 +1,6 @@
 // The codes of sessions and of downloads.
 ghost use Rattle.std.specs.Prelude.{◌≡◌, ℕ, true, false};
-ghost use Rattle.codes.specs.Member.{listed_of_found, same_of_found};
+ghost use Rattle.std.proofs.Common.{arith};
 ghost use Rattle.codes.specs.declared.lists.Codes.TheVariants as lists;
 
 use crate::code::Code;
@@ -12,15 +12,15 @@ pub enum Version {
 }
 
 impl Code for Version {
-    ghost use Rattle.codes.specs.Session.{version_code, version_found, versions};
+    ghost use Rattle.codes.specs.Session.{version_code};
 
     ghost list = { lists.Versions };
 
     ghost coded = { λ x. version_code x };
 
-    ghost every = { λ x. listed_of_found version_code versions x (version_found x) };
+    ghost every = { λ x. Prim.grind arith };
 
-    ghost one = { λ x y. same_of_found version_code versions x y (version_found x) (version_found y) };
+    ghost one = { λ x y h. Prim.grind arith };
 
     fn of(byte: u8) -> Option<Version> {
         match byte {
@@ -43,15 +43,15 @@ pub enum Partition {
 }
 
 impl Code for Partition {
-    ghost use Rattle.codes.specs.Session.{partition_code, partition_found, partitions};
+    ghost use Rattle.codes.specs.Session.{partition_code};
 
     ghost list = { lists.Partitions };
 
     ghost coded = { λ x. partition_code x };
 
-    ghost every = { λ x. listed_of_found partition_code partitions x (partition_found x) };
+    ghost every = { λ x. Prim.grind arith };
 
-    ghost one = { λ x y. same_of_found partition_code partitions x y (partition_found x) (partition_found y) };
+    ghost one = { λ x y h. Prim.grind arith };
 
     fn of(byte: u8) -> Option<Partition> {
         match byte {
@@ -77,15 +77,15 @@ pub enum AckResponse {
 }
 
 impl Code for AckResponse {
-    ghost use Rattle.codes.specs.Session.{ack_response_code, ack_response_found, ack_responses};
+    ghost use Rattle.codes.specs.Session.{ack_response_code};
 
     ghost list = { lists.AckResponses };
 
     ghost coded = { λ x. ack_response_code x };
 
-    ghost every = { λ x. listed_of_found ack_response_code ack_responses x (ack_response_found x) };
+    ghost every = { λ x. Prim.grind arith };
 
-    ghost one = { λ x y. same_of_found ack_response_code ack_responses x y (ack_response_found x) (ack_response_found y) };
+    ghost one = { λ x y h. Prim.grind arith };
 
     fn of(byte: u8) -> Option<AckResponse> {
         match byte {
@@ -111,15 +111,15 @@ pub enum ReportResponse {
 }
 
 impl Code for ReportResponse {
-    ghost use Rattle.codes.specs.Session.{report_response_code, report_response_found, report_responses};
+    ghost use Rattle.codes.specs.Session.{report_response_code};
 
     ghost list = { lists.ReportResponses };
 
     ghost coded = { λ x. report_response_code x };
 
-    ghost every = { λ x. listed_of_found report_response_code report_responses x (report_response_found x) };
+    ghost every = { λ x. Prim.grind arith };
 
-    ghost one = { λ x y. same_of_found report_response_code report_responses x y (report_response_found x) (report_response_found y) };
+    ghost one = { λ x y h. Prim.grind arith };
 
     fn of(byte: u8) -> Option<ReportResponse> {
         match byte {

@@ -29,8 +29,11 @@ abbrev pub pricing_price : Pricing → Content
 pricing_price Market = nothing
 pricing_price (Limit p) = price p.raw
 
+abbrev pub limit_field : ℕ → Field
+limit_field at = When at form.Price 52 list.LimitOnly
+
 abbrev pub pricing_fields : List Field
-pricing_fields = Always 52 (form.Code list.OrderTypes) ∷ When 67 form.Price 52 list.LimitOnly ∷ []
+pricing_fields = Always 52 (form.Code list.OrderTypes) ∷ limit_field 67 ∷ []
 
 abbrev pub pricing_contents : Pricing → List Content
 pricing_contents p = figure (order_type_code (order_type_of p)) ∷ pricing_price p ∷ []
@@ -53,24 +56,29 @@ abbrev pub execution_reject : Execution → Content
 execution_reject (execution.Rejected n) = int32 n
 execution_reject e = nothing
 
+abbrev pub reject_field : ℕ → Field
+reject_field at = When at form.Int32 53 list.RejectedOnly
+
 -- Trade Liquidity Indicator, of a trade or its cancellation
 abbrev pub execution_liquidity : Execution → Content
 execution_liquidity (execution.Trade l t) = figure (liquidity_code l)
 execution_liquidity (execution.TradeCancel l) = figure (liquidity_code l)
 execution_liquidity e = nothing
 
+abbrev pub liquidity_field : ℕ → Field
+liquidity_field at = When at (form.Code list.Liquidities) 53 list.TradeOrCancel
+
 -- TypeOfTrade, of a trade
 abbrev pub execution_trade : Execution → Content
 execution_trade (execution.Trade l t) = figure (trade_type_code t)
 execution_trade e = nothing
 
+abbrev pub trade_field : ℕ → Field
+trade_field at = When at (form.Code list.TradeTypes) 53 list.TradeOnly
+
 abbrev pub execution_fields : List Field
 execution_fields =
-    Always 53 (form.Code list.ExecTypes)
-    ∷ When 67 form.Int32 53 list.RejectedOnly
-    ∷ When 118 (form.Code list.Liquidities) 53 list.TradeOrCancel
-    ∷ When 136 (form.Code list.TradeTypes) 53 list.TradeOnly
-    ∷ []
+    Always 53 (form.Code list.ExecTypes) ∷ reject_field 67 ∷ liquidity_field 118 ∷ trade_field 136 ∷ []
 
 abbrev pub execution_contents : Execution → List Content
 execution_contents e =
@@ -96,19 +104,24 @@ scope_book (scope.FirmInstrument s b) = figure (book_code b)
 scope_book (scope.CompIdInstrument s b) = figure (book_code b)
 scope_book x = nothing
 
+abbrev pub symbol_field : ℕ → Field
+symbol_field at = When at (form.Text 6) 24 list.ByInstrument
+
+abbrev pub book_field : ℕ → Field
+book_field at = When at (form.Code list.Books) 24 list.ByInstrument
+
 -- Segment, of a mass cancel by segment
 abbrev pub scope_segment : Scope → Content
 scope_segment (scope.FirmSegment s) = words (says s)
 scope_segment (scope.CompIdSegment s) = words (says s)
 scope_segment x = nothing
 
+abbrev pub segment_field : ℕ → Field
+segment_field at = When at (form.Text 4) 24 list.BySegment
+
 abbrev pub scope_fields : List Field
 scope_fields =
-    Always 24 (form.Code list.MassCancelTypes)
-    ∷ When 25 (form.Text 6) 24 list.ByInstrument
-    ∷ When 31 (form.Text 4) 24 list.BySegment
-    ∷ When 36 (form.Code list.Books) 24 list.ByInstrument
-    ∷ []
+    Always 24 (form.Code list.MassCancelTypes) ∷ symbol_field 25 ∷ segment_field 31 ∷ book_field 36 ∷ []
 
 abbrev pub scope_contents : Scope → List Content
 scope_contents x =

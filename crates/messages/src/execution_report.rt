@@ -1,16 +1,13 @@
 // Execution Report: type 8, 145 bytes.
-ghost use Rattle.std.specs.Prelude.{◌≡◌, ◌≤◌, length, refl};
+ghost use Rattle.std.specs.Prelude.{◌≡◌, ◌+◌, ◌≤◌, length, refl};
 ghost use Rattle.std.proofs.Common.{rules};
 ghost use Rattle.messages.specs.declared.execution_report.TheConstants.{LETTER, TABLE, TOTAL};
 ghost use Rattle.codes.specs.Report.{exec_type_code};
-ghost use Rattle.codes.specs.declared.lists.Codes.TheVariants as list;
 ghost use Rattle.terms.specs.Execution.{kind_of};
-ghost use Rattle.layout.specs.declared.field.Field.TheVariants as field;
-ghost use Rattle.layout.specs.declared.field.Form.TheVariants as form;
 ghost use Rattle.layout.specs.Holding.{Holds};
 ghost use Rattle.layout.specs.Layout.{AllOk, Says};
 ghost use Rattle.layout.specs.Writing.{field_bytes, over};
-ghost use Rattle.messages.specs.Terms.{execution_contents, execution_fields, execution_liquidity, execution_reject, execution_trade};
+ghost use Rattle.messages.specs.Terms.{execution_contents, execution_fields, execution_liquidity, execution_reject, execution_trade, liquidity_field, reject_field, trade_field};
 
 use codes::lists::Codes;
 use codes::order::{Book, Side};
@@ -29,21 +26,29 @@ use texts::values::{Price, Time};
 #[derive(Clone, Copy, Debug)]
 pub struct ExecutionReport<'a> {
     pub partition: Partition,
+    /// Its number among the reports of its partition.
     pub sequence: i32,
     pub execution_id: Text<'a, 12>,
     pub client_order_id: Text<'a, 20>,
     pub order_id: Text<'a, 12>,
+    /// Why the report is sent, with what only such a report tells.
     pub execution: Execution,
+    /// The execution that the report refers back to, if any.
     pub reference_id: Text<'a, 12>,
     pub status: Status,
+    /// Of this execution, as the next one is.
     pub executed_price: Price,
+    /// In shares, as the next two are.
     pub executed_quantity: i32,
+    /// What is open after the report.
     pub leaves_quantity: i32,
+    /// How much of the order is shown.
     pub display_quantity: i32,
     pub symbol: Text<'a, 6>,
     pub side: Side,
     pub secondary_order_id: u64,
     pub counterparty: Text<'a, 11>,
+    /// The number of the trade, or 0.
     pub trade_match_id: u64,
     pub transact_time: Time,
     pub book: Book,
@@ -166,7 +171,7 @@ impl<'a> Framed<'a> for ExecutionReport<'a> {
         put_code(out, 53, &self.execution.kind());
         put_text(out, 54, &self.reference_id);
         put_code(out, 66, &self.status);
-        put_reject_code(out, &self.execution);
+        put_reject_code(out, 67, &self.execution);
         put_price(out, 71, &self.executed_price);
         put_i32(out, 79, &self.executed_quantity);
         put_i32(out, 83, &self.leaves_quantity);
@@ -176,11 +181,11 @@ impl<'a> Framed<'a> for ExecutionReport<'a> {
         put_code(out, 98, &self.side);
         put_u64(out, 99, self.secondary_order_id);
         put_text(out, 107, &self.counterparty);
-        put_liquidity(out, &self.execution);
+        put_liquidity(out, 118, &self.execution);
         put_u64(out, 119, self.trade_match_id);
         put_time(out, 127, &self.transact_time);
         put_code(out, 135, &self.book);
-        put_trade_type(out, &self.execution);
+        put_trade_type(out, 136, &self.execution);
         put_code(out, 137, &self.capacity);
         put_code(out, 138, &self.price_differential);
         put_blank(out, 139, 6);
@@ -208,39 +213,43 @@ fn execution_at(r: &Reader<'_>) -> Execution
     }
 }
 
+// The reject code, or nulls.
 #[tactic(auto, unfolding(layout::specs::Writing::field_bytes, layout::specs::Layout::taken))]
-fn put_reject_code(out: &mut [u8], execution: &Execution)
-    requires { 71 ≤ length out.old }
-    ensures wrote { out.new ≡ over out.old 67 (field_bytes (field.When 67 form.Int32 53 list.RejectedOnly) (execution_reject execution.now)) }
-    ensures holds { Holds (λ n. exec_type_code (kind_of execution.now)) (field.When 67 form.Int32 53 list.RejectedOnly) (execution_reject execution.now) }
+fn put_reject_code(out: &mut [u8], at: usize, execution: &Execution)
+    requires { at + 4 ≤ length out.old }
+    ensures wrote { out.new ≡ over out.old at (field_bytes (reject_field at) (execution_reject execution.now)) }
+    ensures holds { Holds (λ n. exec_type_code (kind_of execution.now)) (reject_field at) (execution_reject execution.now) }
 {
     match execution {
-        Execution::Rejected(code) => put_i32(out, 67, code),
-        _ => put_blank(out, 67, 4),
+        Execution::Rejected(code) => put_i32(out, at, code),
+        _ => put_blank(out, at, 4),
     }
 }
 
+// Whether the trade added or removed liquidity, or a null.
 #[tactic(auto, unfolding(layout::specs::Writing::field_bytes, layout::specs::Layout::taken))]
-fn put_liquidity(out: &mut [u8], execution: &Execution)
-    requires { 119 ≤ length out.old }
-    ensures wrote { out.new ≡ over out.old 118 (field_bytes (field.When 118 (form.Code list.Liquidities) 53 list.TradeOrCancel) (execution_liquidity execution.now)) }
-    ensures holds { Holds (λ n. exec_type_code (kind_of execution.now)) (field.When 118 (form.Code list.Liquidities) 53 list.TradeOrCancel) (execution_liquidity execution.now) }
+fn put_liquidity(out: &mut [u8], at: usize, execution: &Execution)
+    requires { at + 1 ≤ length out.old }
+    ensures wrote { out.new ≡ over out.old at (field_bytes (liquidity_field at) (execution_liquidity execution.now)) }
+    ensures holds { Holds (λ n. exec_type_code (kind_of execution.now)) (liquidity_field at) (execution_liquidity execution.now) }
 {
     match execution {
-        Execution::Trade(liquidity, _) => put_code(out, 118, liquidity),
-        Execution::TradeCancel(liquidity) => put_code(out, 118, liquidity),
-        _ => put_blank(out, 118, 1),
+        Execution::Trade(liquidity, _) | Execution::TradeCancel(liquidity) => put_code(
+            out, at, liquidity,
+        ),
+        _ => put_blank(out, at, 1),
     }
 }
 
+// Whether the executed part was shown, or a null.
 #[tactic(auto, unfolding(layout::specs::Writing::field_bytes, layout::specs::Layout::taken))]
-fn put_trade_type(out: &mut [u8], execution: &Execution)
-    requires { 137 ≤ length out.old }
-    ensures wrote { out.new ≡ over out.old 136 (field_bytes (field.When 136 (form.Code list.TradeTypes) 53 list.TradeOnly) (execution_trade execution.now)) }
-    ensures holds { Holds (λ n. exec_type_code (kind_of execution.now)) (field.When 136 (form.Code list.TradeTypes) 53 list.TradeOnly) (execution_trade execution.now) }
+fn put_trade_type(out: &mut [u8], at: usize, execution: &Execution)
+    requires { at + 1 ≤ length out.old }
+    ensures wrote { out.new ≡ over out.old at (field_bytes (trade_field at) (execution_trade execution.now)) }
+    ensures holds { Holds (λ n. exec_type_code (kind_of execution.now)) (trade_field at) (execution_trade execution.now) }
 {
     match execution {
-        Execution::Trade(_, trade_type) => put_code(out, 136, trade_type),
-        _ => put_blank(out, 136, 1),
+        Execution::Trade(_, trade_type) => put_code(out, at, trade_type),
+        _ => put_blank(out, at, 1),
     }
 }

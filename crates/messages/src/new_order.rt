@@ -1,16 +1,13 @@
 // New Order: type D, 97 bytes.
-ghost use Rattle.std.specs.Prelude.{◌≡◌, ◌≤◌, length, refl};
+ghost use Rattle.std.specs.Prelude.{◌≡◌, ◌+◌, ◌≤◌, length, refl};
 ghost use Rattle.std.proofs.Common.{rules};
 ghost use Rattle.messages.specs.declared.new_order.TheConstants.{LETTER, TABLE, TOTAL};
 ghost use Rattle.codes.specs.Order.{order_type_code};
-ghost use Rattle.codes.specs.declared.lists.Codes.TheVariants as list;
 ghost use Rattle.terms.specs.Pricing.{order_type_of};
-ghost use Rattle.layout.specs.declared.field.Field.TheVariants as field;
-ghost use Rattle.layout.specs.declared.field.Form.TheVariants as form;
 ghost use Rattle.layout.specs.Holding.{Holds};
 ghost use Rattle.layout.specs.Layout.{AllOk, Says};
 ghost use Rattle.layout.specs.Writing.{field_bytes, over};
-ghost use Rattle.messages.specs.Terms.{pricing_contents, pricing_fields, pricing_price};
+ghost use Rattle.messages.specs.Terms.{limit_field, pricing_contents, pricing_fields, pricing_price};
 
 use crate::target::{put_target, target_at};
 use codes::lists::Codes;
@@ -35,16 +32,22 @@ pub struct NewOrder<'a> {
     pub account: Text<'a, 10>,
     pub clearing_account: ClearingAccount,
     pub symbol: Text<'a, 6>,
+    /// The order's type, and its limit where it has one.
     pub pricing: Pricing,
     pub time_in_force: TimeInForce,
+    /// When the order is to end, where its time in force asks for that.
     pub expire_time: u32,
     pub side: Side,
+    /// In shares, as the next one is.
     pub quantity: i32,
+    /// How many of them are shown.
     pub display_quantity: i32,
     pub capacity: OrderCapacity,
     pub auto_cancel: AutoCancel,
     pub sub_type: OrderSubType,
+    /// The book, and for the dark one when the order takes part.
     pub target: Target,
+    /// The least that a trade may take, in shares; 0 where any will do.
     pub min_quantity: i32,
     pub passive_only: PassiveOnly,
 }
@@ -153,7 +156,7 @@ impl<'a> Framed<'a> for NewOrder<'a> {
         put_code(out, 58, &self.side);
         put_i32(out, 59, &self.quantity);
         put_i32(out, 63, &self.display_quantity);
-        put_limit(out, &self.pricing);
+        put_limit(out, 67, &self.pricing);
         put_code(out, 75, &self.capacity);
         put_code(out, 76, &self.auto_cancel);
         put_code(out, 77, &self.sub_type);
@@ -179,14 +182,15 @@ fn pricing_at(r: &Reader<'_>) -> Pricing
     }
 }
 
+// The limit, or nulls.
 #[tactic(auto, unfolding(layout::specs::Writing::field_bytes, layout::specs::Layout::taken))]
-fn put_limit(out: &mut [u8], pricing: &Pricing)
-    requires { 75 ≤ length out.old }
-    ensures wrote { out.new ≡ over out.old 67 (field_bytes (field.When 67 form.Price 52 list.LimitOnly) (pricing_price pricing.now)) }
-    ensures holds { Holds (λ n. order_type_code (order_type_of pricing.now)) (field.When 67 form.Price 52 list.LimitOnly) (pricing_price pricing.now) }
+fn put_limit(out: &mut [u8], at: usize, pricing: &Pricing)
+    requires { at + 8 ≤ length out.old }
+    ensures wrote { out.new ≡ over out.old at (field_bytes (limit_field at) (pricing_price pricing.now)) }
+    ensures holds { Holds (λ n. order_type_code (order_type_of pricing.now)) (limit_field at) (pricing_price pricing.now) }
 {
     match pricing {
-        Pricing::Market => put_blank(out, 67, 8),
-        Pricing::Limit(price) => put_price(out, 67, price),
+        Pricing::Market => put_blank(out, at, 8),
+        Pricing::Limit(price) => put_price(out, at, price),
     }
 }

@@ -17,6 +17,7 @@ use texts::values::Time;
 #[derive(Clone, Copy, Debug)]
 pub struct OrderCancelReject<'a> {
     pub partition: Partition,
+    /// Its number among the reports of its partition.
     pub sequence: i32,
     pub client_order_id: Text<'a, 20>,
     pub order_id: Text<'a, 12>,

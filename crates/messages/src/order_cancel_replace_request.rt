@@ -21,18 +21,25 @@ use texts::values::Price;
 /// Changes an order's quantity and price.
 #[derive(Clone, Copy, Debug)]
 pub struct OrderCancelReplaceRequest<'a> {
+    /// The order's Client Order ID from now on.
     pub client_order_id: Name<'a, 20>,
+    /// The order's Client Order ID up to now, or empty.
     pub original_id: Text<'a, 20>,
     pub order_id: Option<OrderId>,
     pub symbol: Text<'a, 6>,
+    /// When the order is to end, where its time in force asks for that.
     pub expire_time: u32,
+    /// In shares, those that were traded too.
     pub quantity: i32,
+    /// How many of them are shown.
     pub display_quantity: i32,
     pub limit_price: Price,
     pub account: Text<'a, 10>,
     pub time_in_force: TimeInForce,
     pub side: Side,
+    /// The book, and for the dark one when the order takes part.
     pub target: Target,
+    /// The least that a trade may take, in shares; 0 where any will do.
     pub min_quantity: i32,
     pub passive_only: PassiveOnly,
 }

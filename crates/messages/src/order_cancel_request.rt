@@ -16,7 +16,9 @@ use texts::text::{Name, Text};
 /// Cancels an order, named by its Order ID or its current Client Order ID.
 #[derive(Clone, Copy, Debug)]
 pub struct OrderCancelRequest<'a> {
+    /// The identifier of this request.
     pub client_order_id: Name<'a, 20>,
+    /// The order's Client Order ID, or empty.
     pub original_id: Text<'a, 20>,
     pub order_id: Option<OrderId>,
     pub symbol: Text<'a, 6>,

@@ -18,6 +18,7 @@ use texts::values::Time;
 #[derive(Clone, Copy, Debug)]
 pub struct OrderMassCancelReport<'a> {
     pub partition: Partition,
+    /// Its number among the reports of its partition.
     pub sequence: i32,
     pub client_order_id: Text<'a, 20>,
     pub response: MassResponse,

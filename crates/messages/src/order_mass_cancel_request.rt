@@ -1,5 +1,5 @@
 // Order Mass Cancel Request: type q, 46 bytes.
-ghost use Rattle.std.specs.Prelude.{◌≡◌, ◌≤◌, length, refl};
+ghost use Rattle.std.specs.Prelude.{◌≡◌, ◌+◌, ◌≤◌, length, refl};
 ghost use Rattle.std.proofs.Common.{rules};
 ghost use Rattle.messages.specs.declared.order_mass_cancel_request.TheConstants.{LETTER, TABLE, TOTAL};
 
@@ -32,6 +32,7 @@ pub enum Scope<'a> {
 /// Cancels all orders of a firm or a CompID, or those of an instrument or a segment.
 #[derive(Clone, Copy, Debug)]
 pub struct OrderMassCancelRequest<'a> {
+    /// The identifier of this request.
     pub client_order_id: Name<'a, 20>,
     pub scope: Scope<'a>,
 }
@@ -102,25 +103,22 @@ impl<'a> Framed<'a> for OrderMassCancelRequest<'a> {
     fn put(&self, out: &mut [u8]) {
         put_name(out, 4, &self.client_order_id);
         put_code(out, 24, &self.scope.kind());
-        self.scope.put_symbol(out);
-        self.scope.put_segment(out);
+        self.scope.put_symbol(out, 25);
+        self.scope.put_segment(out, 31);
         put_blank(out, 35, 1);
-        self.scope.put_book(out);
+        self.scope.put_book(out, 36);
         put_blank(out, 37, 9);
     }
 }
 
 impl<'a> Scope<'a> {
     ghost use Rattle.codes.specs.Order.{mass_cancel_type_code};
-    ghost use Rattle.codes.specs.declared.lists.Codes.TheVariants as list;
-    ghost use Rattle.layout.specs.declared.field.Field.TheVariants as field;
-    ghost use Rattle.layout.specs.declared.field.Form.TheVariants as form;
     ghost use Rattle.layout.specs.Holding.{Holds};
     ghost use Rattle.layout.specs.Layout.{AllOk, Says, text_places};
     ghost use Rattle.layout.specs.Writing.{field_bytes, over};
-    ghost use Rattle.messages.specs.Terms.{scope_book, scope_contents, scope_fields, scope_kind, scope_places, scope_segment, scope_symbol};
+    ghost use Rattle.messages.specs.Terms.{book_field, scope_book, scope_contents, scope_fields, scope_kind, scope_places, scope_segment, scope_symbol, segment_field, symbol_field};
 
-    /// The code of the kind of mass cancel.
+    /// The kind of mass cancel, as its field names it.
     pub fn kind(&self) -> MassCancelType
         ensures { result ≡ scope_kind self.now }
     {
@@ -134,6 +132,7 @@ impl<'a> Scope<'a> {
         }
     }
 
+    // The kind, and what belongs to it.
     #[tactic(auto, unfolding(layout::specs::Layout::taken))]
     fn at(r: &Reader<'a>) -> Scope<'a>
         requires room { 46 ≤ length r.now.src.now }
@@ -152,45 +151,48 @@ impl<'a> Scope<'a> {
         }
     }
 
+    // The symbol of a mass cancel by instrument, or nulls.
     #[tactic(auto, unfolding(layout::specs::Writing::field_bytes, layout::specs::Layout::taken))]
-    fn put_symbol(&self, out: &mut [u8])
-        requires { 31 ≤ length out.old }
-        ensures wrote { out.new ≡ over out.old 25 (field_bytes (field.When 25 (form.Text 6) 24 list.ByInstrument) (scope_symbol self.now)) }
-        ensures holds { Holds (λ n. mass_cancel_type_code (scope_kind self.now)) (field.When 25 (form.Text 6) 24 list.ByInstrument) (scope_symbol self.now) }
+    fn put_symbol(&self, out: &mut [u8], at: usize)
+        requires { at + 6 ≤ length out.old }
+        ensures wrote { out.new ≡ over out.old at (field_bytes (symbol_field at) (scope_symbol self.now)) }
+        ensures holds { Holds (λ n. mass_cancel_type_code (scope_kind self.now)) (symbol_field at) (scope_symbol self.now) }
     {
         match self {
             Scope::FirmInstrument(symbol, _) | Scope::CompIdInstrument(symbol, _) => put_text(
-                out, 25, symbol,
+                out, at, symbol,
             ),
-            _ => put_blank(out, 25, 6),
+            _ => put_blank(out, at, 6),
         }
     }
 
+    // The segment of a mass cancel by segment, or nulls.
     #[tactic(auto, unfolding(layout::specs::Writing::field_bytes, layout::specs::Layout::taken))]
-    fn put_segment(&self, out: &mut [u8])
-        requires { 35 ≤ length out.old }
-        ensures wrote { out.new ≡ over out.old 31 (field_bytes (field.When 31 (form.Text 4) 24 list.BySegment) (scope_segment self.now)) }
-        ensures holds { Holds (λ n. mass_cancel_type_code (scope_kind self.now)) (field.When 31 (form.Text 4) 24 list.BySegment) (scope_segment self.now) }
+    fn put_segment(&self, out: &mut [u8], at: usize)
+        requires { at + 4 ≤ length out.old }
+        ensures wrote { out.new ≡ over out.old at (field_bytes (segment_field at) (scope_segment self.now)) }
+        ensures holds { Holds (λ n. mass_cancel_type_code (scope_kind self.now)) (segment_field at) (scope_segment self.now) }
     {
         match self {
             Scope::FirmSegment(segment) | Scope::CompIdSegment(segment) => put_text(
-                out, 31, segment,
+                out, at, segment,
             ),
-            _ => put_blank(out, 31, 4),
+            _ => put_blank(out, at, 4),
         }
     }
 
+    // The book of a mass cancel by instrument, or a null.
     #[tactic(auto, unfolding(layout::specs::Writing::field_bytes, layout::specs::Layout::taken))]
-    fn put_book(&self, out: &mut [u8])
-        requires { 37 ≤ length out.old }
-        ensures wrote { out.new ≡ over out.old 36 (field_bytes (field.When 36 (form.Code list.Books) 24 list.ByInstrument) (scope_book self.now)) }
-        ensures holds { Holds (λ n. mass_cancel_type_code (scope_kind self.now)) (field.When 36 (form.Code list.Books) 24 list.ByInstrument) (scope_book self.now) }
+    fn put_book(&self, out: &mut [u8], at: usize)
+        requires { at + 1 ≤ length out.old }
+        ensures wrote { out.new ≡ over out.old at (field_bytes (book_field at) (scope_book self.now)) }
+        ensures holds { Holds (λ n. mass_cancel_type_code (scope_kind self.now)) (book_field at) (scope_book self.now) }
     {
         match self {
             Scope::FirmInstrument(_, book) | Scope::CompIdInstrument(_, book) => put_code(
-                out, 36, book,
+                out, at, book,
             ),
-            _ => put_blank(out, 36, 1),
+            _ => put_blank(out, at, 1),
         }
     }
 }

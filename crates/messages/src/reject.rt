@@ -13,8 +13,10 @@ use texts::text::Text;
 /// A message that was not taken, by its type and its Client Order ID where they are known.
 #[derive(Clone, Copy, Debug)]
 pub struct Reject<'a> {
+    /// Why: the number of the check that the message failed.
     pub code: i32,
     pub reason: Text<'a, 30>,
+    /// The type of the message, or 0.
     pub message_type: u8,
     pub client_order_id: Text<'a, 20>,
 }

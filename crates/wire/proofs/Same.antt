@@ -20,28 +20,11 @@ use Rattle.codes.specs.contracts.session.VersionCode.TheImpl.Laws.{one-law as ve
 use Rattle.layout.specs.declared.sequence.LastSequence.{LastSequence}
 use Rattle.layout.specs.Layout.{Content, words_of, figure_of, int8_of, int32_of}
 use Rattle.layout.specs.Layout.Content.{nothing}
-use Rattle.messages.specs.Session.{logon_contents, logon_reply_contents, logout_contents, heartbeat_contents, missed_message_request_contents, missed_message_request_ack_contents, missed_message_report_contents, reject_contents}
-use Rattle.messages.specs.Requests.{new_order_contents, order_cancel_request_contents, order_cancel_replace_request_contents, order_mass_cancel_request_contents}
-use Rattle.messages.specs.Reports.{execution_report_contents, order_cancel_reject_contents, order_mass_cancel_report_contents}
-use Rattle.messages.specs.declared.execution_report.ExecutionReport.{ExecutionReport}
-use Rattle.messages.specs.declared.heartbeat.Heartbeat.{Heartbeat}
-use Rattle.messages.specs.declared.logon.Logon.{Logon}
-use Rattle.messages.specs.declared.logon_reply.LogonReply.{LogonReply}
-use Rattle.messages.specs.declared.logout.Logout.{Logout}
-use Rattle.messages.specs.declared.missed_message_report.MissedMessageReport.{MissedMessageReport}
 use Rattle.messages.specs.declared.missed_message_request.MissedMessageRequest.{MissedMessageRequest}
-use Rattle.messages.specs.declared.missed_message_request_ack.MissedMessageRequestAck.{MissedMessageRequestAck}
-use Rattle.messages.specs.declared.new_order.NewOrder.{NewOrder}
-use Rattle.messages.specs.declared.order_cancel_reject.OrderCancelReject.{OrderCancelReject}
-use Rattle.messages.specs.declared.order_cancel_replace_request.OrderCancelReplaceRequest.{OrderCancelReplaceRequest}
-use Rattle.messages.specs.declared.order_cancel_request.OrderCancelRequest.{OrderCancelRequest}
-use Rattle.messages.specs.declared.order_mass_cancel_report.OrderMassCancelReport.{OrderMassCancelReport}
-use Rattle.messages.specs.declared.order_mass_cancel_request.OrderMassCancelRequest.{OrderMassCancelRequest}
-use Rattle.messages.specs.declared.reject.Reject.{Reject}
 use Rattle.wire.specs.declared.message.Message.{Message}
 use Rattle.wire.specs.declared.message.Message.TheVariants as message
-use Rattle.wire.specs.Messages.{kind_of, contents_of, plain}
-use Rattle.wire.specs.Plain.{plain_logon, plain_logon_reply, plain_logout, plain_reject, plain_new_order, plain_order_cancel_request, plain_order_cancel_replace_request, plain_order_mass_cancel_request, plain_execution_report, plain_order_cancel_reject, plain_order_mass_cancel_report}
+use Rattle.wire.specs.Messages.{kind_of, contents_of}
+use Rattle.wire.specs.Plain.{plain}
 use Rattle.wire.proofs.Terms.{text_same, name_same, order_same, last_same, price_same, time_same, pricing_same, target_same, execution_same, scope_same}
 
 -- the content at a place of the list
@@ -57,50 +40,42 @@ words_at i e = ap (λ ws. words_of (nth i ws)) e
 figure_at : (i : ℕ) {us vs : List Content} → us ≡ vs → figure_of (nth i us) ≡ figure_of (nth i vs)
 figure_at i e = ap (λ ws. figure_of (nth i ws)) e
 
-logon_same : (x y : Logon) → logon_contents x ≡ logon_contents y → plain_logon x ≡ plain_logon y
-logon_same x y e =
+pub same : (m n : Message) → kind_of m ≡ kind_of n → contents_of m ≡ contents_of n → plain m ≡ plain n
+same (message.Logon x) (message.Logon y) k e =
     let comp_id_is = text_same x.comp_id y.comp_id (words_at 0 e) in
     let password_is = text_same x.password y.password (words_at 1 e) in
     let new_password_is = text_same x.new_password y.new_password (words_at 2 e) in
     let version_is = version_one x.version y.version (figure_at 3 e) in
     cc
-
-logon_reply_same : (x y : LogonReply) → logon_reply_contents x ≡ logon_reply_contents y → plain_logon_reply x ≡ plain_logon_reply y
-logon_reply_same x y e =
+same (message.Logon x) n k e = cc
+same (message.LogonReply x) (message.LogonReply y) k e =
     let reject_code_is : x.reject_code ≡ y.reject_code = ap (λ vs. int32_of (nth 0 vs)) e in
     let expiry_days_is = text_same x.expiry_days y.expiry_days (words_at 1 e) in
     cc
-
-logout_same : (x y : Logout) → logout_contents x ≡ logout_contents y → plain_logout x ≡ plain_logout y
-logout_same x y e =
+same (message.LogonReply x) n k e = cc
+same (message.Logout x) (message.Logout y) k e =
     let reason_is = text_same x.reason y.reason (words_at 0 e) in
     cc
-
-heartbeat_same : (x y : Heartbeat) → heartbeat_contents x ≡ heartbeat_contents y → x ≡ y
-heartbeat_same x y e = refl
-
-missed_message_request_same : (x y : MissedMessageRequest) → missed_message_request_contents x ≡ missed_message_request_contents y → x ≡ y
-missed_message_request_same x y e =
+same (message.Logout x) n k e = cc
+same (message.Heartbeat x) (message.Heartbeat y) k e = refl
+same (message.Heartbeat x) n k e = cc
+same (message.MissedMessageRequest x) (message.MissedMessageRequest y) k e =
     let f : ℤ → MissedMessageRequest = λ p. record { partition = p; last = x.last } in
     let g : LastSequence → MissedMessageRequest = λ l. record { partition = y.partition; last = l } in
-    ap f (ap (λ vs. int8_of (nth 0 vs)) e) ∙ ap g (last_same x.last y.last (figure_at 1 e))
-
-missed_message_request_ack_same : (x y : MissedMessageRequestAck) → missed_message_request_ack_contents x ≡ missed_message_request_ack_contents y → x ≡ y
-missed_message_request_ack_same x y e = ap (λ r. record { response = r }) (ack_response_one x.response y.response (figure_at 0 e))
-
-missed_message_report_same : (x y : MissedMessageReport) → missed_message_report_contents x ≡ missed_message_report_contents y → x ≡ y
-missed_message_report_same x y e = ap (λ r. record { response = r }) (report_response_one x.response y.response (figure_at 0 e))
-
-reject_same : (x y : Reject) → reject_contents x ≡ reject_contents y → plain_reject x ≡ plain_reject y
-reject_same x y e =
+    ap message.MissedMessageRequest (ap f (ap (λ vs. int8_of (nth 0 vs)) e) ∙ ap g (last_same x.last y.last (figure_at 1 e)))
+same (message.MissedMessageRequest x) n k e = cc
+same (message.MissedMessageRequestAck x) (message.MissedMessageRequestAck y) k e = ap (λ r. message.MissedMessageRequestAck (record { response = r })) (ack_response_one x.response y.response (figure_at 0 e))
+same (message.MissedMessageRequestAck x) n k e = cc
+same (message.MissedMessageReport x) (message.MissedMessageReport y) k e = ap (λ r. message.MissedMessageReport (record { response = r })) (report_response_one x.response y.response (figure_at 0 e))
+same (message.MissedMessageReport x) n k e = cc
+same (message.Reject x) (message.Reject y) k e =
     let code_is : x.code ≡ y.code = ap (λ vs. int32_of (nth 0 vs)) e in
     let reason_is = text_same x.reason y.reason (words_at 1 e) in
     let message_type_is : x.message_type ≡ y.message_type = figure_at 2 e in
     let client_order_id_is = text_same x.client_order_id y.client_order_id (words_at 3 e) in
     cc
-
-new_order_same : (x y : NewOrder) → new_order_contents x ≡ new_order_contents y → plain_new_order x ≡ plain_new_order y
-new_order_same x y e =
+same (message.Reject x) n k e = cc
+same (message.NewOrder x) (message.NewOrder y) k e =
     let client_order_id_is = name_same x.client_order_id y.client_order_id (words_at 0 e) in
     let trader_id_is = text_same x.trader_id y.trader_id (words_at 1 e) in
     let account_is = text_same x.account y.account (words_at 2 e) in
@@ -119,9 +94,8 @@ new_order_same x y e =
     let min_quantity_is : x.min_quantity ≡ y.min_quantity = ap (λ vs. int32_of (nth 18 vs)) e in
     let passive_only_is = passive_only_one x.passive_only y.passive_only (figure_at 20 e) in
     cc
-
-order_cancel_request_same : (x y : OrderCancelRequest) → order_cancel_request_contents x ≡ order_cancel_request_contents y → plain_order_cancel_request x ≡ plain_order_cancel_request y
-order_cancel_request_same x y e =
+same (message.NewOrder x) n k e = cc
+same (message.OrderCancelRequest x) (message.OrderCancelRequest y) k e =
     let client_order_id_is = name_same x.client_order_id y.client_order_id (words_at 0 e) in
     let original_id_is = text_same x.original_id y.original_id (words_at 1 e) in
     let order_id_is = order_same x.order_id y.order_id (nth_at 2 e) in
@@ -129,9 +103,8 @@ order_cancel_request_same x y e =
     let side_is = side_one x.side y.side (figure_at 4 e) in
     let book_is = book_one x.book y.book (figure_at 5 e) in
     cc
-
-order_cancel_replace_request_same : (x y : OrderCancelReplaceRequest) → order_cancel_replace_request_contents x ≡ order_cancel_replace_request_contents y → plain_order_cancel_replace_request x ≡ plain_order_cancel_replace_request y
-order_cancel_replace_request_same x y e =
+same (message.OrderCancelRequest x) n k e = cc
+same (message.OrderCancelReplaceRequest x) (message.OrderCancelReplaceRequest y) k e =
     let client_order_id_is = name_same x.client_order_id y.client_order_id (words_at 0 e) in
     let original_id_is = text_same x.original_id y.original_id (words_at 1 e) in
     let order_id_is = order_same x.order_id y.order_id (nth_at 2 e) in
@@ -147,15 +120,13 @@ order_cancel_replace_request_same x y e =
     let min_quantity_is : x.min_quantity ≡ y.min_quantity = ap (λ vs. int32_of (nth 14 vs)) e in
     let passive_only_is = passive_only_one x.passive_only y.passive_only (figure_at 15 e) in
     cc
-
-order_mass_cancel_request_same : (x y : OrderMassCancelRequest) → order_mass_cancel_request_contents x ≡ order_mass_cancel_request_contents y → plain_order_mass_cancel_request x ≡ plain_order_mass_cancel_request y
-order_mass_cancel_request_same x y e =
+same (message.OrderCancelReplaceRequest x) n k e = cc
+same (message.OrderMassCancelRequest x) (message.OrderMassCancelRequest y) k e =
     let client_order_id_is = name_same x.client_order_id y.client_order_id (words_at 0 e) in
     let scope_is = scope_same x.scope y.scope (figure_at 1 e) (nth_at 2 e) (nth_at 3 e) (nth_at 5 e) in
     cc
-
-execution_report_same : (x y : ExecutionReport) → execution_report_contents x ≡ execution_report_contents y → plain_execution_report x ≡ plain_execution_report y
-execution_report_same x y e =
+same (message.OrderMassCancelRequest x) n k e = cc
+same (message.ExecutionReport x) (message.ExecutionReport y) k e =
     let partition_is = partition_one x.partition y.partition (figure_at 0 e) in
     let sequence_is : x.sequence ≡ y.sequence = ap (λ vs. int32_of (nth 1 vs)) e in
     let execution_id_is = text_same x.execution_id y.execution_id (words_at 2 e) in
@@ -178,9 +149,8 @@ execution_report_same x y e =
     let capacity_is = capacity_one x.capacity y.capacity (figure_at 23 e) in
     let price_differential_is = price_differential_one x.price_differential y.price_differential (figure_at 24 e) in
     cc
-
-order_cancel_reject_same : (x y : OrderCancelReject) → order_cancel_reject_contents x ≡ order_cancel_reject_contents y → plain_order_cancel_reject x ≡ plain_order_cancel_reject y
-order_cancel_reject_same x y e =
+same (message.ExecutionReport x) n k e = cc
+same (message.OrderCancelReject x) (message.OrderCancelReject y) k e =
     let partition_is = partition_one x.partition y.partition (figure_at 0 e) in
     let sequence_is : x.sequence ≡ y.sequence = ap (λ vs. int32_of (nth 1 vs)) e in
     let client_order_id_is = text_same x.client_order_id y.client_order_id (words_at 2 e) in
@@ -188,9 +158,8 @@ order_cancel_reject_same x y e =
     let reason_is : x.reason ≡ y.reason = ap (λ vs. int32_of (nth 4 vs)) e in
     let transact_time_is = time_same x.transact_time y.transact_time (nth_at 5 e) in
     cc
-
-order_mass_cancel_report_same : (x y : OrderMassCancelReport) → order_mass_cancel_report_contents x ≡ order_mass_cancel_report_contents y → plain_order_mass_cancel_report x ≡ plain_order_mass_cancel_report y
-order_mass_cancel_report_same x y e =
+same (message.OrderCancelReject x) n k e = cc
+same (message.OrderMassCancelReport x) (message.OrderMassCancelReport y) k e =
     let partition_is = partition_one x.partition y.partition (figure_at 0 e) in
     let sequence_is : x.sequence ≡ y.sequence = ap (λ vs. int32_of (nth 1 vs)) e in
     let client_order_id_is = text_same x.client_order_id y.client_order_id (words_at 2 e) in
@@ -198,35 +167,4 @@ order_mass_cancel_report_same x y e =
     let reason_is : x.reason ≡ y.reason = ap (λ vs. int32_of (nth 4 vs)) e in
     let transact_time_is = time_same x.transact_time y.transact_time (nth_at 6 e) in
     cc
-
-pub same : (m n : Message) → kind_of m ≡ kind_of n → contents_of m ≡ contents_of n → plain m ≡ plain n
-same (message.Logon x) (message.Logon y) k e = ap message.Logon (logon_same x y e)
-same (message.Logon x) n k e = cc
-same (message.LogonReply x) (message.LogonReply y) k e = ap message.LogonReply (logon_reply_same x y e)
-same (message.LogonReply x) n k e = cc
-same (message.Logout x) (message.Logout y) k e = ap message.Logout (logout_same x y e)
-same (message.Logout x) n k e = cc
-same (message.Heartbeat x) (message.Heartbeat y) k e = ap message.Heartbeat (heartbeat_same x y e)
-same (message.Heartbeat x) n k e = cc
-same (message.MissedMessageRequest x) (message.MissedMessageRequest y) k e = ap message.MissedMessageRequest (missed_message_request_same x y e)
-same (message.MissedMessageRequest x) n k e = cc
-same (message.MissedMessageRequestAck x) (message.MissedMessageRequestAck y) k e = ap message.MissedMessageRequestAck (missed_message_request_ack_same x y e)
-same (message.MissedMessageRequestAck x) n k e = cc
-same (message.MissedMessageReport x) (message.MissedMessageReport y) k e = ap message.MissedMessageReport (missed_message_report_same x y e)
-same (message.MissedMessageReport x) n k e = cc
-same (message.Reject x) (message.Reject y) k e = ap message.Reject (reject_same x y e)
-same (message.Reject x) n k e = cc
-same (message.NewOrder x) (message.NewOrder y) k e = ap message.NewOrder (new_order_same x y e)
-same (message.NewOrder x) n k e = cc
-same (message.OrderCancelRequest x) (message.OrderCancelRequest y) k e = ap message.OrderCancelRequest (order_cancel_request_same x y e)
-same (message.OrderCancelRequest x) n k e = cc
-same (message.OrderCancelReplaceRequest x) (message.OrderCancelReplaceRequest y) k e = ap message.OrderCancelReplaceRequest (order_cancel_replace_request_same x y e)
-same (message.OrderCancelReplaceRequest x) n k e = cc
-same (message.OrderMassCancelRequest x) (message.OrderMassCancelRequest y) k e = ap message.OrderMassCancelRequest (order_mass_cancel_request_same x y e)
-same (message.OrderMassCancelRequest x) n k e = cc
-same (message.ExecutionReport x) (message.ExecutionReport y) k e = ap message.ExecutionReport (execution_report_same x y e)
-same (message.ExecutionReport x) n k e = cc
-same (message.OrderCancelReject x) (message.OrderCancelReject y) k e = ap message.OrderCancelReject (order_cancel_reject_same x y e)
-same (message.OrderCancelReject x) n k e = cc
-same (message.OrderMassCancelReport x) (message.OrderMassCancelReport y) k e = ap message.OrderMassCancelReport (order_mass_cancel_report_same x y e)
 same (message.OrderMassCancelReport x) n k e = cc

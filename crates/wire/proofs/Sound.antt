@@ -1,5 +1,5 @@
 -- What holds of each kind: its table, and that its type byte names it. Assumes nothing.
-use Rattle.std.proofs.Common.{◌≡◌, ◌++◌, ℕ, Bool, true, false, cond, eqb, leb, ltb, List, [], ◌∷◌, Some, Option, sym, refl, ap, ◌∙◌, eqb-true}
+use Rattle.std.proofs.Common.{is_some, ◌≡◌, ◌++◌, ℕ, Bool, true, false, cond, eqb, leb, ltb, List, [], ◌∷◌, Some, Option, sym, refl, ap, ◌∙◌, eqb-true}
 use Rattle.std.specs.List.{find}
 use Rattle.layout.specs.Layout.{within}
 use Rattle.layout.specs.Writing.{tiled}
@@ -15,6 +15,11 @@ use Rattle.wire.proofs.Trips.{looked}
 abbrev named : ℕ → Option Kind
 named t = find (λ k. eqb (letter_of k) t) (REAL_TIME ++ (RECOVERY ++ FOLLOWER))
 
+-- some reader that takes the kind
+abbrev pub reader_of : Kind → Channel
+reader_of k =
+    cond (is_some (takes RealTime (letter_of k))) RealTime (cond (is_some (takes Recovery (letter_of k))) Recovery Follower)
+
 pub record IsSound (k : Kind) : Type 0 where
   pub tiles : tiled 4 (total_of k) (table_of k) ≡ true
   pub spans : within (total_of k) (table_of k) ≡ true
@@ -22,25 +27,12 @@ pub record IsSound (k : Kind) : Type 0 where
   pub short : leb 4 (total_of k) ≡ true
   pub long : ltb (total_of k) 65539 ≡ true
   pub found : named (letter_of k) ≡ Some k
-  pub reader : Channel
-  pub taken : takes reader (letter_of k) ≡ Some k
+  pub taken : takes (reader_of k) (letter_of k) ≡ Some k
 
+-- each kind is tried
 pub sound : (k : Kind) → IsSound k
-sound kind.Logon = record { tiles = refl; spans = refl; looks = refl; short = refl; long = refl; found = refl; reader = RealTime; taken = refl }
-sound kind.LogonReply = record { tiles = refl; spans = refl; looks = refl; short = refl; long = refl; found = refl; reader = Follower; taken = refl }
-sound kind.Logout = record { tiles = refl; spans = refl; looks = refl; short = refl; long = refl; found = refl; reader = RealTime; taken = refl }
-sound kind.Heartbeat = record { tiles = refl; spans = refl; looks = refl; short = refl; long = refl; found = refl; reader = RealTime; taken = refl }
-sound kind.MissedMessageRequest = record { tiles = refl; spans = refl; looks = refl; short = refl; long = refl; found = refl; reader = Recovery; taken = refl }
-sound kind.MissedMessageRequestAck = record { tiles = refl; spans = refl; looks = refl; short = refl; long = refl; found = refl; reader = Follower; taken = refl }
-sound kind.MissedMessageReport = record { tiles = refl; spans = refl; looks = refl; short = refl; long = refl; found = refl; reader = Follower; taken = refl }
-sound kind.Reject = record { tiles = refl; spans = refl; looks = refl; short = refl; long = refl; found = refl; reader = Follower; taken = refl }
-sound kind.NewOrder = record { tiles = refl; spans = refl; looks = refl; short = refl; long = refl; found = refl; reader = RealTime; taken = refl }
-sound kind.OrderCancelRequest = record { tiles = refl; spans = refl; looks = refl; short = refl; long = refl; found = refl; reader = RealTime; taken = refl }
-sound kind.OrderCancelReplaceRequest = record { tiles = refl; spans = refl; looks = refl; short = refl; long = refl; found = refl; reader = RealTime; taken = refl }
-sound kind.OrderMassCancelRequest = record { tiles = refl; spans = refl; looks = refl; short = refl; long = refl; found = refl; reader = RealTime; taken = refl }
-sound kind.ExecutionReport = record { tiles = refl; spans = refl; looks = refl; short = refl; long = refl; found = refl; reader = Follower; taken = refl }
-sound kind.OrderCancelReject = record { tiles = refl; spans = refl; looks = refl; short = refl; long = refl; found = refl; reader = Follower; taken = refl }
-sound kind.OrderMassCancelReport = record { tiles = refl; spans = refl; looks = refl; short = refl; long = refl; found = refl; reader = Follower; taken = refl }
+sound kind.Logon = record { tiles = refl; spans = refl; looks = refl; short = refl; long = refl; found = refl; taken = refl }
+sound _ = record { tiles = refl; spans = refl; looks = refl; short = refl; long = refl; found = refl; taken = refl }
 
 pub kinds_same : (j k : Kind) → letter_of j ≡ letter_of k → j ≡ k
 kinds_same j k e =

@@ -12,7 +12,7 @@ use Rattle.wire.specs.Kinds.{letter_of, total_of, table_of, takes}
 use Rattle.wire.specs.Messages.{kind_of, contents_of, opening, after_opening, verdict, written, Holdable, GivenBack, Apart}
 use Rattle.wire.proofs.Headers.{opened}
 use Rattle.wire.proofs.Same.{same}
-use Rattle.wire.proofs.Sound.{sound, kinds_same}
+use Rattle.wire.proofs.Sound.{sound, reader_of, kinds_same}
 use Rattle.wire.proofs.Trips.{trip, says_same}
 
 -- what was written along a message's table is its one form
@@ -56,8 +56,8 @@ pub apart : (m : Message) → Holdable m → Apart m
 apart m h n g e =
     let k = kinds_same (kind_of n) (kind_of m) (letters_same m n e) in
     let s = sound (kind_of m) in
-    let D : Kind → Type 0 = λ j. takes s.reader (letter_of j) ≡ Some j in
-    let a = read_again s.reader m h s.taken in
-    let b = read_again s.reader n g (subst D (sym k) s.taken) in
+    let D : Kind → Type 0 = λ j. takes (reader_of (kind_of m)) (letter_of j) ≡ Some j in
+    let a = read_again (reader_of (kind_of m)) m h s.taken in
+    let b = read_again (reader_of (kind_of m)) n g (subst D (sym k) s.taken) in
     let Q : List ℕ → Type 0 = λ x. Says (contents_of n) (table_of (kind_of n)) x in
     same n m k (says_alike m n (written m) k (subst Q e b.2) a.2)

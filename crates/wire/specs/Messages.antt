@@ -18,7 +18,7 @@ use Rattle.wire.specs.declared.message.Message.TheVariants as message
 use Rattle.wire.specs.declared.message.TooShort.{TooShort}
 use Rattle.wire.specs.Blanks.{blanked}
 use Rattle.wire.specs.Kinds.{letter_of, total_of, table_of, takes}
-use Rattle.wire.specs.Plain.{plain_logon, plain_logon_reply, plain_logout, plain_reject, plain_new_order, plain_order_cancel_request, plain_order_cancel_replace_request, plain_order_mass_cancel_request, plain_execution_report, plain_order_cancel_reject, plain_order_mass_cancel_report}
+use Rattle.wire.specs.Plain.{plain}
 
 -- what a message is: its kind, what its fields hold, and where its texts were read
 pub record Whole : Type 0 where
@@ -28,20 +28,32 @@ pub record Whole : Type 0 where
 
 abbrev pub whole : Message → Whole
 whole (message.Logon m) = record { kind = kind.Logon; contents = logon_contents m; places = logon_places m }
-whole (message.LogonReply m) = record { kind = kind.LogonReply; contents = logon_reply_contents m; places = logon_reply_places m }
+whole (message.LogonReply m) =
+    record { kind = kind.LogonReply; contents = logon_reply_contents m; places = logon_reply_places m }
 whole (message.Logout m) = record { kind = kind.Logout; contents = logout_contents m; places = logout_places m }
-whole (message.Heartbeat m) = record { kind = kind.Heartbeat; contents = heartbeat_contents m; places = heartbeat_places m }
-whole (message.MissedMessageRequest m) = record { kind = kind.MissedMessageRequest; contents = missed_message_request_contents m; places = missed_message_request_places m }
-whole (message.MissedMessageRequestAck m) = record { kind = kind.MissedMessageRequestAck; contents = missed_message_request_ack_contents m; places = missed_message_request_ack_places m }
-whole (message.MissedMessageReport m) = record { kind = kind.MissedMessageReport; contents = missed_message_report_contents m; places = missed_message_report_places m }
+whole (message.Heartbeat m) =
+    record { kind = kind.Heartbeat; contents = heartbeat_contents m; places = heartbeat_places m }
+whole (message.MissedMessageRequest m) =
+    record { kind = kind.MissedMessageRequest; contents = missed_message_request_contents m; places = missed_message_request_places m }
+whole (message.MissedMessageRequestAck m) =
+    record { kind = kind.MissedMessageRequestAck; contents = missed_message_request_ack_contents m; places = missed_message_request_ack_places m }
+whole (message.MissedMessageReport m) =
+    record { kind = kind.MissedMessageReport; contents = missed_message_report_contents m; places = missed_message_report_places m }
 whole (message.Reject m) = record { kind = kind.Reject; contents = reject_contents m; places = reject_places m }
-whole (message.NewOrder m) = record { kind = kind.NewOrder; contents = new_order_contents m; places = new_order_places m }
-whole (message.OrderCancelRequest m) = record { kind = kind.OrderCancelRequest; contents = order_cancel_request_contents m; places = order_cancel_request_places m }
-whole (message.OrderCancelReplaceRequest m) = record { kind = kind.OrderCancelReplaceRequest; contents = order_cancel_replace_request_contents m; places = order_cancel_replace_request_places m }
-whole (message.OrderMassCancelRequest m) = record { kind = kind.OrderMassCancelRequest; contents = order_mass_cancel_request_contents m; places = order_mass_cancel_request_places m }
-whole (message.ExecutionReport m) = record { kind = kind.ExecutionReport; contents = execution_report_contents m; places = execution_report_places m }
-whole (message.OrderCancelReject m) = record { kind = kind.OrderCancelReject; contents = order_cancel_reject_contents m; places = order_cancel_reject_places m }
-whole (message.OrderMassCancelReport m) = record { kind = kind.OrderMassCancelReport; contents = order_mass_cancel_report_contents m; places = order_mass_cancel_report_places m }
+whole (message.NewOrder m) =
+    record { kind = kind.NewOrder; contents = new_order_contents m; places = new_order_places m }
+whole (message.OrderCancelRequest m) =
+    record { kind = kind.OrderCancelRequest; contents = order_cancel_request_contents m; places = order_cancel_request_places m }
+whole (message.OrderCancelReplaceRequest m) =
+    record { kind = kind.OrderCancelReplaceRequest; contents = order_cancel_replace_request_contents m; places = order_cancel_replace_request_places m }
+whole (message.OrderMassCancelRequest m) =
+    record { kind = kind.OrderMassCancelRequest; contents = order_mass_cancel_request_contents m; places = order_mass_cancel_request_places m }
+whole (message.ExecutionReport m) =
+    record { kind = kind.ExecutionReport; contents = execution_report_contents m; places = execution_report_places m }
+whole (message.OrderCancelReject m) =
+    record { kind = kind.OrderCancelReject; contents = order_cancel_reject_contents m; places = order_cancel_reject_places m }
+whole (message.OrderMassCancelReport m) =
+    record { kind = kind.OrderMassCancelReport; contents = order_mass_cancel_report_contents m; places = order_mass_cancel_report_places m }
 
 abbrev pub kind_of : Message → Kind
 kind_of m = (whole m).kind
@@ -51,21 +63,6 @@ contents_of m = (whole m).contents
 
 abbrev pub places_of : Message → List ℕ
 places_of m = (whole m).places
-
--- a message apart from where its texts are
-abbrev pub plain : Message → Message
-plain (message.Logon m) = message.Logon (plain_logon m)
-plain (message.LogonReply m) = message.LogonReply (plain_logon_reply m)
-plain (message.Logout m) = message.Logout (plain_logout m)
-plain (message.Reject m) = message.Reject (plain_reject m)
-plain (message.NewOrder m) = message.NewOrder (plain_new_order m)
-plain (message.OrderCancelRequest m) = message.OrderCancelRequest (plain_order_cancel_request m)
-plain (message.OrderCancelReplaceRequest m) = message.OrderCancelReplaceRequest (plain_order_cancel_replace_request m)
-plain (message.OrderMassCancelRequest m) = message.OrderMassCancelRequest (plain_order_mass_cancel_request m)
-plain (message.ExecutionReport m) = message.ExecutionReport (plain_execution_report m)
-plain (message.OrderCancelReject m) = message.OrderCancelReject (plain_order_cancel_reject m)
-plain (message.OrderMassCancelReport m) = message.OrderMassCancelReport (plain_order_mass_cancel_report m)
-plain m = m
 
 -- how long a message is by its header
 abbrev pub stated : List ℕ → ℕ
