@@ -113,8 +113,8 @@ impl Order {
         }
     }
 
-    // The limit; a market order has none, and never rests.
-    pub(crate) fn price(&self) -> Price
+    /// The limit; 0 of a market order, which has none and never rests.
+    pub fn price(&self) -> Price
         ensures { result ≡ price self.now }
     {
         match self.pricing {
