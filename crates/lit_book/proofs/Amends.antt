@@ -1,11 +1,11 @@
 -- An order with another quantity and price. Assumes nothing.
-use Rattle.std.specs.Prelude.{◌≡◌, ℕ, zero, suc, ◌+◌, ◌-◌, ◌<◌, true, false, List, [], ◌∷◌, get_or, take, drop, Some, None, Option}
+use Rattle.std.specs.Prelude.{◌≡◌, ℕ, zero, suc, true, false, List, [], ◌∷◌, get_or, take, Some, None, Option}
 use Rattle.std.proofs.Common.{eqb, sym, ap, ◌∙◌, arith}
 use Rattle.std.proofs.lemmas.List.{take-append-drop}
 use Rattle.std.proofs.lemmas.Bool.{cond-true, cond-false, eq-eqb}
 use Rattle.std.specs.FinMap.{get}
 use Rattle.std.specs.Option.{option_map}
-use Rattle.keyed.specs.Look.{look, put}
+use Rattle.keyed.specs.Look.{look}
 use Rattle.keyed.proofs.Keyed.{put-here, put_over}
 use Rattle.keyed.proofs.Looks.{passes}
 use Rattle.matching.specs.Meaning.{Meaning, Orders, closed, opened, resized, with_order}

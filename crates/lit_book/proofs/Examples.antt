@@ -1,5 +1,5 @@
 -- The worked examples of the laws. Assumes nothing.
-use Rattle.std.specs.Prelude.{◌≡◌, ◌<◌, false, refl}
+use Rattle.std.specs.Prelude.{false, refl}
 use Rattle.std.proofs.Common.{arith}
 use Rattle.std.proofs.lemmas.Bool.{both_ways}
 use Rattle.codes.specs.declared.order.Side.TheVariants.{Sell}

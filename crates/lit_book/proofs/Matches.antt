@@ -1,16 +1,16 @@
 -- Two orders that trade: both are open, they differ, and they are of one instrument. Assumes nothing.
-use Rattle.std.specs.Prelude.{◌≡◌, ℕ, zero, suc, ◌+◌, ◌-◌, ◌<◌, ◌≤◌, true, false, cond, List, [], ◌∷◌, length, get_or, take, drop, is_some, Some, None, Option, IfSome, nat_eq, nat_lt, slice_index_or, refl}
+use Rattle.std.specs.Prelude.{◌≡◌, ℕ, zero, suc, ◌-◌, ◌<◌, ◌≤◌, true, false, cond, List, [], ◌∷◌, length, get_or, take, drop, is_some, Some, None, Option, refl}
 use Rattle.std.proofs.Common.{eqb, ltb, sym, ap, ◌∙◌, subst, arith}
-use Rattle.std.proofs.lemmas.List.{get_or_at, get_or_default, get_or-take, length-take-le, drop_more}
+use Rattle.std.proofs.lemmas.List.{get_or-take, length-take-le}
 use Rattle.std.proofs.lemmas.Bool.{and_parts, cond_both, cond-false, eqb-false, eqb-true, ne_eqb}
 use Rattle.std.specs.FinMap.{get}
 use Rattle.std.specs.List.{All, slice_get}
 use Rattle.std.specs.Option.{option_map}
 use Rattle.std.proofs.lemmas.Bool.{cond-true}
 use Rattle.keyed.specs.Look.{look, Distinct}
-use Rattle.keyed.proofs.Keyed.{get-keyed, put-apart}
+use Rattle.keyed.proofs.Keyed.{put-apart}
 use Rattle.keyed.proofs.Looks.{distinct_from, look_at, passes}
-use Rattle.matching.specs.Meaning.{Allowed, Meaning, Orders, closed, filled, instrument_of, left, open_quantity, quantity_of, resized, with_order}
+use Rattle.matching.specs.Meaning.{Allowed, Meaning, filled, instrument_of, left, quantity_of, resized, with_order}
 use Rattle.matching.specs.declared.matcher.Held.{Held}
 use Rattle.matching.specs.declared.event.Event.TheVariants.{Trade}
 use Rattle.texts.specs.declared.values.Price.{Price}

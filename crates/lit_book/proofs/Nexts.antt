@@ -1,13 +1,13 @@
 -- What comes next, by the oldest waiting order. Assumes nothing.
-use Rattle.std.specs.Prelude.{◌≡◌, ℕ, true, false, List, [], ◌∷◌, ◌++◌, drop, Some, None, Option, IfSome, slice_index_or, refl}
-use Rattle.std.proofs.Common.{sym, ap, ◌∙◌, arith, subst}
+use Rattle.std.specs.Prelude.{◌≡◌, ℕ, true, false, List, [], ◌∷◌, ◌++◌, drop, Some, None, Option, refl}
+use Rattle.std.proofs.Common.{sym, ap, ◌∙◌, arith}
 use Rattle.std.proofs.lemmas.Bool.{cond-true, cond-false}
 use Rattle.std.specs.List.{slice_get}
 use Rattle.matching.specs.declared.event.Event.{Event}
 use Rattle.matching.specs.declared.event.Event.TheVariants.{Nothing, Expired}
 use Rattle.lit_book.specs.declared.order.Order.{Order}
 use Rattle.lit_book.specs.Orders.{rests}
-use Rattle.lit_book.specs.Lists.{BestAt, best}
+use Rattle.lit_book.specs.Lists.{best}
 use Rattle.lit_book.specs.Rules.{Lit, altered, next, next_of, outcome, trade_of, traded}
 
 clash : {X : Type 0} (x : X) → ◌≡◌ {A = Option X} None (Some x) → ⊥

@@ -1,11 +1,9 @@
-use Rattle.std.specs.Prelude.{◌≡◌, ℕ, true, false}
+use Rattle.std.specs.Prelude.{◌≡◌, ℕ}
 use Rattle.std.proofs.Common.{sym, ap, ◌∙◌}
 use Rattle.std.specs.FinMap.{get}
 use Rattle.matching.specs.Meaning.{opened}
-use Rattle.lit_book.specs.declared.order.Order.{Order}
 use Rattle.lit_book.specs.Books.{lit, lit_meaning, table}
 use Rattle.lit_book.specs.Lists.{order_held, order_number, orders_of}
-use Rattle.lit_book.specs.Orders.{goes_back}
 use Rattle.lit_book.proofs.Amends.{goes_to_back, gone, keeps_place, reopened}
 use Rattle.lit_book.proofs.Tables.{held}
 use Rattle.lit_book.proofs.book.LitBook.revise.Goals as goal

@@ -1,12 +1,11 @@
 use Rattle.std.specs.Prelude.{ℕ, Some}
-use Rattle.std.proofs.Common.{◌≡◌, sym, ap, ◌∙◌, arith, subst, refl}
+use Rattle.std.proofs.Common.{sym, ap, ◌∙◌, arith}
 use Rattle.matching.specs.declared.event.Event.TheVariants.{Trade}
-use Rattle.lit_book.specs.declared.order.Order.{Order}
 use Rattle.lit_book.specs.Books.{lit, lit_meaning}
 use Rattle.lit_book.specs.Rules.{Lit, size_of}
 use Rattle.matching.specs.declared.event.Event.{Event}
 use Rattle.lit_book.proofs.Nexts.{next_trade}
-use Rattle.lit_book.proofs.Matches.{matched, oldest_place, own_place, still_oldest, trade_allowed, trade_lists, trade_means}
+use Rattle.lit_book.proofs.Matches.{matched, oldest_place, still_oldest, trade_allowed, trade_lists, trade_means}
 use Rattle.lit_book.proofs.book.LitBook.trade.Goals as goal
 
 pub alter-requires-clause-found : goal.alter-requires-clause-found
