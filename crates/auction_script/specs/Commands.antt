@@ -1,5 +1,5 @@
 -- What the words of a call say: a command whose parts are those words, or the first word that cannot be read. Assumes nothing.
-use Rattle.std.specs.Prelude.{◌≡◌, ℕ, ◌⊎◌, List, [], length, Ok, Err, codes, Result, slice_index_or}
+use Rattle.std.specs.Prelude.{◌≡◌, ℕ, List, [], length, Ok, Err, codes, Result, slice_index_or}
 use Rattle.std.specs.Borrow.{Bor}
 use Rattle.codes.specs.declared.order.Book.TheVariants.{Integrated}
 use Rattle.codes.specs.declared.order.OrderType.{OrderType as Kind}

@@ -1,11 +1,9 @@
 -- What a line of a script says, by its bytes. Assumes nothing.
 use Rattle.std.specs.Prelude.{◌≡◌, ℕ, ◌⊎◌, Bool, true, false, ◌==◌, List, [], ◌∷◌, Ok, Err, ⊤}
 use Rattle.std.specs.Str.{IsUtf8}
-use Rattle.std.specs.Borrow.{Bor}
 use Rattle.std.specs.Iterator.{DrainsIf}
 use Rattle.std.specs.Str.Iter.{split_whitespace_rest, split_whitespace_steps}
 use Rattle.std.specs.declared.str.SplitWhitespace.{SplitWhitespace}
-use Rattle.auction_script.specs.declared.command.Misread.{Misread}
 use Rattle.auction_script.specs.declared.command.Misread.TheVariants.{Text}
 use Rattle.auction_script.specs.declared.line.Line.{Line as Says}
 use Rattle.auction_script.specs.declared.line.Line.TheVariants.{Skipped, Call, Misread as Unread}

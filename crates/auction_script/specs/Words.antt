@@ -1,5 +1,5 @@
 -- What a single word of a script says, or that it says nothing that is understood. Assumes nothing.
-use Rattle.std.specs.Prelude.{◌≡◌, ◌≢◌, ℕ, ◌^◌, ◌<◌, ◌⊎◌, List, ℤ, Ok, Err, codes, FitsSigned, Result}
+use Rattle.std.specs.Prelude.{◌≡◌, ◌≢◌, ℕ, ◌^◌, ◌<◌, ◌⊎◌, List, Ok, Err, codes, FitsSigned, Result}
 use Rattle.std.specs.Int.{w64}
 use Rattle.std.specs.Str.Parse.{IsNumeral, without_leading_plus, without_leading_sign, signed_digits_value, digits_value}
 use Rattle.codes.specs.declared.order.OrderType.{OrderType}
