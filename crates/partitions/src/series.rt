@@ -1,0 +1,103 @@
+// A partition's items under numbers that count from 1, in memory that is reserved at the start.
+ghost use Rattle.std.specs.Prelude.{◌≡◌, ℕ, ◌+◌, ◌<◌, ◌≤◌, ◌++◌, ◌∷◌, List, [], length, map, drop, position, IfOk, vec_len, vec_capacity, ◌==◌};
+ghost use Rattle.keyed.specs.Numbers.{under};
+
+use crate::per_partition::PerPartition;
+ghost use Rattle.partitions.specs.Marks.{mark};
+
+use keyed::numbers::item_under;
+use std::alloc::{AllocError, Global};
+use std::marker::Model;
+
+/// The most items of a day, in all partitions together.
+pub const ITEMS: usize = 16_384;
+
+/// An item that is for one owner.
+pub trait Owned {
+    ghost owner_of: { Self → ℕ };
+
+    fn owner(&self) -> usize
+        ensures { result ≡ owner_of self.now };
+}
+
+/// At most 16,384 items: in a contract, the list of them.
+#[derive(Drop)]
+pub struct Series<T: Copy + Owned> {
+    items: Vec<T>,
+    // each item's owner as a byte, which a search passes over faster than items
+    marks: Vec<u8>,
+}
+
+impl<T: Copy + Owned> Model for Series<T> {
+    ghost use Rattle.std.specs.Prelude.{◌≡◌, ◌≤◌, List, map, vec_len, vec_capacity};
+    ghost use Rattle.partitions.specs.Marks.{mark};
+    ghost use Rattle.partitions.specs.declared.series.TheConstants.{ITEMS};
+
+    ghost Value = { List T };
+
+    ghost view = { λ s. s.items.items };
+
+    ghost invariant = { λ s. (ITEMS ≤ vec_capacity s.items) × (ITEMS ≤ vec_capacity s.marks) × (vec_len s.items ≤ ITEMS) × (vec_len s.marks ≡ vec_len s.items) × (s.marks.items ≡ map (λ x. mark (T.owner_of x)) s.items.items) };
+}
+
+// The byte of an owner: those from 255 on share one.
+fn mark_of(owner: usize) -> u8
+    ensures { result ≡ mark owner }
+{
+    owner.min(255) as u8
+}
+
+// How many items above a number come before the owner's first.
+fn passed_over<T: Owned>(items: &[T], owner: usize, above: u32) -> Option<usize>
+    ensures { result ≡ position (λ x. T.owner_of x == owner) (drop above items.now) }
+{
+    items
+        .iter()
+        .skip(above as usize)
+        .position(|item| item.owner() == owner)
+}
+
+impl<T: Copy + Owned> Series<T> {
+    ghost use Rattle.partitions.specs.Series.{next_of};
+    ghost use Rattle.partitions.specs.declared.series.TheConstants.{ITEMS};
+
+    pub fn new(alloc: Global) -> Result<Series<T>, AllocError>
+        ensures { IfOk result (λ s. s ≡ []) }
+    {
+        let items = Vec::with_capacity(alloc, ITEMS)?;
+        let marks = Vec::with_capacity(alloc, ITEMS)?;
+        Ok(Series { items, marks })
+    }
+
+    /// The last number; 0 where there is no item.
+    pub fn last(&self) -> u32
+        ensures value { result ≡ length self.now }
+        ensures bound { result ≤ ITEMS }
+    {
+        self.items.len() as u32
+    }
+
+    /// Adds an item under the next number.
+    pub fn push(&mut self, item: T)
+        requires { length self.old < ITEMS }
+        ensures { self.new ≡ self.old ++ item ∷ [] }
+    {
+        self.items.push_reserved(item);
+        self.marks.push_reserved(mark_of(item.owner()));
+    }
+
+    /// The item of a number.
+    pub fn item(&self, number: u32) -> Option<T>
+        ensures { result ≡ under self.now number }
+    {
+        item_under(&self.items, u64::from(number))
+    }
+
+    /// The lowest number above a given one whose item is the owner's.
+    pub fn next(&self, owner: usize, above: u32) -> Option<u32>
+        ensures { result ≡ next_of T.owner_of self.now owner above }
+    {
+        let passed = passed_over(&self.items, owner, above)?;
+        Some(above + 1 + passed as u32)
+    }
+}
