@@ -6,11 +6,9 @@ use crate::per_partition::PerPartition;
 ghost use Rattle.partitions.specs.Marks.{mark};
 
 use keyed::numbers::item_under;
+use limits::REPORTS;
 use std::alloc::{AllocError, Global};
 use std::marker::Model;
-
-/// The most items of a day, in all partitions together.
-pub const ITEMS: usize = 16_384;
 
 /// An item that is for one owner.
 pub trait Owned {
@@ -31,13 +29,13 @@ pub struct Series<T: Copy + Owned> {
 impl<T: Copy + Owned> Model for Series<T> {
     ghost use Rattle.std.specs.Prelude.{◌≡◌, ◌≤◌, List, map, vec_len, vec_capacity};
     ghost use Rattle.partitions.specs.Marks.{mark};
-    ghost use Rattle.partitions.specs.declared.series.TheConstants.{ITEMS};
+    ghost use Rattle.limits.specs.declared.TheConstants.{REPORTS};
 
     ghost Value = { List T };
 
     ghost view = { λ s. s.items.items };
 
-    ghost invariant = { λ s. (ITEMS ≤ vec_capacity s.items) × (ITEMS ≤ vec_capacity s.marks) × (vec_len s.items ≤ ITEMS) × (vec_len s.marks ≡ vec_len s.items) × (s.marks.items ≡ map (λ x. mark (T.owner_of x)) s.items.items) };
+    ghost invariant = { λ s. (REPORTS ≤ vec_capacity s.items) × (REPORTS ≤ vec_capacity s.marks) × (vec_len s.items ≤ REPORTS) × (vec_len s.marks ≡ vec_len s.items) × (s.marks.items ≡ map (λ x. mark (T.owner_of x)) s.items.items) };
 }
 
 // The byte of an owner: those from 255 on share one.
@@ -59,27 +57,26 @@ fn passed_over<T: Owned>(items: &[T], owner: usize, above: u32) -> Option<usize>
 
 impl<T: Copy + Owned> Series<T> {
     ghost use Rattle.partitions.specs.Series.{next_of};
-    ghost use Rattle.partitions.specs.declared.series.TheConstants.{ITEMS};
 
     pub fn new(alloc: Global) -> Result<Series<T>, AllocError>
         ensures { IfOk result (λ s. s ≡ []) }
     {
-        let items = Vec::with_capacity(alloc, ITEMS)?;
-        let marks = Vec::with_capacity(alloc, ITEMS)?;
+        let items = Vec::with_capacity(alloc, REPORTS)?;
+        let marks = Vec::with_capacity(alloc, REPORTS)?;
         Ok(Series { items, marks })
     }
 
     /// The last number; 0 where there is no item.
     pub fn last(&self) -> u32
         ensures value { result ≡ length self.now }
-        ensures bound { result ≤ ITEMS }
+        ensures bound { result ≤ REPORTS }
     {
         self.items.len() as u32
     }
 
     /// Adds an item under the next number.
     pub fn push(&mut self, item: T)
-        requires { length self.old < ITEMS }
+        requires { length self.old < REPORTS }
         ensures { self.new ≡ self.old ++ item ∷ [] }
     {
         self.items.push_reserved(item);
