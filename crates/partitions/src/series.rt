@@ -1,11 +1,10 @@
 // A partition's items under numbers that count from 1, in memory that is reserved at the start.
 ghost use Rattle.std.specs.Prelude.{◌≡◌, ℕ, ◌+◌, ◌<◌, ◌≤◌, ◌++◌, ◌∷◌, List, [], length, map, drop, position, IfOk, vec_len, vec_capacity, ◌==◌};
 ghost use Rattle.keyed.specs.Numbers.{under};
-
-use crate::per_partition::PerPartition;
 ghost use Rattle.partitions.specs.Marks.{mark};
 ghost use Rattle.partitions.specs.Series.{total};
 
+use crate::per_partition::PerPartition;
 use keyed::numbers::item_under;
 use limits::REPORTS;
 use std::alloc::{AllocError, Global};
