@@ -1,5 +1,5 @@
 -- A partition's items under their numbers. Assumes nothing.
-use Rattle.std.specs.Prelude.{ℕ, ◌+◌, List, [], ◌∷◌, ◌++◌, length, drop, position, Option, ◌==◌}
+use Rattle.std.specs.Prelude.{ℕ, ◌+◌, List, [], ◌∷◌, ◌++◌, length, map, drop, position, Option, ◌==◌}
 use Rattle.codes.specs.declared.session.Partition.{Partition}
 use Rattle.std.specs.Option.{option_map}
 use Rattle.partitions.specs.declared.per_partition.PerPartition.{PerPartition}
@@ -17,3 +17,7 @@ module _ {X : Type 0} where
   -- one item more in a partition; the others stay
   abbrev pub grown : PerPartition (List X) → Partition → X → PerPartition (List X)
   grown k p x = with_at k p (at k p ++ x ∷ [])
+
+-- the items of each partition, by a function
+abbrev pub mapped : {X Y : Type 0} → (X → Y) → PerPartition (List X) → PerPartition (List Y)
+mapped f k = record { one = map f k.one; two = map f k.two; three = map f k.three }
