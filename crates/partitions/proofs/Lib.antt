@@ -1,2 +1,3 @@
 pub mod Totals
 pub mod Nexts
+pub mod Places

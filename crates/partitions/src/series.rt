@@ -7,6 +7,7 @@ ghost use Rattle.partitions.specs.Series.{total};
 use crate::per_partition::PerPartition;
 use keyed::numbers::item_under;
 use limits::REPORTS;
+use memchr::memchr;
 use std::alloc::{AllocError, Global};
 use std::marker::Model;
 
@@ -45,10 +46,30 @@ fn mark_of(owner: usize) -> u8
     owner.min(255) as u8
 }
 
+#[tactic(auto, using(crate::proofs::Places::first_is_position))]
+fn first_mark(marks: &[u8], mark: u8) -> Option<usize>
+    ensures { result ≡ position (λ m. m == mark) marks.now }
+{
+    memchr(mark, marks)
+}
+
+fn mark_above(marks: &[u8], mark: u8, above: usize) -> Option<usize>
+    ensures { result ≡ position (λ m. m == mark) (drop above marks.now) }
+{
+    if above >= marks.len() {
+        return None;
+    }
+    first_mark(&marks[above..], mark)
+}
+
 // How many items above a number come before the owner's first.
-fn passed_over<T: Owned>(items: &[T], owner: usize, above: u32) -> Option<usize>
+fn passed_over<T: Owned>(items: &[T], marks: &[u8], owner: usize, above: u32) -> Option<usize>
+    requires { marks.now ≡ map (λ x. mark (T.owner_of x)) items.now }
     ensures { result ≡ position (λ x. T.owner_of x == owner) (drop above items.now) }
 {
+    if owner < 255 {
+        return mark_above(marks, owner as u8, above as usize);
+    }
     items
         .iter()
         .skip(above as usize)
@@ -106,7 +127,7 @@ impl<T: Copy + Owned> Series<T> {
     pub fn next(&self, owner: usize, above: u32) -> Option<u32>
         ensures { result ≡ next_of T.owner_of self.now owner above }
     {
-        let passed = passed_over(&self.items, owner, above)?;
+        let passed = passed_over(&self.items, &self.marks, owner, above)?;
         Some(above + 1 + passed as u32)
     }
 }

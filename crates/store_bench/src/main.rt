@@ -11,7 +11,7 @@ use std::time::{Duration, Instant};
 use store::Store;
 use store::records::Records;
 
-// How often an owner that has no report is asked for.
+// How many owners that have no report are asked for.
 const ROUNDS: usize = 100;
 
 // A time in nanoseconds for each of so many.
@@ -21,7 +21,7 @@ fn each(time: Duration, count: usize) -> u128 {
 
 fn ask<S: Store>(store: &S) -> usize {
     (0..ROUNDS)
-        .map(|_| read_owner(store, OWNERS))
+        .map(|round| read_owner(store, OWNERS.wrapping_add(round)))
         .fold(0, |found, more| found.wrapping_add(more))
 }
 
@@ -41,7 +41,7 @@ fn run<S: Store>(rt: &HostRuntime, name: &str, store: &mut S) -> anyhow::Result<
     let start = Instant::now(rt)?;
     let none = ask(store);
     let asked = each(start.elapsed(rt)?, 3 * ROUNDS);
-    println!(rt; "{name}: {none} reports of an owner that has none")?;
+    println!(rt; "{name}: {none} reports of owners that have none")?;
     eprintln!(rt;
         "{name}: {append} ns for each append, {read_time} ns for each read, {walk} ns for each read by next, {asked} ns to ask for a next that is not there"
     )?;
