@@ -1,38 +1,52 @@
 -- The lists of codes, by name. Assumes nothing.
-use Rattle.std.specs.Prelude.{ℕ, List, [], ◌∷◌}
+use Rattle.std.specs.Prelude.{ℕ, Bool, ◌&&◌, ◌||◌, nat_le, List, [], ◌∷◌, map}
+use Rattle.std.specs.List.{list_any}
 use Rattle.codes.specs.declared.lists.Codes.{Codes}
 use Rattle.codes.specs.declared.lists.Codes.TheVariants as list
-use Rattle.codes.specs.Order.{side_codes, order_type_codes, time_in_force_codes, clearing_account_codes, order_capacity_codes, auto_cancel_codes, order_sub_type_codes, book_codes, exec_instruction_codes, passive_only_codes, mass_cancel_type_codes}
-use Rattle.codes.specs.Session.{version_codes, partition_codes, ack_response_codes, report_response_codes}
-use Rattle.codes.specs.Report.{exec_type_codes, status_codes, liquidity_codes, trade_type_codes, capacity_codes, price_differential_codes, mass_response_codes}
+use Rattle.codes.specs.declared.order.OrderType.TheVariants as order_type
+use Rattle.codes.specs.declared.order.Book.TheVariants as book
+use Rattle.codes.specs.declared.order.MassCancelType.TheVariants as mass_cancel_type
+use Rattle.codes.specs.declared.report.ExecType.TheVariants as exec_type
+use Rattle.codes.specs.Order.{side_code, sides, order_type_code, order_types, time_in_force_code, times_in_force, clearing_account_code, clearing_accounts, order_capacity_code, order_capacities, auto_cancel_code, auto_cancels, order_sub_type_code, order_sub_types, book_code, books, exec_instruction_code, exec_instructions, passive_only_code, passive_onlys, mass_cancel_type_code, mass_cancel_types}
+use Rattle.codes.specs.Session.{version_code, versions, partition_code, partitions, ack_response_code, ack_responses, report_response_code, report_responses}
+use Rattle.codes.specs.Report.{exec_type_code, exec_types, status_code, statuses, liquidity_code, liquidities, trade_type_code, trade_types, capacity_code, capacities, price_differential_code, price_differentials, mass_response_code, mass_responses}
 
+-- the bytes of each list
 abbrev pub listed : Codes → List ℕ
-listed list.Sides = side_codes
-listed list.OrderTypes = order_type_codes
-listed list.TimesInForce = time_in_force_codes
-listed list.ClearingAccounts = clearing_account_codes
-listed list.OrderCapacities = order_capacity_codes
-listed list.AutoCancels = auto_cancel_codes
-listed list.OrderSubTypes = order_sub_type_codes
-listed list.Books = book_codes
-listed list.ExecInstructions = exec_instruction_codes
-listed list.PassiveOnlys = passive_only_codes
-listed list.MassCancelTypes = mass_cancel_type_codes
-listed list.Versions = version_codes
-listed list.Partitions = partition_codes
-listed list.AckResponses = ack_response_codes
-listed list.ReportResponses = report_response_codes
-listed list.ExecTypes = exec_type_codes
-listed list.Statuses = status_codes
-listed list.Liquidities = liquidity_codes
-listed list.TradeTypes = trade_type_codes
-listed list.Capacities = capacity_codes
-listed list.PriceDifferentials = price_differential_codes
-listed list.MassResponses = mass_response_codes
-listed list.LimitOnly = 2 ∷ []
-listed list.DarkOnly = 0 ∷ []
-listed list.ByInstrument = 3 ∷ 9 ∷ []
-listed list.BySegment = 4 ∷ 15 ∷ []
-listed list.RejectedOnly = 56 ∷ []
-listed list.TradeOnly = 70 ∷ []
-listed list.TradeOrCancel = 70 ∷ 72 ∷ []
+listed list.Sides = map side_code sides
+listed list.OrderTypes = map order_type_code order_types
+listed list.TimesInForce = map time_in_force_code times_in_force
+listed list.ClearingAccounts = map clearing_account_code clearing_accounts
+listed list.OrderCapacities = map order_capacity_code order_capacities
+listed list.AutoCancels = map auto_cancel_code auto_cancels
+listed list.OrderSubTypes = map order_sub_type_code order_sub_types
+listed list.Books = map book_code books
+listed list.ExecInstructions = map exec_instruction_code exec_instructions
+listed list.PassiveOnlys = map passive_only_code passive_onlys
+listed list.MassCancelTypes = map mass_cancel_type_code mass_cancel_types
+listed list.Versions = map version_code versions
+listed list.Partitions = map partition_code partitions
+listed list.AckResponses = map ack_response_code ack_responses
+listed list.ReportResponses = map report_response_code report_responses
+listed list.ExecTypes = map exec_type_code exec_types
+listed list.Statuses = map status_code statuses
+listed list.Liquidities = map liquidity_code liquidities
+listed list.TradeTypes = map trade_type_code trade_types
+listed list.Capacities = map capacity_code capacities
+listed list.PriceDifferentials = map price_differential_code price_differentials
+listed list.MassResponses = map mass_response_code mass_responses
+listed list.LimitOnly = map order_type_code (order_type.Limit ∷ [])
+listed list.DarkOnly = map book_code (book.DarkMidpoint ∷ [])
+listed list.ByInstrument = map mass_cancel_type_code (mass_cancel_type.FirmInstrument ∷ mass_cancel_type.CompIdInstrument ∷ [])
+listed list.BySegment = map mass_cancel_type_code (mass_cancel_type.FirmSegment ∷ mass_cancel_type.CompIdSegment ∷ [])
+listed list.RejectedOnly = map exec_type_code (exec_type.Rejected ∷ [])
+listed list.TradeOnly = map exec_type_code (exec_type.Trade ∷ [])
+listed list.TradeOrCancel = map exec_type_code (exec_type.Trade ∷ exec_type.TradeCancel ∷ [])
+
+-- a digit or a capital letter
+abbrev pub is_character : ℕ → Bool
+is_character b = (nat_le 48 b && nat_le b 57) || (nat_le 65 b && nat_le b 90)
+
+-- a list whose bytes are characters
+abbrev pub alpha : Codes → Bool
+alpha cs = list_any is_character (listed cs)

@@ -1,4 +1,4 @@
--- The codes of an order's terms. Assumes nothing.
+-- The codes of an order's terms: each enum's values and their bytes. Assumes nothing.
 use Rattle.std.specs.Prelude.{ℕ, List, [], ◌∷◌, codes}
 use Rattle.codes.specs.declared.order.Side.{Side}
 use Rattle.codes.specs.declared.order.Side.TheVariants as side
@@ -24,12 +24,12 @@ use Rattle.codes.specs.declared.order.MassCancelType.{MassCancelType}
 use Rattle.codes.specs.declared.order.MassCancelType.TheVariants as mass_cancel_type
 
 -- side of an order
+abbrev pub sides : List Side
+sides = side.Buy ∷ side.Sell ∷ []
+
 abbrev pub side_code : Side → ℕ
 side_code side.Buy = 1
 side_code side.Sell = 2
-
-abbrev pub side_codes : List ℕ
-side_codes = 1 ∷ 2 ∷ []
 
 -- the word for it
 abbrev pub side_text : Side → List ℕ
@@ -37,14 +37,19 @@ side_text side.Buy = codes "buy"
 side_text side.Sell = codes "sell"
 
 -- whether an order has a limit
+abbrev pub order_types : List OrderType
+order_types = order_type.Market ∷ order_type.Limit ∷ []
+
 abbrev pub order_type_code : OrderType → ℕ
 order_type_code order_type.Market = 1
 order_type_code order_type.Limit = 2
 
-abbrev pub order_type_codes : List ℕ
-order_type_codes = 1 ∷ 2 ∷ []
-
 -- how long an order stays
+abbrev pub times_in_force : List TimeInForce
+times_in_force =
+    time_in_force.Day ∷ time_in_force.GoodTillCancel ∷ time_in_force.ImmediateOrCancel
+    ∷ time_in_force.FillOrKill ∷ time_in_force.GoodTillDate ∷ time_in_force.GoodTillTime ∷ []
+
 abbrev pub time_in_force_code : TimeInForce → ℕ
 time_in_force_code time_in_force.Day = 0
 time_in_force_code time_in_force.GoodTillCancel = 1
@@ -53,60 +58,66 @@ time_in_force_code time_in_force.FillOrKill = 4
 time_in_force_code time_in_force.GoodTillDate = 6
 time_in_force_code time_in_force.GoodTillTime = 8
 
-abbrev pub time_in_force_codes : List ℕ
-time_in_force_codes = 0 ∷ 1 ∷ 3 ∷ 4 ∷ 6 ∷ 8 ∷ []
-
 -- whose account clears a trade
+abbrev pub clearing_accounts : List ClearingAccount
+clearing_accounts = clearing_account.Client ∷ clearing_account.House ∷ []
+
 abbrev pub clearing_account_code : ClearingAccount → ℕ
 clearing_account_code clearing_account.Client = 1
 clearing_account_code clearing_account.House = 3
 
-abbrev pub clearing_account_codes : List ℕ
-clearing_account_codes = 1 ∷ 3 ∷ []
-
 -- in which capacity a firm enters an order
+abbrev pub order_capacities : List OrderCapacity
+order_capacities =
+    order_capacity.RisklessPrincipal ∷ order_capacity.Principal ∷ order_capacity.Agency
+    ∷ order_capacity.CfdGiveUp ∷ []
+
 abbrev pub order_capacity_code : OrderCapacity → ℕ
 order_capacity_code order_capacity.RisklessPrincipal = 1
 order_capacity_code order_capacity.Principal = 2
 order_capacity_code order_capacity.Agency = 3
 order_capacity_code order_capacity.CfdGiveUp = 4
 
-abbrev pub order_capacity_codes : List ℕ
-order_capacity_codes = 1 ∷ 2 ∷ 3 ∷ 4 ∷ []
-
 -- whether an order is marked to end with the line; if so, the CompID's configuration decides
+abbrev pub auto_cancels : List AutoCancel
+auto_cancels = auto_cancel.Keep ∷ auto_cancel.AsConfigured ∷ []
+
 abbrev pub auto_cancel_code : AutoCancel → ℕ
 auto_cancel_code auto_cancel.Keep = 0
 auto_cancel_code auto_cancel.AsConfigured = 1
 
-abbrev pub auto_cancel_codes : List ℕ
-auto_cancel_codes = 0 ∷ 1 ∷ []
-
 -- the one kind of request that a New Order makes
+abbrev pub order_sub_types : List OrderSubType
+order_sub_types = order_sub_type.Order ∷ []
+
 abbrev pub order_sub_type_code : OrderSubType → ℕ
 order_sub_type_code order_sub_type.Order = 0
 
-abbrev pub order_sub_type_codes : List ℕ
-order_sub_type_codes = 0 ∷ []
-
 -- the book that an order is for
+abbrev pub books : List Book
+books = book.DarkMidpoint ∷ book.Integrated ∷ []
+
 abbrev pub book_code : Book → ℕ
 book_code book.DarkMidpoint = 0
 book_code book.Integrated = 1
 
-abbrev pub book_codes : List ℕ
-book_codes = 0 ∷ 1 ∷ []
-
 -- when an order of the dark book takes part
+abbrev pub exec_instructions : List ExecInstruction
+exec_instructions =
+    exec_instruction.ContinuousAndPeriodic ∷ exec_instruction.PeriodicOnly ∷ exec_instruction.ContinuousOnly
+    ∷ []
+
 abbrev pub exec_instruction_code : ExecInstruction → ℕ
 exec_instruction_code exec_instruction.ContinuousAndPeriodic = 0
 exec_instruction_code exec_instruction.PeriodicOnly = 1
 exec_instruction_code exec_instruction.ContinuousOnly = 2
 
-abbrev pub exec_instruction_codes : List ℕ
-exec_instruction_codes = 0 ∷ 1 ∷ 2 ∷ []
-
 -- whether an order must rest, and how near the best price
+abbrev pub passive_onlys : List PassiveOnly
+passive_onlys =
+    passive_only.NoConstraint ∷ passive_only.SetOrJoinBest ∷ passive_only.WithinOnePoint
+    ∷ passive_only.WithinTwoPoints ∷ passive_only.RestOnEntry ∷ passive_only.SetBest ∷ []
+
 abbrev pub passive_only_code : PassiveOnly → ℕ
 passive_only_code passive_only.NoConstraint = 0
 passive_only_code passive_only.SetOrJoinBest = 1
@@ -115,10 +126,12 @@ passive_only_code passive_only.WithinTwoPoints = 3
 passive_only_code passive_only.RestOnEntry = 99
 passive_only_code passive_only.SetBest = 100
 
-abbrev pub passive_only_codes : List ℕ
-passive_only_codes = 0 ∷ 1 ∷ 2 ∷ 3 ∷ 99 ∷ 100 ∷ []
-
 -- which orders a mass cancel takes
+abbrev pub mass_cancel_types : List MassCancelType
+mass_cancel_types =
+    mass_cancel_type.FirmInstrument ∷ mass_cancel_type.FirmSegment ∷ mass_cancel_type.CompId
+    ∷ mass_cancel_type.Firm ∷ mass_cancel_type.CompIdInstrument ∷ mass_cancel_type.CompIdSegment ∷ []
+
 abbrev pub mass_cancel_type_code : MassCancelType → ℕ
 mass_cancel_type_code mass_cancel_type.FirmInstrument = 3
 mass_cancel_type_code mass_cancel_type.FirmSegment = 4
@@ -126,6 +139,3 @@ mass_cancel_type_code mass_cancel_type.CompId = 7
 mass_cancel_type_code mass_cancel_type.Firm = 8
 mass_cancel_type_code mass_cancel_type.CompIdInstrument = 9
 mass_cancel_type_code mass_cancel_type.CompIdSegment = 15
-
-abbrev pub mass_cancel_type_codes : List ℕ
-mass_cancel_type_codes = 3 ∷ 4 ∷ 7 ∷ 8 ∷ 9 ∷ 15 ∷ []

@@ -1,4 +1,4 @@
--- The codes of reports. `Unspecified` is a null byte. Assumes nothing.
+-- The codes of reports: each enum's values and their bytes. `Unspecified` is a null byte. Assumes nothing.
 use Rattle.std.specs.Prelude.{ℕ, List, [], ◌∷◌}
 use Rattle.codes.specs.declared.report.ExecType.{ExecType}
 use Rattle.codes.specs.declared.report.ExecType.TheVariants as exec_type
@@ -16,6 +16,11 @@ use Rattle.codes.specs.declared.report.MassResponse.{MassResponse}
 use Rattle.codes.specs.declared.report.MassResponse.TheVariants as mass_response
 
 -- why an Execution Report is sent
+abbrev pub exec_types : List ExecType
+exec_types =
+    exec_type.Unspecified ∷ exec_type.New ∷ exec_type.Cancelled ∷ exec_type.Replaced ∷ exec_type.Rejected
+    ∷ exec_type.Expired ∷ exec_type.Restated ∷ exec_type.Trade ∷ exec_type.TradeCancel ∷ []
+
 abbrev pub exec_type_code : ExecType → ℕ
 exec_type_code exec_type.Unspecified = 0
 exec_type_code exec_type.New = 48
@@ -27,10 +32,12 @@ exec_type_code exec_type.Restated = 68
 exec_type_code exec_type.Trade = 70
 exec_type_code exec_type.TradeCancel = 72
 
-abbrev pub exec_type_codes : List ℕ
-exec_type_codes = 0 ∷ 48 ∷ 52 ∷ 53 ∷ 56 ∷ 67 ∷ 68 ∷ 70 ∷ 72 ∷ []
-
 -- the status of an order
+abbrev pub statuses : List Status
+statuses =
+    status.New ∷ status.PartiallyFilled ∷ status.Filled ∷ status.Cancelled ∷ status.Expired ∷ status.Rejected
+    ∷ []
+
 abbrev pub status_code : Status → ℕ
 status_code status.New = 0
 status_code status.PartiallyFilled = 1
@@ -39,37 +46,41 @@ status_code status.Cancelled = 4
 status_code status.Expired = 6
 status_code status.Rejected = 8
 
-abbrev pub status_codes : List ℕ
-status_codes = 0 ∷ 1 ∷ 2 ∷ 4 ∷ 6 ∷ 8 ∷ []
-
 -- whether a fill added or removed liquidity
+abbrev pub liquidities : List Liquidity
+liquidities = liquidity.Unspecified ∷ liquidity.Added ∷ liquidity.Uncrossing ∷ liquidity.Removed ∷ []
+
 abbrev pub liquidity_code : Liquidity → ℕ
 liquidity_code liquidity.Unspecified = 0
 liquidity_code liquidity.Added = 65
 liquidity_code liquidity.Uncrossing = 67
 liquidity_code liquidity.Removed = 82
 
-abbrev pub liquidity_codes : List ℕ
-liquidity_codes = 0 ∷ 65 ∷ 67 ∷ 82 ∷ []
-
 -- whether the executed part was shown
+abbrev pub trade_types : List TradeType
+trade_types = trade_type.Visible ∷ trade_type.Hidden ∷ []
+
 abbrev pub trade_type_code : TradeType → ℕ
 trade_type_code trade_type.Visible = 0
 trade_type_code trade_type.Hidden = 1
 
-abbrev pub trade_type_codes : List ℕ
-trade_type_codes = 0 ∷ 1 ∷ []
-
 -- the capacity that a report tells
+abbrev pub capacities : List Capacity
+capacities = capacity.RisklessPrincipal ∷ capacity.Principal ∷ capacity.Agency ∷ []
+
 abbrev pub capacity_code : Capacity → ℕ
 capacity_code capacity.RisklessPrincipal = 1
 capacity_code capacity.Principal = 2
 capacity_code capacity.Agency = 3
 
-abbrev pub capacity_codes : List ℕ
-capacity_codes = 1 ∷ 2 ∷ 3 ∷ []
-
 -- how an order's price stands to the best one
+abbrev pub price_differentials : List PriceDifferential
+price_differentials =
+    price_differential.Unspecified ∷ price_differential.JoinBest ∷ price_differential.Second
+    ∷ price_differential.Third ∷ price_differential.Fourth ∷ price_differential.Fifth ∷ price_differential.Sixth
+    ∷ price_differential.Seventh ∷ price_differential.Eighth ∷ price_differential.NinthOrWorse
+    ∷ price_differential.Aggressive ∷ price_differential.NewBest ∷ price_differential.Passive ∷ []
+
 abbrev pub price_differential_code : PriceDifferential → ℕ
 price_differential_code price_differential.Unspecified = 0
 price_differential_code price_differential.JoinBest = 49
@@ -85,13 +96,10 @@ price_differential_code price_differential.Aggressive = 65
 price_differential_code price_differential.NewBest = 66
 price_differential_code price_differential.Passive = 80
 
-abbrev pub price_differential_codes : List ℕ
-price_differential_codes = 0 ∷ 49 ∷ 50 ∷ 51 ∷ 52 ∷ 53 ∷ 54 ∷ 55 ∷ 56 ∷ 57 ∷ 65 ∷ 66 ∷ 80 ∷ []
-
 -- whether a mass cancel was accepted
+abbrev pub mass_responses : List MassResponse
+mass_responses = mass_response.Rejected ∷ mass_response.Accepted ∷ []
+
 abbrev pub mass_response_code : MassResponse → ℕ
 mass_response_code mass_response.Rejected = 0
 mass_response_code mass_response.Accepted = 7
-
-abbrev pub mass_response_codes : List ℕ
-mass_response_codes = 0 ∷ 7 ∷ []

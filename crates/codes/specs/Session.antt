@@ -1,4 +1,4 @@
--- The codes of sessions and of downloads. Assumes nothing.
+-- The codes of sessions and of downloads: each enum's values and their bytes. Assumes nothing.
 use Rattle.std.specs.Prelude.{ℕ, List, [], ◌∷◌}
 use Rattle.codes.specs.declared.session.Version.{Version}
 use Rattle.codes.specs.declared.session.Version.TheVariants as version
@@ -10,36 +10,38 @@ use Rattle.codes.specs.declared.session.ReportResponse.{ReportResponse}
 use Rattle.codes.specs.declared.session.ReportResponse.TheVariants as report_response
 
 -- the one version of the messages
+abbrev pub versions : List Version
+versions = version.One ∷ []
+
 abbrev pub version_code : Version → ℕ
 version_code version.One = 1
 
-abbrev pub version_codes : List ℕ
-version_codes = 1 ∷ []
-
 -- a part of the matching system, with sequence numbers of its own
+abbrev pub partitions : List Partition
+partitions = partition.One ∷ partition.Two ∷ partition.Three ∷ []
+
 abbrev pub partition_code : Partition → ℕ
 partition_code partition.One = 1
 partition_code partition.Two = 2
 partition_code partition.Three = 3
 
-abbrev pub partition_codes : List ℕ
-partition_codes = 1 ∷ 2 ∷ 3 ∷ []
-
 -- the answer to a Missed Message Request
+abbrev pub ack_responses : List AckResponse
+ack_responses =
+    ack_response.Successful ∷ ack_response.LimitReached ∷ ack_response.InvalidAppId
+    ∷ ack_response.ServiceUnavailable ∷ []
+
 abbrev pub ack_response_code : AckResponse → ℕ
 ack_response_code ack_response.Successful = 0
 ack_response_code ack_response.LimitReached = 1
 ack_response_code ack_response.InvalidAppId = 2
 ack_response_code ack_response.ServiceUnavailable = 3
 
-abbrev pub ack_response_codes : List ℕ
-ack_response_codes = 0 ∷ 1 ∷ 2 ∷ 3 ∷ []
-
 -- how a download ended
+abbrev pub report_responses : List ReportResponse
+report_responses = report_response.Complete ∷ report_response.MessageLimit ∷ report_response.ServiceUnavailable ∷ []
+
 abbrev pub report_response_code : ReportResponse → ℕ
 report_response_code report_response.Complete = 0
 report_response_code report_response.MessageLimit = 1
 report_response_code report_response.ServiceUnavailable = 3
-
-abbrev pub report_response_codes : List ℕ
-report_response_codes = 0 ∷ 1 ∷ 3 ∷ []

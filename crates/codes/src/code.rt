@@ -1,16 +1,31 @@
 // A byte that stands for one of a few values.
-ghost use Rattle.std.specs.Prelude.{◌≡◌, ℕ, true, false, List, MatchOption};
+ghost use Rattle.std.specs.Prelude.{◌≡◌, ℕ, true, is_some, IfSome};
+ghost use Rattle.codes.specs.declared.lists.Codes.{Codes as Lists};
+ghost use Rattle.codes.specs.Lists.{listed};
 ghost use Rattle.codes.specs.Member.{member};
 
-// What a listed field says: `coded` is the byte of a value, `codes` are the bytes that are listed.
+/// What a field of one byte says: one of a few values, each with a byte of its own.
 pub trait Code {
+    // the list of their bytes
+    ghost list: { Lists };
+
+    // the byte of a value
     ghost coded: { Self → ℕ };
 
-    ghost codes: { List ℕ };
-
-    // The value that a byte stands for, if the byte is listed.
+    /// The value that a byte stands for; none where the byte is not listed.
     fn of(byte: u8) -> Option<Self>
     where
         Self: Sized,
-        ensures { MatchOption result (member byte codes ≡ false) (λ x. (member byte codes ≡ true) × (coded x ≡ byte)) };
+        ensures listed { is_some result ≡ member byte (listed list) }
+        ensures value { IfSome result (λ x. coded x ≡ byte) };
+
+    /// The byte that stands for the value.
+    fn byte(&self) -> u8
+        ensures { result ≡ Self.coded self.now };
+
+    // each value's byte is listed
+    ghost every: { (x : Self) → member (coded x) (listed list) ≡ true };
+
+    // no two values have one byte
+    ghost one: { (x y : Self) → coded x ≡ coded y → x ≡ y };
 }

@@ -1,21 +1,29 @@
 // The codes of an order's terms.
 ghost use Rattle.std.specs.Prelude.{◌≡◌, ℕ, true, false, Some};
-ghost use Rattle.codes.specs.Order.{side_code, side_codes, side_text, order_type_code, order_type_codes, time_in_force_code, time_in_force_codes, clearing_account_code, clearing_account_codes, order_capacity_code, order_capacity_codes, auto_cancel_code, auto_cancel_codes, order_sub_type_code, order_sub_type_codes, book_code, book_codes, exec_instruction_code, exec_instruction_codes, passive_only_code, passive_only_codes, mass_cancel_type_code, mass_cancel_type_codes};
+ghost use Rattle.codes.specs.Order.{side_text};
+ghost use Rattle.std.proofs.Common.{arith};
+ghost use Rattle.codes.specs.declared.lists.Codes.TheVariants as lists;
 
 use crate::code::Code;
 use std::fmt;
 
-// Side of an order.
-#[derive(Clone, Copy, Debug, PartialEq)]
+/// Side of an order.
+#[derive(Clone, Copy, Debug, PartialEq, Eq)]
 pub enum Side {
     Buy = 1,
     Sell = 2,
 }
 
 impl Code for Side {
-    ghost coded = { λ c. side_code c };
+    ghost use Rattle.codes.specs.Order.{side_code};
 
-    ghost codes = { side_codes };
+    ghost list = { lists.Sides };
+
+    ghost coded = { λ x. side_code x };
+
+    ghost every = { λ x. Prim.grind arith };
+
+    ghost one = { λ x y h. Prim.grind arith };
 
     fn of(byte: u8) -> Option<Side> {
         match byte {
@@ -23,6 +31,10 @@ impl Code for Side {
             2 => Some(Side::Sell),
             _ => None,
         }
+    }
+
+    fn byte(&self) -> u8 {
+        *self as u8
     }
 }
 
@@ -46,17 +58,23 @@ impl fmt::Display for Side {
     }
 }
 
-// Whether an order has a limit.
-#[derive(Clone, Copy, Debug, PartialEq)]
+/// Whether an order has a limit.
+#[derive(Clone, Copy, Debug, PartialEq, Eq)]
 pub enum OrderType {
     Market = 1,
     Limit = 2,
 }
 
 impl Code for OrderType {
-    ghost coded = { λ c. order_type_code c };
+    ghost use Rattle.codes.specs.Order.{order_type_code};
 
-    ghost codes = { order_type_codes };
+    ghost list = { lists.OrderTypes };
+
+    ghost coded = { λ x. order_type_code x };
+
+    ghost every = { λ x. Prim.grind arith };
+
+    ghost one = { λ x y h. Prim.grind arith };
 
     fn of(byte: u8) -> Option<OrderType> {
         match byte {
@@ -65,10 +83,14 @@ impl Code for OrderType {
             _ => None,
         }
     }
+
+    fn byte(&self) -> u8 {
+        *self as u8
+    }
 }
 
-// How long an order stays.
-#[derive(Clone, Copy, Debug, PartialEq)]
+/// How long an order stays.
+#[derive(Clone, Copy, Debug, PartialEq, Eq)]
 pub enum TimeInForce {
     Day = 0,
     GoodTillCancel = 1,
@@ -79,9 +101,15 @@ pub enum TimeInForce {
 }
 
 impl Code for TimeInForce {
-    ghost coded = { λ c. time_in_force_code c };
+    ghost use Rattle.codes.specs.Order.{time_in_force_code};
 
-    ghost codes = { time_in_force_codes };
+    ghost list = { lists.TimesInForce };
+
+    ghost coded = { λ x. time_in_force_code x };
+
+    ghost every = { λ x. Prim.grind arith };
+
+    ghost one = { λ x y h. Prim.grind arith };
 
     fn of(byte: u8) -> Option<TimeInForce> {
         match byte {
@@ -94,19 +122,29 @@ impl Code for TimeInForce {
             _ => None,
         }
     }
+
+    fn byte(&self) -> u8 {
+        *self as u8
+    }
 }
 
-// Whose account clears a trade.
-#[derive(Clone, Copy, Debug, PartialEq)]
+/// Whose account clears a trade.
+#[derive(Clone, Copy, Debug, PartialEq, Eq)]
 pub enum ClearingAccount {
     Client = 1,
     House = 3,
 }
 
 impl Code for ClearingAccount {
-    ghost coded = { λ c. clearing_account_code c };
+    ghost use Rattle.codes.specs.Order.{clearing_account_code};
 
-    ghost codes = { clearing_account_codes };
+    ghost list = { lists.ClearingAccounts };
+
+    ghost coded = { λ x. clearing_account_code x };
+
+    ghost every = { λ x. Prim.grind arith };
+
+    ghost one = { λ x y h. Prim.grind arith };
 
     fn of(byte: u8) -> Option<ClearingAccount> {
         match byte {
@@ -115,10 +153,14 @@ impl Code for ClearingAccount {
             _ => None,
         }
     }
+
+    fn byte(&self) -> u8 {
+        *self as u8
+    }
 }
 
-// In which capacity a firm enters an order.
-#[derive(Clone, Copy, Debug, PartialEq)]
+/// In which capacity a firm enters an order.
+#[derive(Clone, Copy, Debug, PartialEq, Eq)]
 pub enum OrderCapacity {
     RisklessPrincipal = 1,
     Principal = 2,
@@ -127,9 +169,15 @@ pub enum OrderCapacity {
 }
 
 impl Code for OrderCapacity {
-    ghost coded = { λ c. order_capacity_code c };
+    ghost use Rattle.codes.specs.Order.{order_capacity_code};
 
-    ghost codes = { order_capacity_codes };
+    ghost list = { lists.OrderCapacities };
+
+    ghost coded = { λ x. order_capacity_code x };
+
+    ghost every = { λ x. Prim.grind arith };
+
+    ghost one = { λ x y h. Prim.grind arith };
 
     fn of(byte: u8) -> Option<OrderCapacity> {
         match byte {
@@ -140,19 +188,29 @@ impl Code for OrderCapacity {
             _ => None,
         }
     }
+
+    fn byte(&self) -> u8 {
+        *self as u8
+    }
 }
 
-// Whether an order is marked to end with the line; if so, the CompID's configuration decides.
-#[derive(Clone, Copy, Debug, PartialEq)]
+/// Whether an order is marked to end with the line; if so, the CompID's configuration decides.
+#[derive(Clone, Copy, Debug, PartialEq, Eq)]
 pub enum AutoCancel {
     Keep = 0,
     AsConfigured = 1,
 }
 
 impl Code for AutoCancel {
-    ghost coded = { λ c. auto_cancel_code c };
+    ghost use Rattle.codes.specs.Order.{auto_cancel_code};
 
-    ghost codes = { auto_cancel_codes };
+    ghost list = { lists.AutoCancels };
+
+    ghost coded = { λ x. auto_cancel_code x };
+
+    ghost every = { λ x. Prim.grind arith };
+
+    ghost one = { λ x y h. Prim.grind arith };
 
     fn of(byte: u8) -> Option<AutoCancel> {
         match byte {
@@ -161,18 +219,28 @@ impl Code for AutoCancel {
             _ => None,
         }
     }
+
+    fn byte(&self) -> u8 {
+        *self as u8
+    }
 }
 
-// The one kind of request that a New Order makes.
-#[derive(Clone, Copy, Debug, PartialEq)]
+/// The one kind of request that a New Order makes.
+#[derive(Clone, Copy, Debug, PartialEq, Eq)]
 pub enum OrderSubType {
     Order = 0,
 }
 
 impl Code for OrderSubType {
-    ghost coded = { λ c. order_sub_type_code c };
+    ghost use Rattle.codes.specs.Order.{order_sub_type_code};
 
-    ghost codes = { order_sub_type_codes };
+    ghost list = { lists.OrderSubTypes };
+
+    ghost coded = { λ x. order_sub_type_code x };
+
+    ghost every = { λ x. Prim.grind arith };
+
+    ghost one = { λ x y h. Prim.grind arith };
 
     fn of(byte: u8) -> Option<OrderSubType> {
         match byte {
@@ -180,19 +248,29 @@ impl Code for OrderSubType {
             _ => None,
         }
     }
+
+    fn byte(&self) -> u8 {
+        *self as u8
+    }
 }
 
-// The book that an order is for.
-#[derive(Clone, Copy, Debug, PartialEq)]
+/// The book that an order is for.
+#[derive(Clone, Copy, Debug, PartialEq, Eq)]
 pub enum Book {
     DarkMidpoint = 0,
     Integrated = 1,
 }
 
 impl Code for Book {
-    ghost coded = { λ c. book_code c };
+    ghost use Rattle.codes.specs.Order.{book_code};
 
-    ghost codes = { book_codes };
+    ghost list = { lists.Books };
+
+    ghost coded = { λ x. book_code x };
+
+    ghost every = { λ x. Prim.grind arith };
+
+    ghost one = { λ x y h. Prim.grind arith };
 
     fn of(byte: u8) -> Option<Book> {
         match byte {
@@ -201,10 +279,14 @@ impl Code for Book {
             _ => None,
         }
     }
+
+    fn byte(&self) -> u8 {
+        *self as u8
+    }
 }
 
-// When an order of the dark book takes part.
-#[derive(Clone, Copy, Debug, PartialEq)]
+/// When an order of the dark book takes part.
+#[derive(Clone, Copy, Debug, PartialEq, Eq)]
 pub enum ExecInstruction {
     ContinuousAndPeriodic = 0,
     PeriodicOnly = 1,
@@ -212,9 +294,15 @@ pub enum ExecInstruction {
 }
 
 impl Code for ExecInstruction {
-    ghost coded = { λ c. exec_instruction_code c };
+    ghost use Rattle.codes.specs.Order.{exec_instruction_code};
 
-    ghost codes = { exec_instruction_codes };
+    ghost list = { lists.ExecInstructions };
+
+    ghost coded = { λ x. exec_instruction_code x };
+
+    ghost every = { λ x. Prim.grind arith };
+
+    ghost one = { λ x y h. Prim.grind arith };
 
     fn of(byte: u8) -> Option<ExecInstruction> {
         match byte {
@@ -224,10 +312,14 @@ impl Code for ExecInstruction {
             _ => None,
         }
     }
+
+    fn byte(&self) -> u8 {
+        *self as u8
+    }
 }
 
-// Whether an order must rest, and how near the best price.
-#[derive(Clone, Copy, Debug, PartialEq)]
+/// Whether an order must rest, and how near the best price.
+#[derive(Clone, Copy, Debug, PartialEq, Eq)]
 pub enum PassiveOnly {
     NoConstraint = 0,
     SetOrJoinBest = 1,
@@ -238,9 +330,15 @@ pub enum PassiveOnly {
 }
 
 impl Code for PassiveOnly {
-    ghost coded = { λ c. passive_only_code c };
+    ghost use Rattle.codes.specs.Order.{passive_only_code};
 
-    ghost codes = { passive_only_codes };
+    ghost list = { lists.PassiveOnlys };
+
+    ghost coded = { λ x. passive_only_code x };
+
+    ghost every = { λ x. Prim.grind arith };
+
+    ghost one = { λ x y h. Prim.grind arith };
 
     fn of(byte: u8) -> Option<PassiveOnly> {
         match byte {
@@ -253,10 +351,14 @@ impl Code for PassiveOnly {
             _ => None,
         }
     }
+
+    fn byte(&self) -> u8 {
+        *self as u8
+    }
 }
 
-// Which orders a mass cancel takes.
-#[derive(Clone, Copy, Debug, PartialEq)]
+/// Which orders a mass cancel takes.
+#[derive(Clone, Copy, Debug, PartialEq, Eq)]
 pub enum MassCancelType {
     FirmInstrument = 3,
     FirmSegment = 4,
@@ -267,9 +369,15 @@ pub enum MassCancelType {
 }
 
 impl Code for MassCancelType {
-    ghost coded = { λ c. mass_cancel_type_code c };
+    ghost use Rattle.codes.specs.Order.{mass_cancel_type_code};
 
-    ghost codes = { mass_cancel_type_codes };
+    ghost list = { lists.MassCancelTypes };
+
+    ghost coded = { λ x. mass_cancel_type_code x };
+
+    ghost every = { λ x. Prim.grind arith };
+
+    ghost one = { λ x y h. Prim.grind arith };
 
     fn of(byte: u8) -> Option<MassCancelType> {
         match byte {
@@ -281,5 +389,9 @@ impl Code for MassCancelType {
             15 => Some(MassCancelType::CompIdSegment),
             _ => None,
         }
+    }
+
+    fn byte(&self) -> u8 {
+        *self as u8
     }
 }

@@ -1,11 +1,12 @@
 // The codes of reports. `Unspecified` is a null byte.
 ghost use Rattle.std.specs.Prelude.{◌≡◌, ℕ, true, false};
-ghost use Rattle.codes.specs.Report.{exec_type_code, exec_type_codes, status_code, status_codes, liquidity_code, liquidity_codes, trade_type_code, trade_type_codes, capacity_code, capacity_codes, price_differential_code, price_differential_codes, mass_response_code, mass_response_codes};
+ghost use Rattle.std.proofs.Common.{arith};
+ghost use Rattle.codes.specs.declared.lists.Codes.TheVariants as lists;
 
 use crate::code::Code;
 
-// Why an Execution Report is sent.
-#[derive(Clone, Copy, Debug, PartialEq)]
+/// Why an Execution Report is sent.
+#[derive(Clone, Copy, Debug, PartialEq, Eq)]
 pub enum ExecType {
     Unspecified = 0,
     New = 48,
@@ -19,9 +20,15 @@ pub enum ExecType {
 }
 
 impl Code for ExecType {
-    ghost coded = { λ c. exec_type_code c };
+    ghost use Rattle.codes.specs.Report.{exec_type_code};
 
-    ghost codes = { exec_type_codes };
+    ghost list = { lists.ExecTypes };
+
+    ghost coded = { λ x. exec_type_code x };
+
+    ghost every = { λ x. Prim.grind arith };
+
+    ghost one = { λ x y h. Prim.grind arith };
 
     fn of(byte: u8) -> Option<ExecType> {
         match byte {
@@ -37,10 +44,14 @@ impl Code for ExecType {
             _ => None,
         }
     }
+
+    fn byte(&self) -> u8 {
+        *self as u8
+    }
 }
 
-// The status of an order.
-#[derive(Clone, Copy, Debug, PartialEq)]
+/// The status of an order.
+#[derive(Clone, Copy, Debug, PartialEq, Eq)]
 pub enum Status {
     New = 0,
     PartiallyFilled = 1,
@@ -51,9 +62,15 @@ pub enum Status {
 }
 
 impl Code for Status {
-    ghost coded = { λ c. status_code c };
+    ghost use Rattle.codes.specs.Report.{status_code};
 
-    ghost codes = { status_codes };
+    ghost list = { lists.Statuses };
+
+    ghost coded = { λ x. status_code x };
+
+    ghost every = { λ x. Prim.grind arith };
+
+    ghost one = { λ x y h. Prim.grind arith };
 
     fn of(byte: u8) -> Option<Status> {
         match byte {
@@ -66,10 +83,14 @@ impl Code for Status {
             _ => None,
         }
     }
+
+    fn byte(&self) -> u8 {
+        *self as u8
+    }
 }
 
-// Whether a fill added or removed liquidity.
-#[derive(Clone, Copy, Debug, PartialEq)]
+/// Whether a fill added or removed liquidity.
+#[derive(Clone, Copy, Debug, PartialEq, Eq)]
 pub enum Liquidity {
     Unspecified = 0,
     Added = 65,
@@ -78,9 +99,15 @@ pub enum Liquidity {
 }
 
 impl Code for Liquidity {
-    ghost coded = { λ c. liquidity_code c };
+    ghost use Rattle.codes.specs.Report.{liquidity_code};
 
-    ghost codes = { liquidity_codes };
+    ghost list = { lists.Liquidities };
+
+    ghost coded = { λ x. liquidity_code x };
+
+    ghost every = { λ x. Prim.grind arith };
+
+    ghost one = { λ x y h. Prim.grind arith };
 
     fn of(byte: u8) -> Option<Liquidity> {
         match byte {
@@ -91,19 +118,29 @@ impl Code for Liquidity {
             _ => None,
         }
     }
+
+    fn byte(&self) -> u8 {
+        *self as u8
+    }
 }
 
-// Whether the executed part was shown.
-#[derive(Clone, Copy, Debug, PartialEq)]
+/// Whether the executed part was shown.
+#[derive(Clone, Copy, Debug, PartialEq, Eq)]
 pub enum TradeType {
     Visible = 0,
     Hidden = 1,
 }
 
 impl Code for TradeType {
-    ghost coded = { λ c. trade_type_code c };
+    ghost use Rattle.codes.specs.Report.{trade_type_code};
 
-    ghost codes = { trade_type_codes };
+    ghost list = { lists.TradeTypes };
+
+    ghost coded = { λ x. trade_type_code x };
+
+    ghost every = { λ x. Prim.grind arith };
+
+    ghost one = { λ x y h. Prim.grind arith };
 
     fn of(byte: u8) -> Option<TradeType> {
         match byte {
@@ -112,10 +149,14 @@ impl Code for TradeType {
             _ => None,
         }
     }
+
+    fn byte(&self) -> u8 {
+        *self as u8
+    }
 }
 
-// The capacity that a report tells.
-#[derive(Clone, Copy, Debug, PartialEq)]
+/// The capacity that a report tells.
+#[derive(Clone, Copy, Debug, PartialEq, Eq)]
 pub enum Capacity {
     RisklessPrincipal = 1,
     Principal = 2,
@@ -123,9 +164,15 @@ pub enum Capacity {
 }
 
 impl Code for Capacity {
-    ghost coded = { λ c. capacity_code c };
+    ghost use Rattle.codes.specs.Report.{capacity_code};
 
-    ghost codes = { capacity_codes };
+    ghost list = { lists.Capacities };
+
+    ghost coded = { λ x. capacity_code x };
+
+    ghost every = { λ x. Prim.grind arith };
+
+    ghost one = { λ x y h. Prim.grind arith };
 
     fn of(byte: u8) -> Option<Capacity> {
         match byte {
@@ -135,10 +182,14 @@ impl Code for Capacity {
             _ => None,
         }
     }
+
+    fn byte(&self) -> u8 {
+        *self as u8
+    }
 }
 
-// How an order's price stands to the best one.
-#[derive(Clone, Copy, Debug, PartialEq)]
+/// How an order's price stands to the best one.
+#[derive(Clone, Copy, Debug, PartialEq, Eq)]
 pub enum PriceDifferential {
     Unspecified = 0,
     JoinBest = 49,
@@ -156,9 +207,15 @@ pub enum PriceDifferential {
 }
 
 impl Code for PriceDifferential {
-    ghost coded = { λ c. price_differential_code c };
+    ghost use Rattle.codes.specs.Report.{price_differential_code};
 
-    ghost codes = { price_differential_codes };
+    ghost list = { lists.PriceDifferentials };
+
+    ghost coded = { λ x. price_differential_code x };
+
+    ghost every = { λ x. Prim.grind arith };
+
+    ghost one = { λ x y h. Prim.grind arith };
 
     fn of(byte: u8) -> Option<PriceDifferential> {
         match byte {
@@ -178,19 +235,29 @@ impl Code for PriceDifferential {
             _ => None,
         }
     }
+
+    fn byte(&self) -> u8 {
+        *self as u8
+    }
 }
 
-// Whether a mass cancel was accepted.
-#[derive(Clone, Copy, Debug, PartialEq)]
+/// Whether a mass cancel was accepted.
+#[derive(Clone, Copy, Debug, PartialEq, Eq)]
 pub enum MassResponse {
     Rejected = 0,
     Accepted = 7,
 }
 
 impl Code for MassResponse {
-    ghost coded = { λ c. mass_response_code c };
+    ghost use Rattle.codes.specs.Report.{mass_response_code};
 
-    ghost codes = { mass_response_codes };
+    ghost list = { lists.MassResponses };
+
+    ghost coded = { λ x. mass_response_code x };
+
+    ghost every = { λ x. Prim.grind arith };
+
+    ghost one = { λ x y h. Prim.grind arith };
 
     fn of(byte: u8) -> Option<MassResponse> {
         match byte {
@@ -198,5 +265,9 @@ impl Code for MassResponse {
             7 => Some(MassResponse::Accepted),
             _ => None,
         }
+    }
+
+    fn byte(&self) -> u8 {
+        *self as u8
     }
 }

@@ -1,19 +1,26 @@
 // The codes of sessions and of downloads.
 ghost use Rattle.std.specs.Prelude.{◌≡◌, ℕ, true, false};
-ghost use Rattle.codes.specs.Session.{version_code, version_codes, partition_code, partition_codes, ack_response_code, ack_response_codes, report_response_code, report_response_codes};
+ghost use Rattle.std.proofs.Common.{arith};
+ghost use Rattle.codes.specs.declared.lists.Codes.TheVariants as lists;
 
 use crate::code::Code;
 
-// The one version of the messages.
-#[derive(Clone, Copy, Debug, PartialEq)]
+/// The one version of the messages.
+#[derive(Clone, Copy, Debug, PartialEq, Eq)]
 pub enum Version {
     One = 1,
 }
 
 impl Code for Version {
-    ghost coded = { λ c. version_code c };
+    ghost use Rattle.codes.specs.Session.{version_code};
 
-    ghost codes = { version_codes };
+    ghost list = { lists.Versions };
+
+    ghost coded = { λ x. version_code x };
+
+    ghost every = { λ x. Prim.grind arith };
+
+    ghost one = { λ x y h. Prim.grind arith };
 
     fn of(byte: u8) -> Option<Version> {
         match byte {
@@ -21,10 +28,14 @@ impl Code for Version {
             _ => None,
         }
     }
+
+    fn byte(&self) -> u8 {
+        *self as u8
+    }
 }
 
-// A part of the matching system, with sequence numbers of its own.
-#[derive(Clone, Copy, Debug, PartialEq)]
+/// A part of the matching system, with sequence numbers of its own.
+#[derive(Clone, Copy, Debug, PartialEq, Eq)]
 pub enum Partition {
     One = 1,
     Two = 2,
@@ -32,9 +43,15 @@ pub enum Partition {
 }
 
 impl Code for Partition {
-    ghost coded = { λ c. partition_code c };
+    ghost use Rattle.codes.specs.Session.{partition_code};
 
-    ghost codes = { partition_codes };
+    ghost list = { lists.Partitions };
+
+    ghost coded = { λ x. partition_code x };
+
+    ghost every = { λ x. Prim.grind arith };
+
+    ghost one = { λ x y h. Prim.grind arith };
 
     fn of(byte: u8) -> Option<Partition> {
         match byte {
@@ -44,10 +61,14 @@ impl Code for Partition {
             _ => None,
         }
     }
+
+    fn byte(&self) -> u8 {
+        *self as u8
+    }
 }
 
-// The answer to a Missed Message Request.
-#[derive(Clone, Copy, Debug, PartialEq)]
+/// The answer to a Missed Message Request.
+#[derive(Clone, Copy, Debug, PartialEq, Eq)]
 pub enum AckResponse {
     Successful = 0,
     LimitReached = 1,
@@ -56,9 +77,15 @@ pub enum AckResponse {
 }
 
 impl Code for AckResponse {
-    ghost coded = { λ c. ack_response_code c };
+    ghost use Rattle.codes.specs.Session.{ack_response_code};
 
-    ghost codes = { ack_response_codes };
+    ghost list = { lists.AckResponses };
+
+    ghost coded = { λ x. ack_response_code x };
+
+    ghost every = { λ x. Prim.grind arith };
+
+    ghost one = { λ x y h. Prim.grind arith };
 
     fn of(byte: u8) -> Option<AckResponse> {
         match byte {
@@ -69,10 +96,14 @@ impl Code for AckResponse {
             _ => None,
         }
     }
+
+    fn byte(&self) -> u8 {
+        *self as u8
+    }
 }
 
-// How a download ended.
-#[derive(Clone, Copy, Debug, PartialEq)]
+/// How a download ended.
+#[derive(Clone, Copy, Debug, PartialEq, Eq)]
 pub enum ReportResponse {
     Complete = 0,
     MessageLimit = 1,
@@ -80,9 +111,15 @@ pub enum ReportResponse {
 }
 
 impl Code for ReportResponse {
-    ghost coded = { λ c. report_response_code c };
+    ghost use Rattle.codes.specs.Session.{report_response_code};
 
-    ghost codes = { report_response_codes };
+    ghost list = { lists.ReportResponses };
+
+    ghost coded = { λ x. report_response_code x };
+
+    ghost every = { λ x. Prim.grind arith };
+
+    ghost one = { λ x y h. Prim.grind arith };
 
     fn of(byte: u8) -> Option<ReportResponse> {
         match byte {
@@ -91,5 +128,9 @@ impl Code for ReportResponse {
             3 => Some(ReportResponse::ServiceUnavailable),
             _ => None,
         }
+    }
+
+    fn byte(&self) -> u8 {
+        *self as u8
     }
 }

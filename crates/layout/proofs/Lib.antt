@@ -1,5 +1,6 @@
+pub mod Fields
 pub mod Options
 pub mod Overs
 pub mod Parts
 pub mod Tables
-pub mod Turns
+pub mod Wholes

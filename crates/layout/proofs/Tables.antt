@@ -1,9 +1,8 @@
 -- Tables of fields, gone through from the front. Assumes nothing.
-use Rattle.std.proofs.Common.{◌&&◌, ◌≡◌, ℕ, ◌+◌, ◌<◌, ◌≤◌, Bool, true, false, cond, leb, List, [], ◌∷◌, length, get_or, drop, IsErrAnd, Some, None, Ok, Err, Option, Result, refl, add-one, arith, drop-cons}
+use Rattle.std.proofs.Common.{◌&&◌, ◌≡◌, ℕ, ◌+◌, ◌<◌, ◌≤◌, Bool, true, false, cond, leb, List, [], ◌∷◌, length, get_or, drop, Some, None, Option, refl, add-one, arith, drop-cons}
 use Rattle.std.proofs.lemmas.List.{drop_all}
 use Rattle.layout.specs.declared.field.Field.{Field}
-use Rattle.layout.specs.declared.field.Fault.{Fault}
-use Rattle.layout.specs.Layout.{Content, Body, first_bad, within, ok, place, span, AllOk}
+use Rattle.layout.specs.Layout.{first_bad, within, ok, place, span, AllOk}
 
 pub first_bad-drop : (fs : List Field) (bs : List ℕ) (i : ℕ) (d : Field) → i < length fs → first_bad (drop i fs) bs ≡ cond (ok bs (get_or fs i d)) (first_bad (drop (i + 1) fs) bs) (Some (place (get_or fs i d)))
 unfolding first_bad
@@ -24,8 +23,3 @@ pub all_ok : (fs : List Field) (bs : List ℕ) → first_bad fs bs ≡ None → 
 unfolding first_bad
 all_ok [] bs e = tt
 all_ok (f ∷ fs) bs e = let p = all_ok-more (ok bs f) (first_bad fs bs) (place f) e in (p.0, all_ok fs bs p.1)
-
--- a refusal of the table is handed on
-pub broken : {M : Type 0} (fs : List Field) (contents : M → List Content) (places : M → List ℕ) (bs : List ℕ) (r : Result M Fault) (e : Fault) → IsErrAnd r (λ y. y ≡ e) → (first_bad fs bs ≡ Some e.offset) × (e.rule ≡ 5) → Body fs contents places bs r
-broken fs v p bs (Ok m) e h k = absurd h
-broken fs v p bs (Err y) e h k = rw h k

@@ -1,31 +1,35 @@
 -- What the fields of a message can hold: exactly this can be written, and is read again. Assumes nothing.
-use Rattle.std.specs.Prelude.{◌≡◌, ℕ, ◌^◌, ◌<◌, ◌≤◌, Bool, true, false, cond, List, [], ◌∷◌, length, Some, None, Option, FitsSigned, ◌==◌}
+use Rattle.std.specs.Prelude.{◌≡◌, ℕ, ◌^◌, ◌<◌, ◌≤◌, Bool, true, false, if◌then◌else◌, List, [], ◌∷◌, length, Some, None, Option, FitsSigned, ◌==◌}
 use Rattle.std.specs.Int.{w8, w32, w64}
 use Rattle.codes.specs.Lists.{listed}
 use Rattle.texts.specs.Bytes.{all_printable}
 use Rattle.layout.specs.declared.field.Form.{Form}
-use Rattle.layout.specs.declared.field.Form.TheVariants.{Text, Name, Order, Number, Sequence, Int8, Int32, Price, Time, Code, Reserved}
+use Rattle.layout.specs.declared.field.Form.TheVariants.{Text, Name, Order, UInt32, UInt64, Sequence, Int8, Int32, Price, Time, Code, Alpha, Reserved}
 use Rattle.layout.specs.declared.field.Field.{Field}
 use Rattle.layout.specs.declared.field.Field.TheVariants.{Always, When}
+use Rattle.layout.specs.declared.sequence.TheConstants.{SEQUENCE_LIMIT}
 use Rattle.layout.specs.Layout.{Content, place, taken, words_of, order_of, figure_of, int8_of, int32_of, price_of, seconds_of, micros_of}
 use Rattle.layout.specs.Layout.Content.{words, order, figure, int8, int32, price, clock, nothing}
 
 abbrev pub Below : Option ℕ → Type 0
 Below None = Unit {0}
-Below (Some n) = n < 18446744073709551616
+Below (Some n) = n < 2 ^ 64
 
 -- a content that a field of a form can hold
 abbrev pub HoldsForm : Form → Content → Type 0
 HoldsForm (Text w) v = (v ≡ words (words_of v)) × (length (words_of v) ≤ w) × (all_printable (words_of v) ≡ true)
-HoldsForm (Name w) v = (v ≡ words (words_of v)) × (length (words_of v) ≤ w) × (all_printable (words_of v) ≡ true) × (0 < length (words_of v))
+HoldsForm (Name w) v =
+    (v ≡ words (words_of v)) × (length (words_of v) ≤ w) × (all_printable (words_of v) ≡ true) × (0 < length (words_of v))
 HoldsForm Order v = (v ≡ order (order_of v)) × Below (order_of v)
-HoldsForm (Number w) v = (v ≡ figure (figure_of v)) × (figure_of v < 256 ^ w)
-HoldsForm Sequence v = (v ≡ figure (figure_of v)) × (figure_of v < 2147483648)
+HoldsForm UInt32 v = (v ≡ figure (figure_of v)) × (figure_of v < 2 ^ 32)
+HoldsForm UInt64 v = (v ≡ figure (figure_of v)) × (figure_of v < 2 ^ 64)
+HoldsForm Sequence v = (v ≡ figure (figure_of v)) × (figure_of v < SEQUENCE_LIMIT)
 HoldsForm Int8 v = (v ≡ int8 (int8_of v)) × FitsSigned w8 (int8_of v)
 HoldsForm Int32 v = (v ≡ int32 (int32_of v)) × FitsSigned w32 (int32_of v)
 HoldsForm Price v = (v ≡ price (price_of v)) × FitsSigned w64 (price_of v)
-HoldsForm Time v = (v ≡ clock (seconds_of v) (micros_of v)) × (seconds_of v < 4294967296) × (micros_of v < 4294967296)
+HoldsForm Time v = (v ≡ clock (seconds_of v) (micros_of v)) × (seconds_of v < 2 ^ 32) × (micros_of v < 2 ^ 32)
 HoldsForm (Code cs) v = (v ≡ figure (figure_of v)) × (taken (figure_of v) (listed cs) ≡ true)
+HoldsForm Alpha v = (v ≡ figure (figure_of v)) × (figure_of v < 2 ^ 8)
 HoldsForm (Reserved w) v = v ≡ nothing
 
 abbrev pub If : Bool → Type 0 → Type 0 → Type 0
@@ -47,7 +51,7 @@ HoldsAll at (f ∷ fs) (v ∷ vs) = Holds at f v × HoldsAll at fs vs
 abbrev pub figure_at : List Field → List Content → ℕ → ℕ
 figure_at [] vs n = 0
 figure_at (f ∷ fs) [] n = 0
-figure_at (f ∷ fs) (v ∷ vs) n = cond (place f == n) (figure_of v) (figure_at fs vs n)
+figure_at (f ∷ fs) (v ∷ vs) n = if place f == n then figure_of v else figure_at fs vs n
 
 abbrev pub HoldsIn : List Field → List Content → Type 0
 HoldsIn fs vs = HoldsAll (figure_at fs vs) fs vs

@@ -1,18 +1,21 @@
 -- A message as a table of fields: which bytes are taken, which are refused and where, and what they hold.
 -- Assumes nothing.
-use Rattle.std.specs.Prelude.{◌&&◌, ◌≡◌, ℕ, ◌+◌, max, Bool, true, false, cond, List, [], ◌∷◌, take, drop, ℤ, pos, is_some, Some, None, Option, Result, MatchResult, nat_le, nat_lt}
+use Rattle.std.specs.Prelude.{◌&&◌, ◌≡◌, ℕ, ◌+◌, max, Bool, true, false, List, [], ◌∷◌, take, drop, ℤ, pos, is_some, Some, None, Option, Result, MatchResult, nat_le, nat_lt, if◌then◌else◌}
 use Rattle.std.proofs.Common.{to_z}
 use Rattle.std.specs.Int.{w8, w32, w64}
+use Rattle.std.specs.Option.{option_map}
 use Rattle.codes.specs.Member.{member}
 use Rattle.codes.specs.Lists.{listed}
 use Rattle.texts.specs.Bytes as bytes
 use Rattle.texts.specs.Bytes.{le, all_null, said, is_text, named}
 use Rattle.texts.specs.Identifiers.{number_of}
-use Rattle.layout.specs.declared.field.Fault.{Fault}
+use Rattle.layout.specs.declared.fault.Fault.{Fault}
+use Rattle.layout.specs.declared.fault.Fault.TheVariants as fault
 use Rattle.layout.specs.declared.field.Form.{Form}
-use Rattle.layout.specs.declared.field.Form.TheVariants.{Text, Name, Order, Number, Sequence, Int8, Int32, Price, Time, Code, Reserved}
+use Rattle.layout.specs.declared.field.Form.TheVariants.{Text, Name, Order, UInt32, UInt64, Sequence, Int8, Int32, Price, Time, Code, Alpha, Reserved}
 use Rattle.layout.specs.declared.field.Field.{Field}
 use Rattle.layout.specs.declared.field.Field.TheVariants.{Always, When}
+use Rattle.layout.specs.declared.sequence.TheConstants.{SEQUENCE_LIMIT}
 
 -- the bytes of the field at a place, of a width
 abbrev pub part : ℕ → ℕ → List ℕ → List ℕ
@@ -37,13 +40,15 @@ abbrev pub wide : Form → ℕ
 wide (Text w) = w
 wide (Name w) = w
 wide Order = 12
-wide (Number w) = w
+wide UInt32 = 4
+wide UInt64 = 8
 wide Sequence = 4
 wide Int8 = 1
 wide Int32 = 4
 wide Price = 8
 wide Time = 8
 wide (Code cs) = 1
+wide Alpha = 1
 wide (Reserved w) = w
 
 -- the order that a field names: none where it is null
@@ -52,20 +57,22 @@ order_at f = number_of 79 f
 
 -- a field that names an order, or is null
 unfoldable pub is_order : List ℕ → Bool
-is_order f = cond (all_null f) true (is_some (number_of 79 f))
+is_order f = if all_null f then true else is_some (number_of 79 f)
 
 -- whether a field's bytes are of its form
 abbrev pub ok_form : Form → List ℕ → Bool
 ok_form (Text w) f = is_text f
 ok_form (Name w) f = is_text f && named f
 ok_form Order f = is_order f
-ok_form (Number w) f = true
-ok_form Sequence f = nat_lt (le f) 2147483648
+ok_form UInt32 f = true
+ok_form UInt64 f = true
+ok_form Sequence f = nat_lt (le f) SEQUENCE_LIMIT
 ok_form Int8 f = true
 ok_form Int32 f = true
 ok_form Price f = true
 ok_form Time f = true
 ok_form (Code cs) f = taken (le f) (listed cs)
+ok_form Alpha f = true
 ok_form (Reserved w) f = true
 
 -- what they then hold
@@ -73,13 +80,15 @@ abbrev pub content : Form → List ℕ → Content
 content (Text w) f = words (said f)
 content (Name w) f = words (said f)
 content Order f = order (order_at f)
-content (Number w) f = figure (le f)
+content UInt32 f = figure (le f)
+content UInt64 f = figure (le f)
 content Sequence f = figure (le f)
 content Int8 f = int8 (to_z w8 (le f))
 content Int32 f = int32 (to_z w32 (le f))
 content Price f = price (to_z w64 (le f))
 content Time f = clock (le (take 4 f)) (le (take 4 (drop 4 f)))
 content (Code cs) f = figure (le f)
+content Alpha f = figure (le f)
 content (Reserved w) f = nothing
 
 abbrev pub place : Field → ℕ
@@ -104,10 +113,10 @@ matters bs (Always at f) = true
 matters bs (When at f other cs) = taken (le (part other 1 bs)) (listed cs)
 
 abbrev pub ok : List ℕ → Field → Bool
-ok bs f = cond (matters bs f) (ok_form (form_of f) (part (place f) (width f) bs)) true
+ok bs f = if matters bs f then ok_form (form_of f) (part (place f) (width f) bs) else true
 
 abbrev pub got : List ℕ → Field → Content
-got bs f = cond (matters bs f) (content (form_of f) (part (place f) (width f) bs)) nothing
+got bs f = if matters bs f then content (form_of f) (part (place f) (width f) bs) else nothing
 
 abbrev pub within : ℕ → List Field → Bool
 within n [] = true
@@ -116,7 +125,7 @@ within n (f ∷ fs) = nat_le (span f) n && within n fs
 -- the offset of the first field that is refused
 unfoldable pub first_bad : List Field → List ℕ → Option ℕ
 first_bad [] bs = None
-first_bad (f ∷ fs) bs = cond (ok bs f) (first_bad fs bs) (Some (place f))
+first_bad (f ∷ fs) bs = if ok bs f then first_bad fs bs else Some (place f)
 
 -- each field is taken
 abbrev pub AllOk : List Field → List ℕ → Type 0
@@ -133,119 +142,62 @@ Says (v ∷ vs) (f ∷ fs) bs = (v ≡ got bs f) × Says vs fs bs
 abbrev pub is_words : Form → Bool
 is_words (Text w) = true
 is_words (Name w) = true
-is_words Order = false
-is_words (Number w) = false
-is_words Sequence = false
-is_words Int8 = false
-is_words Int32 = false
-is_words Price = false
-is_words Time = false
-is_words (Code cs) = false
-is_words (Reserved w) = false
+is_words _ = false
 
 -- where the texts of a message stand
 abbrev pub text_places : List Field → List ℕ → List ℕ
 text_places [] bs = []
-text_places (f ∷ fs) bs = cond (is_words (form_of f) && matters bs f) (place f ∷ text_places fs bs) (text_places fs bs)
+text_places (f ∷ fs) bs =
+    if is_words (form_of f) && matters bs f then place f ∷ text_places fs bs else text_places fs bs
+
+-- the first field that is refused, as a fault
+abbrev pub fault_of : List Field → List ℕ → Option Fault
+fault_of fs bs = option_map (λ at. fault.Field at) (first_bad fs bs)
 
 -- a table was gone through
 abbrev pub Checked : List Field → List ℕ → {X : Type 0} → Result X Fault → Type 0
-Checked fs bs r =
-    MatchResult r (λ _. (first_bad fs bs ≡ None) × AllOk fs bs) (λ e. (first_bad fs bs ≡ Some e.offset) × (e.rule ≡ 5))
+Checked fs bs r = MatchResult r (λ _. (first_bad fs bs ≡ None) × AllOk fs bs) (λ e. fault_of fs bs ≡ Some e)
 
 -- a message's fields were read: all of them, or the first refusal
 abbrev pub Body : {M : Type 0} → List Field → (M → List Content) → (M → List ℕ) → List ℕ → Result M Fault → Type 0
 Body fs contents places bs r =
-    MatchResult r (λ m. (first_bad fs bs ≡ None) × Says (contents m) fs bs × (places m ≡ text_places fs bs))
-    (λ e. (first_bad fs bs ≡ Some e.offset) × (e.rule ≡ 5))
+    MatchResult r
+    (λ m. (first_bad fs bs ≡ None) × Says (contents m) fs bs × (places m ≡ text_places fs bs))
+    (λ e. fault_of fs bs ≡ Some e)
 
 -- a content as what a form asks for
 abbrev pub words_of : Content → List ℕ
 words_of (words t) = t
-words_of (order o) = []
-words_of (figure n) = []
-words_of (int8 z) = []
-words_of (int32 z) = []
-words_of (price z) = []
-words_of (clock s u) = []
-words_of nothing = []
+words_of _ = []
 
 abbrev pub order_of : Content → Option ℕ
-order_of (words t) = None
 order_of (order o) = o
-order_of (figure n) = None
-order_of (int8 z) = None
-order_of (int32 z) = None
-order_of (price z) = None
-order_of (clock s u) = None
-order_of nothing = None
+order_of _ = None
 
 abbrev pub figure_of : Content → ℕ
-figure_of (words t) = 0
-figure_of (order o) = 0
 figure_of (figure n) = n
-figure_of (int8 z) = 0
-figure_of (int32 z) = 0
-figure_of (price z) = 0
-figure_of (clock s u) = 0
-figure_of nothing = 0
+figure_of _ = 0
 
 abbrev pub int8_of : Content → ℤ
-int8_of (words t) = pos 0
-int8_of (order o) = pos 0
-int8_of (figure n) = pos 0
 int8_of (int8 z) = z
-int8_of (int32 z) = pos 0
-int8_of (price z) = pos 0
-int8_of (clock s u) = pos 0
-int8_of nothing = pos 0
+int8_of _ = pos 0
 
 abbrev pub int32_of : Content → ℤ
-int32_of (words t) = pos 0
-int32_of (order o) = pos 0
-int32_of (figure n) = pos 0
-int32_of (int8 z) = pos 0
 int32_of (int32 z) = z
-int32_of (price z) = pos 0
-int32_of (clock s u) = pos 0
-int32_of nothing = pos 0
+int32_of _ = pos 0
 
 abbrev pub price_of : Content → ℤ
-price_of (words t) = pos 0
-price_of (order o) = pos 0
-price_of (figure n) = pos 0
-price_of (int8 z) = pos 0
-price_of (int32 z) = pos 0
 price_of (price z) = z
-price_of (clock s u) = pos 0
-price_of nothing = pos 0
+price_of _ = pos 0
 
 abbrev pub seconds_of : Content → ℕ
-seconds_of (words t) = 0
-seconds_of (order o) = 0
-seconds_of (figure n) = 0
-seconds_of (int8 z) = 0
-seconds_of (int32 z) = 0
-seconds_of (price z) = 0
 seconds_of (clock s u) = s
-seconds_of nothing = 0
+seconds_of _ = 0
 
 abbrev pub micros_of : Content → ℕ
-micros_of (words t) = 0
-micros_of (order o) = 0
-micros_of (figure n) = 0
-micros_of (int8 z) = 0
-micros_of (int32 z) = 0
-micros_of (price z) = 0
 micros_of (clock s u) = u
-micros_of nothing = 0
+micros_of _ = 0
 
 abbrev pub absent : Content → Bool
-absent (words t) = false
-absent (order o) = false
-absent (figure n) = false
-absent (int8 z) = false
-absent (int32 z) = false
-absent (price z) = false
-absent (clock s u) = false
 absent nothing = true
+absent _ = false

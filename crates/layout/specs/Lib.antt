@@ -1,3 +1,4 @@
+pub mod Faults
 pub mod Holding
 pub mod Layout
 pub mod Values

@@ -1,13 +1,14 @@
 -- A message's bytes, from its table and what its fields hold. Assumes nothing.
-use Rattle.std.specs.Prelude.{◌&&◌, ◌≡◌, ℕ, ◌+◌, ◌-◌, Bool, true, cond, List, [], ◌∷◌, ◌++◌, length, take, drop, replicate, Some, None, Option, ◌==◌, nat_le}
+use Rattle.std.specs.Prelude.{◌&&◌, ◌≡◌, ℕ, ◌+◌, ◌-◌, Bool, if◌then◌else◌, List, [], ◌∷◌, ◌++◌, length, take, drop, replicate, Some, None, Option, ◌==◌}
 use Rattle.std.proofs.Common.{of_z}
 use Rattle.std.specs.Int.{w8, w32, w64}
 use Rattle.texts.specs.Bytes.{to_le, padded}
 use Rattle.texts.specs.Identifiers.{order_id_text}
 use Rattle.layout.specs.declared.field.Form.{Form}
-use Rattle.layout.specs.declared.field.Form.TheVariants.{Text, Name, Order, Number, Sequence, Int8, Int32, Price, Time, Code, Reserved}
+use Rattle.layout.specs.declared.field.Form.TheVariants.{Text, Name, Order, UInt32, UInt64, Sequence, Int8, Int32, Price, Time, Code, Alpha, Reserved}
 use Rattle.layout.specs.declared.field.Field.{Field}
-use Rattle.layout.specs.Layout.{Content, place, width, form_of, is_words, words_of, order_of, figure_of, int8_of, int32_of, price_of, seconds_of, micros_of, absent}
+use Rattle.layout.specs.declared.put.TheConstants.{START}
+use Rattle.layout.specs.Layout.{Content, place, width, form_of, words_of, order_of, figure_of, int8_of, int32_of, price_of, seconds_of, micros_of, absent}
 
 -- an order's identifier, or nulls
 abbrev pub order_bytes : Option ℕ → List ℕ
@@ -19,18 +20,20 @@ abbrev pub bytes_of : Form → Content → List ℕ
 bytes_of (Text w) v = padded w (words_of v)
 bytes_of (Name w) v = padded w (words_of v)
 bytes_of Order v = order_bytes (order_of v)
-bytes_of (Number w) v = to_le w (figure_of v)
+bytes_of UInt32 v = to_le 4 (figure_of v)
+bytes_of UInt64 v = to_le 8 (figure_of v)
 bytes_of Sequence v = to_le 4 (figure_of v)
 bytes_of Int8 v = to_le 1 (of_z w8 (int8_of v))
 bytes_of Int32 v = to_le 4 (of_z w32 (int32_of v))
 bytes_of Price v = to_le 8 (of_z w64 (price_of v))
 bytes_of Time v = to_le 4 (seconds_of v) ++ to_le 4 (micros_of v)
 bytes_of (Code cs) v = to_le 1 (figure_of v)
+bytes_of Alpha v = to_le 1 (figure_of v)
 bytes_of (Reserved w) v = replicate w 0
 
 -- a field's bytes: nulls where it holds nothing
 unfoldable pub field_bytes : Field → Content → List ℕ
-field_bytes f v = cond (absent v) (replicate (width f) 0) (bytes_of (form_of f) v)
+field_bytes f v = if absent v then replicate (width f) 0 else bytes_of (form_of f) v
 
 -- the bytes of all fields, in their order
 unfoldable pub encode : List Field → List Content → List ℕ
@@ -40,16 +43,7 @@ encode (f ∷ fs) (v ∷ vs) = field_bytes f v ++ encode fs vs
 
 -- a message begins with the start byte, its length from the type on, and the type
 abbrev pub header : ℕ → ℕ → List ℕ
-header letter total = 2 ∷ to_le 2 (total - 3) ++ (letter ∷ [])
-
--- the texts are no longer than their fields
-abbrev pub fits : Field → Content → Bool
-fits f v = cond (is_words (form_of f)) (nat_le (length (words_of v)) (width f)) true
-
-abbrev pub all_fit : List Field → List Content → Bool
-all_fit [] vs = true
-all_fit (f ∷ fs) [] = true
-all_fit (f ∷ fs) (v ∷ vs) = fits f v && all_fit fs vs
+header letter total = START ∷ to_le 2 (total - 3) ++ (letter ∷ [])
 
 -- what a buffer holds once bytes are written at a place
 unfoldable pub over : List ℕ → ℕ → List ℕ → List ℕ

@@ -1,35 +1,73 @@
 // A message's layout, field by field.
 use codes::lists::Codes;
 
-// A refusal: the number of the check that failed, and the offset of what failed it.
-#[derive(Clone, Copy, Debug, PartialEq)]
-pub struct Fault {
-    pub rule: u8,
-    pub offset: usize,
-}
-
-// How a field holds its value. Those without a width have the one of their type.
+/// How a field holds its value. Those without a width have the one of their type.
 #[derive(Clone, Copy)]
 pub enum Form {
     Text(usize),
-    // text that is not empty
+    /// Text that is not empty.
     Name(usize),
-    // an order's identifier, or null
+    /// An order's identifier, or null.
     Order,
-    Number(usize),
-    // an Int32 that is not negative
+    UInt32,
+    UInt64,
+    /// An Int32 that is not negative.
     Sequence,
     Int8,
     Int32,
     Price,
     Time,
+    /// A byte that is listed.
     Code(Codes),
+    /// Any byte, which reads as a character.
+    Alpha,
     Reserved(usize),
 }
 
-// Where a field stands. Some matter only if the byte at another place is one of a list, and are passed over if not.
+/// Where a field stands. Some matter only if the byte at another place is one of a list, and are passed over if not.
 #[derive(Clone, Copy)]
 pub enum Field {
     Always(usize, Form),
     When(usize, Form, usize, Codes),
+}
+
+impl Form {
+    ghost use Rattle.std.specs.Prelude.{◌≡◌};
+    ghost use Rattle.layout.specs.Layout.{wide};
+
+    /// How many bytes the field has.
+    pub fn width(self) -> usize
+        ensures { result ≡ wide self }
+    {
+        match self {
+            Form::Text(width) | Form::Name(width) | Form::Reserved(width) => width,
+            Form::Order => 12,
+            Form::UInt32 | Form::Sequence | Form::Int32 => 4,
+            Form::UInt64 | Form::Price | Form::Time => 8,
+            Form::Int8 | Form::Code(_) | Form::Alpha => 1,
+        }
+    }
+}
+
+impl Field {
+    ghost use Rattle.std.specs.Prelude.{◌≡◌};
+    ghost use Rattle.layout.specs.Layout.{place, form_of};
+
+    /// Where the field begins.
+    pub fn at(self) -> usize
+        ensures { result ≡ place self }
+    {
+        match self {
+            Field::Always(at, _) | Field::When(at, _, _, _) => at,
+        }
+    }
+
+    /// How it holds its value, where it matters.
+    pub fn form(self) -> Form
+        ensures { result ≡ form_of self }
+    {
+        match self {
+            Field::Always(_, form) | Field::When(_, form, _, _) => form,
+        }
+    }
 }

@@ -3,9 +3,11 @@
 #![tactic(auto)]
 
 pub mod check;
+pub mod fault;
 pub mod field;
+pub mod framed;
+pub mod put;
 pub mod reader;
 pub mod sequence;
-pub mod sequences;
+pub mod take;
 pub mod value;
-pub mod writer;

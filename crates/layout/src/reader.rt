@@ -1,29 +1,36 @@
 // A message's fields, read at their places.
-ghost use Rattle.std.specs.Prelude.{◌≡◌, ℕ, ◌+◌, ◌≤◌, true, length, take, drop};
+ghost use Rattle.std.specs.Prelude.{◌≡◌, ℕ, ◌+◌, ◌≤◌, true, false, length, take, drop, MatchOption};
 ghost use Rattle.std.proofs.Common.{to_z, of_z};
 ghost use Rattle.std.specs.Int.{w8, w32, w64};
+ghost use Rattle.std.specs.List.{prefix_len};
 ghost use Rattle.std.specs.Option.{option_map};
-ghost use Rattle.texts.specs.Bytes.{part, le, all_null, said, is_text, named};
+ghost use Rattle.texts.specs.Bytes.{part, le, printable, said, is_text};
+ghost use Rattle.codes.specs.Lists.{listed};
 ghost use Rattle.layout.specs.Layout.{taken, is_order, order_at};
 
 use codes::code::Code;
+use texts::bytes::{all_null, text_end};
 use texts::identifiers::OrderId;
-use texts::texts::text_end;
-use texts::values::{Price, Text, Time};
+use texts::values::{Price, Time};
 
-// The bytes of one message.
+/// The bytes of one message.
 #[derive(Clone, Copy)]
 pub struct Reader<'a> {
     pub src: &'a [u8],
 }
 
-fn all_null(field: &[u8]) -> bool
-    ensures { result ≡ all_null field.now }
-{
-    field.iter().all(|b| *b == 0)
-}
-
 impl<'a> Reader<'a> {
+    /// The bytes of one field.
+    #[tactic(auto, using(crate::proofs::Parts::cut))]
+    pub fn part(&self, at: usize, width: usize) -> &'a [u8]
+        requires { at + width ≤ length self.now.src.now }
+        ensures { result.now ≡ part at width self.now.src.now }
+    {
+        let src = self.src;
+        &src[at..at + width]
+    }
+
+    #[tactic(auto, using(crate::proofs::Parts::le_1))]
     pub fn u8(&self, at: usize) -> u8
         requires { at + 1 ≤ length self.now.src.now }
         ensures { result ≡ le (part at 1 self.now.src.now) }
@@ -31,6 +38,7 @@ impl<'a> Reader<'a> {
         self.src[at]
     }
 
+    #[tactic(auto, using(crate::proofs::Parts::le_2))]
     pub fn u16(&self, at: usize) -> u16
         requires { at + 2 ≤ length self.now.src.now }
         ensures { result ≡ le (part at 2 self.now.src.now) }
@@ -39,6 +47,7 @@ impl<'a> Reader<'a> {
         u16::from_le_bytes([s[at], s[at + 1]])
     }
 
+    #[tactic(auto, using(crate::proofs::Parts::le_4))]
     pub fn u32(&self, at: usize) -> u32
         requires { at + 4 ≤ length self.now.src.now }
         ensures { result ≡ le (part at 4 self.now.src.now) }
@@ -47,6 +56,7 @@ impl<'a> Reader<'a> {
         u32::from_le_bytes([s[at], s[at + 1], s[at + 2], s[at + 3]])
     }
 
+    #[tactic(auto, using(crate::proofs::Parts::le_8))]
     pub fn u64(&self, at: usize) -> u64
         requires { at + 8 ≤ length self.now.src.now }
         ensures { result ≡ le (part at 8 self.now.src.now) }
@@ -90,6 +100,7 @@ impl<'a> Reader<'a> {
         }
     }
 
+    #[tactic(auto, using(crate::proofs::Parts::first_half, crate::proofs::Parts::second_half))]
     pub fn time(&self, at: usize) -> Time
         requires { at + 8 ≤ length self.now.src.now }
         ensures seconds { result.seconds ≡ le (take 4 (part at 8 self.now.src.now)) }
@@ -101,69 +112,55 @@ impl<'a> Reader<'a> {
         }
     }
 
-    // Whether a field holds text: printable bytes, and then nothing but nulls.
-    pub(crate) fn is_text(&self, at: usize, width: usize) -> bool
+    // Where the text of a field ends, if the field holds text: printable bytes, and then nothing but nulls.
+    #[tactic(auto, using(crate::proofs::Parts::is_text_rest))]
+    pub(crate) fn text_end(&self, at: usize, width: usize) -> Option<usize>
         requires { at + width ≤ length self.now.src.now }
-        ensures { result ≡ is_text (part at width self.now.src.now) }
+        ensures { MatchOption result (is_text (part at width self.now.src.now) ≡ false) (λ n. (is_text (part at width self.now.src.now) ≡ true) × (n ≡ prefix_len printable (part at width self.now.src.now))) }
     {
-        let src = self.src;
-        let field = &src[at..at + width];
-        let n = text_end(field);
-        all_null(&field[n..])
-    }
-
-    // Whether the text of a field is not empty.
-    pub(crate) fn is_named(&self, at: usize, width: usize) -> bool
-        requires { at + width ≤ length self.now.src.now }
-        ensures { result ≡ named (part at width self.now.src.now) }
-    {
-        let src = self.src;
-        text_end(&src[at..at + width]) > 0
+        let field = self.part(at, width);
+        let end = text_end(field);
+        all_null(&field[end..]).then_some(end)
     }
 
     // What a field says, if it holds text: its printable bytes.
-    pub fn text(&self, at: usize, width: usize) -> Text<'a>
+    pub(crate) fn text(&self, at: usize, width: usize) -> &'a [u8]
         requires { at + width ≤ length self.now.src.now }
-        ensures bytes { result.bytes.now ≡ said (part at width self.now.src.now) }
-        ensures offset { result.offset ≡ at }
+        ensures { result.now ≡ said (part at width self.now.src.now) }
     {
-        let src = self.src;
-        let field = &src[at..at + width];
-        let n = text_end(field);
-        Text {
-            bytes: &field[0..n],
-            offset: at,
-        }
+        let field = self.part(at, width);
+        &field[0..text_end(field)]
     }
 
     // Whether a field holds an order's identifier, or null.
+    #[tactic(auto, using(crate::proofs::Options::some_mapped), unfolding(crate::specs::Layout::is_order))]
     pub(crate) fn is_order(&self, at: usize) -> bool
         requires { at + 12 ≤ length self.now.src.now }
         ensures { result ≡ is_order (part at 12 self.now.src.now) }
     {
-        let src = self.src;
-        let field = &src[at..at + 12];
+        let field = self.part(at, 12);
         all_null(field) || OrderId::read(field).is_some()
     }
 
-    // The order that a field names, if it names one.
+    /// The order that a field names, if it names one.
+    #[tactic(auto, unfolding(crate::specs::Layout::order_at))]
     pub fn order(&self, at: usize) -> Option<OrderId>
         requires { at + 12 ≤ length self.now.src.now }
         ensures { option_map (λ i. i.number) result ≡ order_at (part at 12 self.now.src.now) }
     {
-        let src = self.src;
-        OrderId::read(&src[at..at + 12])
+        OrderId::read(self.part(at, 12))
     }
 
-    // The value that a code stands for, where the code is one of its list.
+    /// The value that a code stands for, where the code is one of its list.
+    #[tactic(auto, unfolding(crate::specs::Layout::taken))]
     pub fn code<C: Code>(&self, at: usize) -> C
         requires inside { at + 1 ≤ length self.now.src.now }
-        requires listed { taken (le (part at 1 self.now.src.now)) C.codes ≡ true }
+        requires listed { taken (le (part at 1 self.now.src.now)) (listed C.list) ≡ true }
         ensures { C.coded result ≡ le (part at 1 self.now.src.now) }
     {
         match C::of(self.u8(at)) {
             Some(x) => x,
-            None => unreachable(),
+            None => unreachable!(),
         }
     }
 }

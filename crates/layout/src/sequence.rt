@@ -1,9 +1,33 @@
 // A sequence number as a Missed Message Request carries it.
-ghost use Rattle.std.specs.Prelude.{◌<◌};
+ghost use Rattle.std.specs.Prelude.{◌≡◌, ◌<◌, ◌≤◌, MatchOption};
+ghost use Rattle.layout.specs.declared.sequence.TheConstants.{SEQUENCE_LIMIT};
 
-// The number of the last report seen, from 0: it fits a signed field and is not negative.
-#[derive(Clone, Copy)]
+/// No sequence number reaches this: its field is signed.
+pub const SEQUENCE_LIMIT: u32 = 2_147_483_648;
+
+/// The number of the last report seen, from 0: it fits a signed field and is not negative.
+#[derive(Clone, Copy, Debug)]
 pub struct LastSequence {
     pub value: u32,
-    ghost fits: { value < 2147483648 },
+    ghost fits: { value < SEQUENCE_LIMIT },
+}
+
+impl LastSequence {
+    /// The number, where it is below the limit.
+    pub fn new(number: u32) -> Option<LastSequence>
+        ensures { MatchOption result (SEQUENCE_LIMIT ≤ number) (λ n. n.value ≡ number) }
+    {
+        if number < SEQUENCE_LIMIT {
+            Some(LastSequence { value: number })
+        } else {
+            None
+        }
+    }
+
+    /// The number.
+    pub fn number(&self) -> u32
+        ensures { result ≡ self.now.value }
+    {
+        self.value
+    }
 }

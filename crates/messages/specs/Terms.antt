@@ -1,159 +1,136 @@
--- Parts of a message whose fields hang together: what each of the fields holds. Assumes nothing.
-use Rattle.std.specs.Prelude.{ℕ, List, [], ◌∷◌, FitsSigned}
-use Rattle.std.specs.Int.{w32, w64}
+-- What several fields tell together: those fields, one of which says which others matter, and what each of them holds.
+-- Assumes nothing.
+use Rattle.std.specs.Prelude.{ℕ, ◌+◌, List, [], ◌∷◌}
 use Rattle.codes.specs.declared.lists.Codes.TheVariants as list
-use Rattle.codes.specs.Order.{book_code, exec_instruction_code}
-use Rattle.codes.specs.Report.{liquidity_code, trade_type_code}
-use Rattle.texts.specs.Bytes.{said}
-use Rattle.texts.specs.declared.fixed.FixedText.{FixedText}
-use Rattle.texts.specs.declared.values.Text.{Text}
+use Rattle.codes.specs.declared.order.MassCancelType.{MassCancelType}
+use Rattle.codes.specs.declared.order.MassCancelType.TheVariants as mass_cancel_type
+use Rattle.codes.specs.Order.{book_code, exec_instruction_code, mass_cancel_type_code, order_type_code}
+use Rattle.codes.specs.Report.{exec_type_code, liquidity_code, trade_type_code}
+use Rattle.terms.specs.declared.pricing.Pricing.{Pricing}
+use Rattle.terms.specs.declared.pricing.Pricing.TheVariants.{Market, Limit}
+use Rattle.terms.specs.declared.target.Target.{Target}
+use Rattle.terms.specs.declared.target.Target.TheVariants.{DarkMidpoint, Integrated}
+use Rattle.terms.specs.declared.execution.Execution.{Execution}
+use Rattle.terms.specs.declared.execution.Execution.TheVariants as execution
+use Rattle.terms.specs.Execution.{kind_of}
+use Rattle.terms.specs.Pricing.{order_type_of}
+use Rattle.terms.specs.Target.{book_of}
+use Rattle.texts.specs.Says.{says}
 use Rattle.layout.specs.declared.field.Form.TheVariants as form
-use Rattle.layout.specs.declared.field.Field.TheVariants as field
-use Rattle.messages.specs.declared.terms.Pricing.{Pricing}
-use Rattle.messages.specs.declared.terms.Pricing.TheVariants.{Market, Limit}
-use Rattle.messages.specs.declared.terms.Target.{Target}
-use Rattle.messages.specs.declared.terms.Target.TheVariants.{DarkMidpoint, Integrated}
-use Rattle.messages.specs.declared.terms.Scope.{Scope}
-use Rattle.messages.specs.declared.terms.Scope.TheVariants as scope
-use Rattle.messages.specs.declared.terms.Execution.{Execution}
-use Rattle.messages.specs.declared.terms.Execution.TheVariants as execution
-use Rattle.layout.specs.Layout.{Content, text_places}
+use Rattle.layout.specs.declared.field.Field.{Field}
+use Rattle.layout.specs.declared.field.Field.TheVariants.{Always, When}
+use Rattle.layout.specs.Layout.{Content}
 use Rattle.layout.specs.Layout.Content.{words, figure, int32, price, nothing}
+use Rattle.messages.specs.declared.order_mass_cancel_request.Scope.{Scope}
+use Rattle.messages.specs.declared.order_mass_cancel_request.Scope.TheVariants as scope
 
--- Order Type, and LimitPrice
-abbrev pub pricing_code : Pricing → ℕ
-pricing_code Market = 1
-pricing_code (Limit p) = 2
-
+-- LimitPrice, of a limit order
 abbrev pub pricing_price : Pricing → Content
 pricing_price Market = nothing
 pricing_price (Limit p) = price p.raw
 
--- TargetBook, and Exec Instruction
-abbrev pub target_code : Target → ℕ
-target_code (DarkMidpoint i) = 0
-target_code Integrated = 1
+abbrev pub limit_field : ℕ → Field
+limit_field at = When at form.Price 52 list.LimitOnly
 
+abbrev pub pricing_fields : List Field
+pricing_fields = Always 52 (form.Code list.OrderTypes) ∷ limit_field 67 ∷ []
+
+abbrev pub pricing_contents : Pricing → List Content
+pricing_contents p = figure (order_type_code (order_type_of p)) ∷ pricing_price p ∷ []
+
+-- Exec Instruction, of an order for the dark book
 abbrev pub target_instruction : Target → Content
 target_instruction (DarkMidpoint i) = figure (exec_instruction_code i)
 target_instruction Integrated = nothing
 
--- MassCancelType, CommonSymbol, Segment and TargetBook
-abbrev pub scope_says : {S G : Type 0} → (S → List ℕ) → (G → List ℕ) → Scope S G → Scope (List ℕ) (List ℕ)
-scope_says s g (scope.FirmInstrument x b) = scope.FirmInstrument (s x) b
-scope_says s g (scope.FirmSegment x) = scope.FirmSegment (g x)
-scope_says s g scope.CompId = scope.CompId
-scope_says s g scope.Firm = scope.Firm
-scope_says s g (scope.CompIdInstrument x b) = scope.CompIdInstrument (s x) b
-scope_says s g (scope.CompIdSegment x) = scope.CompIdSegment (g x)
+-- TargetBook at a place, and Exec Instruction right behind it
+abbrev pub target_fields : ℕ → List Field
+target_fields at =
+    Always at (form.Code list.Books) ∷ When (at + 1) (form.Code list.ExecInstructions) at list.DarkOnly ∷ []
 
-abbrev pub scope_heard : Scope Text Text → Scope (List ℕ) (List ℕ)
-scope_heard x = scope_says (λ t. t.bytes.now) (λ t. t.bytes.now) x
+abbrev pub target_contents : Target → List Content
+target_contents t = figure (book_code (book_of t)) ∷ target_instruction t ∷ []
 
-abbrev pub scope_kept : Scope (FixedText 6) (FixedText 4) → Scope (List ℕ) (List ℕ)
-scope_kept x = scope_says (λ t. said t.bytes) (λ t. said t.bytes) x
-
-abbrev pub scope_code : Scope (List ℕ) (List ℕ) → ℕ
-scope_code (scope.FirmInstrument x b) = 3
-scope_code (scope.FirmSegment x) = 4
-scope_code scope.CompId = 7
-scope_code scope.Firm = 8
-scope_code (scope.CompIdInstrument x b) = 9
-scope_code (scope.CompIdSegment x) = 15
-
-abbrev pub scope_symbol : Scope (List ℕ) (List ℕ) → Content
-scope_symbol (scope.FirmInstrument x b) = words x
-scope_symbol (scope.FirmSegment x) = nothing
-scope_symbol scope.CompId = nothing
-scope_symbol scope.Firm = nothing
-scope_symbol (scope.CompIdInstrument x b) = words x
-scope_symbol (scope.CompIdSegment x) = nothing
-
-abbrev pub scope_segment : Scope (List ℕ) (List ℕ) → Content
-scope_segment (scope.FirmInstrument x b) = nothing
-scope_segment (scope.FirmSegment x) = words x
-scope_segment scope.CompId = nothing
-scope_segment scope.Firm = nothing
-scope_segment (scope.CompIdInstrument x b) = nothing
-scope_segment (scope.CompIdSegment x) = words x
-
-abbrev pub scope_book : Scope (List ℕ) (List ℕ) → Content
-scope_book (scope.FirmInstrument x b) = figure (book_code b)
-scope_book (scope.FirmSegment x) = nothing
-scope_book scope.CompId = nothing
-scope_book scope.Firm = nothing
-scope_book (scope.CompIdInstrument x b) = figure (book_code b)
-scope_book (scope.CompIdSegment x) = nothing
-
--- where its texts stand
-abbrev pub scope_places : Scope Text Text → List ℕ
-scope_places (scope.FirmInstrument x b) = x.offset ∷ []
-scope_places (scope.FirmSegment x) = x.offset ∷ []
-scope_places scope.CompId = []
-scope_places scope.Firm = []
-scope_places (scope.CompIdInstrument x b) = x.offset ∷ []
-scope_places (scope.CompIdSegment x) = x.offset ∷ []
-
-abbrev pub scope_texts : List ℕ → List ℕ
-scope_texts bs = text_places (field.When 25 (form.Text 6) 24 list.ByInstrument ∷ field.When 31 (form.Text 4) 24 list.BySegment ∷ []) bs
-
--- Exec Type, Order Reject Code, Trade Liquidity Indicator and TypeOfTrade
-abbrev pub execution_code : Execution → ℕ
-execution_code execution.Unspecified = 0
-execution_code execution.New = 48
-execution_code execution.Cancelled = 52
-execution_code execution.Replaced = 53
-execution_code (execution.Rejected n) = 56
-execution_code execution.Expired = 67
-execution_code execution.Restated = 68
-execution_code (execution.Trade l t) = 70
-execution_code (execution.TradeCancel l) = 72
-
+-- Order Reject Code, of a rejected order
 abbrev pub execution_reject : Execution → Content
-execution_reject execution.Unspecified = nothing
-execution_reject execution.New = nothing
-execution_reject execution.Cancelled = nothing
-execution_reject execution.Replaced = nothing
 execution_reject (execution.Rejected n) = int32 n
-execution_reject execution.Expired = nothing
-execution_reject execution.Restated = nothing
-execution_reject (execution.Trade l t) = nothing
-execution_reject (execution.TradeCancel l) = nothing
+execution_reject e = nothing
 
+abbrev pub reject_field : ℕ → Field
+reject_field at = When at form.Int32 53 list.RejectedOnly
+
+-- Trade Liquidity Indicator, of a trade or its cancellation
 abbrev pub execution_liquidity : Execution → Content
-execution_liquidity execution.Unspecified = nothing
-execution_liquidity execution.New = nothing
-execution_liquidity execution.Cancelled = nothing
-execution_liquidity execution.Replaced = nothing
-execution_liquidity (execution.Rejected n) = nothing
-execution_liquidity execution.Expired = nothing
-execution_liquidity execution.Restated = nothing
 execution_liquidity (execution.Trade l t) = figure (liquidity_code l)
 execution_liquidity (execution.TradeCancel l) = figure (liquidity_code l)
+execution_liquidity e = nothing
 
+abbrev pub liquidity_field : ℕ → Field
+liquidity_field at = When at (form.Code list.Liquidities) 53 list.TradeOrCancel
+
+-- TypeOfTrade, of a trade
 abbrev pub execution_trade : Execution → Content
-execution_trade execution.Unspecified = nothing
-execution_trade execution.New = nothing
-execution_trade execution.Cancelled = nothing
-execution_trade execution.Replaced = nothing
-execution_trade (execution.Rejected n) = nothing
-execution_trade execution.Expired = nothing
-execution_trade execution.Restated = nothing
 execution_trade (execution.Trade l t) = figure (trade_type_code t)
-execution_trade (execution.TradeCancel l) = nothing
+execution_trade e = nothing
 
--- their numbers fit their types
-abbrev pub pricing_typed : Pricing → Type 0
-pricing_typed Market = Unit {0}
-pricing_typed (Limit p) = FitsSigned w64 p.raw
+abbrev pub trade_field : ℕ → Field
+trade_field at = When at (form.Code list.TradeTypes) 53 list.TradeOnly
 
-abbrev pub execution_typed : Execution → Type 0
-execution_typed execution.Unspecified = Unit {0}
-execution_typed execution.New = Unit {0}
-execution_typed execution.Cancelled = Unit {0}
-execution_typed execution.Replaced = Unit {0}
-execution_typed (execution.Rejected n) = FitsSigned w32 n
-execution_typed execution.Expired = Unit {0}
-execution_typed execution.Restated = Unit {0}
-execution_typed (execution.Trade l t) = Unit {0}
-execution_typed (execution.TradeCancel l) = Unit {0}
+abbrev pub execution_fields : List Field
+execution_fields =
+    Always 53 (form.Code list.ExecTypes) ∷ reject_field 67 ∷ liquidity_field 118 ∷ trade_field 136 ∷ []
+
+abbrev pub execution_contents : Execution → List Content
+execution_contents e =
+    figure (exec_type_code (kind_of e)) ∷ execution_reject e ∷ execution_liquidity e ∷ execution_trade e ∷ []
+
+-- MassCancelType
+abbrev pub scope_kind : Scope → MassCancelType
+scope_kind (scope.FirmInstrument s b) = mass_cancel_type.FirmInstrument
+scope_kind (scope.FirmSegment s) = mass_cancel_type.FirmSegment
+scope_kind scope.CompId = mass_cancel_type.CompId
+scope_kind scope.Firm = mass_cancel_type.Firm
+scope_kind (scope.CompIdInstrument s b) = mass_cancel_type.CompIdInstrument
+scope_kind (scope.CompIdSegment s) = mass_cancel_type.CompIdSegment
+
+-- CommonSymbol and TargetBook, of a mass cancel by instrument
+abbrev pub scope_symbol : Scope → Content
+scope_symbol (scope.FirmInstrument s b) = words (says s)
+scope_symbol (scope.CompIdInstrument s b) = words (says s)
+scope_symbol x = nothing
+
+abbrev pub scope_book : Scope → Content
+scope_book (scope.FirmInstrument s b) = figure (book_code b)
+scope_book (scope.CompIdInstrument s b) = figure (book_code b)
+scope_book x = nothing
+
+abbrev pub symbol_field : ℕ → Field
+symbol_field at = When at (form.Text 6) 24 list.ByInstrument
+
+abbrev pub book_field : ℕ → Field
+book_field at = When at (form.Code list.Books) 24 list.ByInstrument
+
+-- Segment, of a mass cancel by segment
+abbrev pub scope_segment : Scope → Content
+scope_segment (scope.FirmSegment s) = words (says s)
+scope_segment (scope.CompIdSegment s) = words (says s)
+scope_segment x = nothing
+
+abbrev pub segment_field : ℕ → Field
+segment_field at = When at (form.Text 4) 24 list.BySegment
+
+abbrev pub scope_fields : List Field
+scope_fields =
+    Always 24 (form.Code list.MassCancelTypes) ∷ symbol_field 25 ∷ segment_field 31 ∷ book_field 36 ∷ []
+
+abbrev pub scope_contents : Scope → List Content
+scope_contents x =
+    figure (mass_cancel_type_code (scope_kind x)) ∷ scope_symbol x ∷ scope_segment x ∷ scope_book x ∷ []
+
+-- where its text stands
+abbrev pub scope_places : Scope → List ℕ
+scope_places (scope.FirmInstrument s b) = s.offset ∷ []
+scope_places (scope.CompIdInstrument s b) = s.offset ∷ []
+scope_places (scope.FirmSegment s) = s.offset ∷ []
+scope_places (scope.CompIdSegment s) = s.offset ∷ []
+scope_places x = []

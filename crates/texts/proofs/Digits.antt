@@ -1,5 +1,5 @@
 -- Digits of base 62. Assumes nothing.
-use Rattle.std.proofs.Common.{◌≡◌, ℕ, zero, suc, ◌+◌, ◌-◌, ◌*◌, ◌/◌, ◌%◌, ◌^◌, ◌<◌, ◌≤◌, Bool, true, false, cond, eqb, ltb, List, [], ◌∷◌, ◌++◌, length, get_or, take, drop, set, Some, None, Option, sym, refl, ap, ◌∙◌, append_assoc, pow-suc, add-one, arith, length-append, drop-cons, lt-ltb, eq-eqb}
+use Rattle.std.proofs.Common.{◌≡◌, ◌&&◌, ℕ, zero, suc, ◌+◌, ◌-◌, ◌*◌, ◌/◌, ◌%◌, ◌^◌, ◌<◌, ◌≤◌, Bool, true, false, cond, eqb, ltb, List, [], ◌∷◌, ◌++◌, length, get_or, take, drop, set, Some, None, Option, sym, refl, ap, ◌∙◌, append_assoc, pow-suc, add-one, arith, length-append, drop-cons, lt-ltb, eq-eqb}
 use Rattle.std.proofs.lemmas.Slice.{between_to_end}
 use Rattle.std.proofs.lemmas.List.{drop-set}
 use Rattle.texts.proofs.Padding.{both_true, said_all}
@@ -9,26 +9,25 @@ use Rattle.texts.specs.Identifiers.{digit, worth, base62, id_of, after, number_o
 
 -- one more digit is read
 abbrev pub next : ℕ → ℕ → Option ℕ
-next n c = cond (ltb (worth c) 62) (cond (ltb (n * 62 + worth c) 18446744073709551616) (Some (n * 62 + worth c)) None) None
+next n c = cond (ltb (worth c) 62 && ltb (n * 62 + worth c) (2 ^ 64)) (Some (n * 62 + worth c)) None
 
-pub after-drop : (n : ℕ) (ds : List ℕ) (i : ℕ) → i < length ds → after n (drop i ds) ≡ cond (ltb (worth (get_or ds i 0)) 62) (cond (ltb (n * 62 + worth (get_or ds i 0)) 18446744073709551616) (after (n * 62 + worth (get_or ds i 0)) (drop (i + 1) ds)) None) None
+pub after-drop : (n : ℕ) (ds : List ℕ) (i : ℕ) → i < length ds → after n (drop i ds) ≡ cond (ltb (worth (get_or ds i 0)) 62 && ltb (n * 62 + worth (get_or ds i 0)) (2 ^ 64)) (after (n * 62 + worth (get_or ds i 0)) (drop (i + 1) ds)) None
 after-drop n ds i h = rw (add-one, drop-cons ds i 0 h)
 
-by-test : (p q : Bool) (r s t : Option ℕ) (m : ℕ) → (r ≡ Some m → s ≡ t) → cond p (cond q r None) None ≡ Some m → cond p (cond q s None) None ≡ t
-by-test true true r s t m f e = f e
-by-test true false r s t m f e = let z : ◌≡◌ {A = ℕ} 0 1 = cc in absurd (omega arith)
-by-test false q r s t m f e = let z : ◌≡◌ {A = ℕ} 0 1 = cc in absurd (omega arith)
+by-test : (p : Bool) (r s t : Option ℕ) (m : ℕ) → (r ≡ Some m → s ≡ t) → cond p r None ≡ Some m → cond p s None ≡ t
+by-test true r s t m f e = f e
+by-test false r s t m f e = cc
 
 after_push : (xs : List ℕ) (a m c : ℕ) → after a xs ≡ Some m → after a (xs ++ (c ∷ [])) ≡ next m c
 after_push [] a m c e = let k : a ≡ m = cc in rw k
 after_push (x ∷ xs) a m c e =
-    by-test (ltb (worth x) 62) (ltb (a * 62 + worth x) 18446744073709551616) (after (a * 62 + worth x) xs) (after (a * 62 + worth x) (xs ++ (c ∷ []))) (next m c) m
+    by-test (ltb (worth x) 62 && ltb (a * 62 + worth x) (2 ^ 64)) (after (a * 62 + worth x) xs) (after (a * 62 + worth x) (xs ++ (c ∷ []))) (next m c) m
     (λ d. after_push xs (a * 62 + worth x) m c d) e
 
 worth-digit : (d : ℕ) → d < 62 → worth (digit d) ≡ d
 worth-digit d h = grind arith
 
-pub after-base62 : (k n : ℕ) → n < 62 ^ k → n < 18446744073709551616 → after 0 (base62 k n) ≡ Some n
+pub after-base62 : (k n : ℕ) → n < 62 ^ k → n < 2 ^ 64 → after 0 (base62 k n) ≡ Some n
 unfolding base62
 after-base62 zero n h l = let e : n ≡ 0 = omega arith in rw e
 after-base62 (suc k) n h l =
@@ -36,11 +35,11 @@ after-base62 (suc k) n h l =
     let p : 0 < 62 = omega arith in
     let s : n / 62 < 62 ^ k = div_below n 62 (62 ^ k) p h' in
     let r : n % 62 < 62 = mod_below n 62 p in
-    let j : n / 62 < 18446744073709551616 = omega arith in
+    let j : n / 62 < 2 ^ 64 = omega arith in
     let w : worth (digit (n % 62)) ≡ n % 62 = worth-digit (n % 62) r in
     let d : n / 62 * 62 + n % 62 ≡ n = div-add-mod' n 62 in
     after_push (base62 k (n / 62)) 0 (n / 62) (digit (n % 62)) (after-base62 k (n / 62) s j)
-    ∙ rw (w, d, lt-ltb (n % 62) 62 r, lt-ltb n 18446744073709551616 l)
+    ∙ rw (w, d, lt-ltb (n % 62) 62 r, lt-ltb n (2 ^ 64) l)
 
 length-base62 : (k n : ℕ) → length (base62 k n) ≡ k
 unfolding base62
@@ -70,7 +69,7 @@ printable-id_of letter n a b = let q : printable letter ≡ true = grind arith i
 pub said-id_of : (letter n : ℕ) → 65 ≤ letter → letter ≤ 90 → said (id_of letter n) ≡ id_of letter n
 said-id_of letter n a b = said_all (id_of letter n) (printable-id_of letter n a b)
 
-returned : (letter n : ℕ) → n < 18446744073709551616 → number_of letter (id_of letter n) ≡ Some n
+returned : (letter n : ℕ) → n < 2 ^ 64 → number_of letter (id_of letter n) ≡ Some n
 returned letter n h =
     let e : eqb letter letter ≡ true = eq-eqb letter letter refl in
     rw (length-base62 11 n, e) (after-base62 11 n (omega arith) h)
@@ -78,7 +77,7 @@ returned letter n h =
 some_same : (o : Option ℕ) (m n : ℕ) → o ≡ Some m → o ≡ Some n → m ≡ n
 some_same o m n p q = cc
 
-pub returns_of : (letter n : ℕ) → n < 18446744073709551616 → Returns letter n
+pub returns_of : (letter n : ℕ) → n < 2 ^ 64 → Returns letter n
 returns_of letter n h =
     (returned letter n h, λ m l e. some_same (number_of letter (id_of letter n)) m n (sym (ap (number_of letter) e) ∙ returned letter m l) (returned letter n h))
 

@@ -1,3 +1,4 @@
 pub mod Bytes
 pub mod Identifiers
+pub mod Says
 pub mod Texts

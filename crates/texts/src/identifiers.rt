@@ -5,13 +5,16 @@ ghost use Rattle.texts.specs.Identifiers.{digit, worth, id_of, order_id_text, ex
 
 use crate::fixed::FixedText;
 
-// An order's number, which its identifier writes behind an O.
+/// How many sequence numbers a partition has: the step between two partitions in the number of an Execution ID.
+pub const SEQUENCES: u64 = 4_294_967_296;
+
+/// An order's number, which its identifier writes behind an O.
 #[derive(Clone, Copy, Debug, PartialEq)]
 pub struct OrderId {
     pub number: u64,
 }
 
-// A report's partition and sequence number, which its Execution ID writes behind an E.
+/// A report's partition and sequence number, which its Execution ID writes behind an E.
 #[derive(Clone, Copy, Debug, PartialEq)]
 pub struct ExecutionId {
     pub partition: u8,
@@ -56,7 +59,7 @@ fn write_id(letter: u8, number: u64) -> [u8; 12]
     out
 }
 
-// The number that digits write, if they are digits and it is below 2^64.
+// The number that digits write, if they are digits and it fits.
 fn number_of(digits: &[u8]) -> Option<u64>
     ensures { result ≡ after 0 digits.now }
 {
@@ -66,11 +69,7 @@ fn number_of(digits: &[u8]) -> Option<u64>
         if d >= 62 {
             return None;
         }
-        let m = u128::from(n) * 62 + u128::from(d);
-        if m >= 18446744073709551616 {
-            return None;
-        }
-        n = m as u64;
+        n = n.checked_mul(62)?.checked_add(u64::from(d))?;
     }
     Some(n)
 }
@@ -84,7 +83,7 @@ fn read_id(letter: u8, bytes: &[u8]) -> Option<u64>
     number_of(&bytes[1..])
 }
 
-// Twelve bytes of an identifier are text.
+// The twelve bytes of an identifier are text.
 fn id_text(letter: u8, number: u64) -> FixedText<12>
     requires le_letter { 65 ≤ letter }
     requires letter_bound { letter ≤ 90 }
@@ -97,6 +96,7 @@ fn id_text(letter: u8, number: u64) -> FixedText<12>
 }
 
 impl OrderId {
+    /// The identifier: an O and eleven digits, which name this order and no other.
     pub fn text(self) -> FixedText<12>
         ensures text { result.bytes ≡ order_id_text self.number }
         ensures returns { Returns 79 self.number }
@@ -104,7 +104,7 @@ impl OrderId {
         id_text(b'O', self.number)
     }
 
-    // The order that an identifier names, if it is one.
+    /// The order that an identifier names, if it is one: an O, then eleven digits of a number below 2^64.
     pub fn read(bytes: &[u8]) -> Option<OrderId>
         ensures { option_map (λ i. i.number) result ≡ number_of 79 bytes.now }
     {
@@ -113,13 +113,14 @@ impl OrderId {
 }
 
 impl ExecutionId {
+    /// The identifier: an E and eleven digits, which name this report and no other.
     pub fn text(self) -> FixedText<12>
         ensures text { result.bytes ≡ execution_id_text self.partition self.sequence }
         ensures returns { Returns 69 (execution_number self.partition self.sequence) }
     {
         id_text(
             b'E',
-            u64::from(self.partition) * 4294967296 + u64::from(self.sequence),
+            u64::from(self.partition) * SEQUENCES + u64::from(self.sequence),
         )
     }
 }

@@ -1,8 +1,9 @@
-// Texts of the protocol's fields, borrowed and kept, and identifiers.
+// Texts of the protocol's fields, borrowed and kept, identifiers, prices and times.
 #![tactic(auto)]
 
+pub mod bytes;
 pub mod fixed;
 pub mod identifiers;
 pub mod names;
-pub mod texts;
+pub mod text;
 pub mod values;

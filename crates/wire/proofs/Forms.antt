@@ -12,7 +12,8 @@ use Rattle.texts.specs.Bytes.{le, to_le}
 use Rattle.texts.proofs.Padding.{both_true, said-padded, is_text-padded, named-padded, le-to_le}
 use Rattle.texts.proofs.Digits.{returns_of}
 use Rattle.layout.specs.declared.field.Form.{Form}
-use Rattle.layout.specs.declared.field.Form.TheVariants.{Text, Name, Order, Number, Sequence, Int8, Int32, Price, Time, Code, Reserved}
+use Rattle.layout.specs.declared.field.Form.TheVariants.{Text, Name, Order, UInt32, UInt64, Sequence, Int8, Int32, Price, Time, Code, Alpha, Reserved}
+use Rattle.layout.specs.declared.sequence.TheConstants.{SEQUENCE_LIMIT}
 use Rattle.layout.specs.Layout.{Content, taken, wide, order_at, is_order, ok_form, content, words_of, order_of, figure_of, int8_of, int32_of, price_of, seconds_of, micros_of, absent}
 use Rattle.layout.specs.Layout.Content.{words, order, figure, int8, int32, price, clock}
 use Rattle.layout.specs.Writing.{order_bytes, bytes_of}
@@ -24,98 +25,102 @@ abbrev small : List ℕ → Bool
 small [] = true
 small (n ∷ ns) = ltb n 256 && small ns
 
-small-lists : (cs : Codes) → small (listed cs) ≡ true
-small-lists list.Sides = refl
-small-lists list.OrderTypes = refl
-small-lists list.TimesInForce = refl
-small-lists list.ClearingAccounts = refl
-small-lists list.OrderCapacities = refl
-small-lists list.AutoCancels = refl
-small-lists list.OrderSubTypes = refl
-small-lists list.Books = refl
-small-lists list.ExecInstructions = refl
-small-lists list.PassiveOnlys = refl
-small-lists list.MassCancelTypes = refl
-small-lists list.Versions = refl
-small-lists list.Partitions = refl
-small-lists list.AckResponses = refl
-small-lists list.ReportResponses = refl
-small-lists list.ExecTypes = refl
-small-lists list.Statuses = refl
-small-lists list.Liquidities = refl
-small-lists list.TradeTypes = refl
-small-lists list.Capacities = refl
-small-lists list.PriceDifferentials = refl
-small-lists list.MassResponses = refl
-small-lists list.LimitOnly = refl
-small-lists list.DarkOnly = refl
-small-lists list.ByInstrument = refl
-small-lists list.BySegment = refl
-small-lists list.RejectedOnly = refl
-small-lists list.TradeOnly = refl
-small-lists list.TradeOrCancel = refl
+small_lists : (cs : Codes) → small (listed cs) ≡ true
+small_lists list.Sides = refl
+small_lists list.OrderTypes = refl
+small_lists list.TimesInForce = refl
+small_lists list.ClearingAccounts = refl
+small_lists list.OrderCapacities = refl
+small_lists list.AutoCancels = refl
+small_lists list.OrderSubTypes = refl
+small_lists list.Books = refl
+small_lists list.ExecInstructions = refl
+small_lists list.PassiveOnlys = refl
+small_lists list.MassCancelTypes = refl
+small_lists list.Versions = refl
+small_lists list.Partitions = refl
+small_lists list.AckResponses = refl
+small_lists list.ReportResponses = refl
+small_lists list.ExecTypes = refl
+small_lists list.Statuses = refl
+small_lists list.Liquidities = refl
+small_lists list.TradeTypes = refl
+small_lists list.Capacities = refl
+small_lists list.PriceDifferentials = refl
+small_lists list.MassResponses = refl
+small_lists list.LimitOnly = refl
+small_lists list.DarkOnly = refl
+small_lists list.ByInstrument = refl
+small_lists list.BySegment = refl
+small_lists list.RejectedOnly = refl
+small_lists list.TradeOnly = refl
+small_lists list.TradeOrCancel = refl
 
-member-by : (b : Bool) (n v : ℕ) (vs : List ℕ) → eqb n v ≡ b → cond b true (member n vs) ≡ true → v < 256 → (member n vs ≡ true → n < 256) → n < 256
-member-by true n v vs e h l k = let q = eqb-true n v e in omega arith
-member-by false n v vs e h l k = k h
+member_by : (b : Bool) (n v : ℕ) (vs : List ℕ) → eqb n v ≡ b → cond b true (member n vs) ≡ true → v < 256 → (member n vs ≡ true → n < 256) → n < 256
+member_by true n v vs e h l k = let q = eqb-true n v e in omega arith
+member_by false n v vs e h l k = k h
 
-member-small : (n : ℕ) (vs : List ℕ) → small vs ≡ true → member n vs ≡ true → n < 256
-member-small n [] s h = let z : ◌≡◌ {A = ℕ} 0 1 = cc in absurd (omega arith)
-member-small n (v ∷ vs) s h =
+member_small : (n : ℕ) (vs : List ℕ) → small vs ≡ true → member n vs ≡ true → n < 256
+member_small n [] s h = let z : ◌≡◌ {A = ℕ} 0 1 = cc in absurd (omega arith)
+member_small n (v ∷ vs) s h =
     let q = both_true (ltb v 256) (small vs) s in
-    member-by (eqb n v) n v vs refl h (ltb-true v 256 q.0) (member-small n vs q.1)
+    member_by (eqb n v) n v vs refl h (ltb-true v 256 q.0) (member_small n vs q.1)
 
-pub code-small : (cs : Codes) (n : ℕ) → taken n (listed cs) ≡ true → n < 256
+pub code_small : (cs : Codes) (n : ℕ) → taken n (listed cs) ≡ true → n < 256
 unfolding taken
-code-small cs n h = member-small n (listed cs) (small-lists cs) h
+code_small cs n h = member_small n (listed cs) (small_lists cs) h
 
 -- reading undoes writing
 
-of_z-lt : (w : Width) (z : ℤ) → SFits w z → of_z w z < 2 ^ bits w
-of_z-lt w z f = (Fits-of_z {w = w} {z = z} f).fits
+of_z_below : (w : Width) (z : ℤ) → SFits w z → of_z w z < 2 ^ bits w
+of_z_below w z f = (Fits-of_z {w = w} {z = z} f).fits
 
-order-read : (o : Option ℕ) → Below o → (is_order (order_bytes o) ≡ true) × (order_at (order_bytes o) ≡ o)
+order_read : (o : Option ℕ) → Below o → (is_order (order_bytes o) ≡ true) × (order_at (order_bytes o) ≡ o)
 unfolding is_order order_at
-order-read None h = (refl, refl)
-order-read (Some n) h = let r = (returns_of 79 n h).0 in (ap is_some r, r)
+order_read None h = (refl, refl)
+order_read (Some n) h = let r = (returns_of 79 n h).0 in (ap is_some r, r)
 
-pub form-read : (f : Form) (v : Content) → HoldsForm f v → (ok_form f (bytes_of f v) ≡ true) × (v ≡ content f (bytes_of f v))
-form-read (Text w) v h = (is_text-padded w (words_of v) h.2, h.0 ∙ ap words (sym (said-padded w (words_of v) h.2)))
-form-read (Name w) v h =
+pub form_read : (f : Form) (v : Content) → HoldsForm f v → (ok_form f (bytes_of f v) ≡ true) × (v ≡ content f (bytes_of f v))
+form_read (Text w) v h = (is_text-padded w (words_of v) h.2, h.0 ∙ ap words (sym (said-padded w (words_of v) h.2)))
+form_read (Name w) v h =
     (rw (is_text-padded w (words_of v) h.2, named-padded w (words_of v) h.2 h.3), h.0 ∙ ap words (sym (said-padded w (words_of v) h.2)))
-form-read Order v h = let r = order-read (order_of v) h.1 in (r.0, h.0 ∙ ap order (sym r.1))
-form-read (Number w) v h = (refl, h.0 ∙ ap figure (sym (le-to_le w (figure_of v) h.1)))
-form-read Sequence v h =
+form_read Order v h = let r = order_read (order_of v) h.1 in (r.0, h.0 ∙ ap order (sym r.1))
+form_read UInt32 v h = (refl, h.0 ∙ ap figure (sym (le-to_le 4 (figure_of v) h.1)))
+form_read UInt64 v h = (refl, h.0 ∙ ap figure (sym (le-to_le 8 (figure_of v) h.1)))
+form_read Sequence v h =
     let e = le-to_le 4 (figure_of v) (omega arith) in
-    (rw e (lt-ltb (figure_of v) 2147483648 h.1), h.0 ∙ ap figure (sym e))
-form-read Int8 v h = (refl, h.0 ∙ ap int8 (sym (ap (to_z w8) (le-to_le 1 (of_z w8 (int8_of v)) (of_z-lt w8 (int8_of v) h.1)) ∙ to_z-of_z w8 (int8_of v) h.1)))
-form-read Int32 v h = (refl, h.0 ∙ ap int32 (sym (ap (to_z w32) (le-to_le 4 (of_z w32 (int32_of v)) (of_z-lt w32 (int32_of v) h.1)) ∙ to_z-of_z w32 (int32_of v) h.1)))
-form-read Price v h = (refl, h.0 ∙ ap price (sym (ap (to_z w64) (le-to_le 8 (of_z w64 (price_of v)) (of_z-lt w64 (price_of v) h.1)) ∙ to_z-of_z w64 (price_of v) h.1)))
-form-read Time v h =
+    (rw e (lt-ltb (figure_of v) SEQUENCE_LIMIT h.1), h.0 ∙ ap figure (sym e))
+form_read Int8 v h = (refl, h.0 ∙ ap int8 (sym (ap (to_z w8) (le-to_le 1 (of_z w8 (int8_of v)) (of_z_below w8 (int8_of v) h.1)) ∙ to_z-of_z w8 (int8_of v) h.1)))
+form_read Int32 v h = (refl, h.0 ∙ ap int32 (sym (ap (to_z w32) (le-to_le 4 (of_z w32 (int32_of v)) (of_z_below w32 (int32_of v) h.1)) ∙ to_z-of_z w32 (int32_of v) h.1)))
+form_read Price v h = (refl, h.0 ∙ ap price (sym (ap (to_z w64) (le-to_le 8 (of_z w64 (price_of v)) (of_z_below w64 (price_of v) h.1)) ∙ to_z-of_z w64 (price_of v) h.1)))
+form_read Time v h =
     let s = le-to_le 4 (seconds_of v) h.1 in
     let u = le-to_le 4 (micros_of v) h.2 in
     (refl, h.0 ∙ sym (ap (λ n. clock n (le (to_le 4 (micros_of v)))) s ∙ ap (clock (seconds_of v)) u))
-form-read (Code cs) v h =
-    let e = le-to_le 1 (figure_of v) (code-small cs (figure_of v) h.1) in
+form_read (Code cs) v h =
+    let e = le-to_le 1 (figure_of v) (code_small cs (figure_of v) h.1) in
     (rw e h.1, h.0 ∙ ap figure (sym e))
-form-read (Reserved w) v h = (refl, h)
+form_read Alpha v h = (refl, h.0 ∙ ap figure (sym (le-to_le 1 (figure_of v) h.1)))
+form_read (Reserved w) v h = (refl, h)
 
 -- a content that a form can hold is there, but for a reserved field
 shown : (v w : Content) → v ≡ w → absent w ≡ false → absent v ≡ false
 shown v w e h = ap absent e ∙ h
 
-plain : (f : Form) (v : Content) (a : Bool) → absent v ≡ a → a ≡ false → cond a (replicate (wide f) 0) (bytes_of f v) ≡ bytes_of f v
-plain f v a e h = rw h
+there : (f : Form) (v : Content) (a : Bool) → absent v ≡ a → a ≡ false → cond a (replicate (wide f) 0) (bytes_of f v) ≡ bytes_of f v
+there f v a e h = rw h
 
-pub form-bytes : (f : Form) (v : Content) → HoldsForm f v → cond (absent v) (replicate (wide f) 0) (bytes_of f v) ≡ bytes_of f v
-form-bytes (Text w) v h = plain (Text w) v (absent v) refl (shown v (words (words_of v)) h.0 refl)
-form-bytes (Name w) v h = plain (Name w) v (absent v) refl (shown v (words (words_of v)) h.0 refl)
-form-bytes Order v h = plain Order v (absent v) refl (shown v (order (order_of v)) h.0 refl)
-form-bytes (Number w) v h = plain (Number w) v (absent v) refl (shown v (figure (figure_of v)) h.0 refl)
-form-bytes Sequence v h = plain Sequence v (absent v) refl (shown v (figure (figure_of v)) h.0 refl)
-form-bytes Int8 v h = plain Int8 v (absent v) refl (shown v (int8 (int8_of v)) h.0 refl)
-form-bytes Int32 v h = plain Int32 v (absent v) refl (shown v (int32 (int32_of v)) h.0 refl)
-form-bytes Price v h = plain Price v (absent v) refl (shown v (price (price_of v)) h.0 refl)
-form-bytes Time v h = plain Time v (absent v) refl (shown v (clock (seconds_of v) (micros_of v)) h.0 refl)
-form-bytes (Code cs) v h = plain (Code cs) v (absent v) refl (shown v (figure (figure_of v)) h.0 refl)
-form-bytes (Reserved w) v h = rw h
+pub form_bytes : (f : Form) (v : Content) → HoldsForm f v → cond (absent v) (replicate (wide f) 0) (bytes_of f v) ≡ bytes_of f v
+form_bytes (Text w) v h = there (Text w) v (absent v) refl (shown v (words (words_of v)) h.0 refl)
+form_bytes (Name w) v h = there (Name w) v (absent v) refl (shown v (words (words_of v)) h.0 refl)
+form_bytes Order v h = there Order v (absent v) refl (shown v (order (order_of v)) h.0 refl)
+form_bytes UInt32 v h = there UInt32 v (absent v) refl (shown v (figure (figure_of v)) h.0 refl)
+form_bytes UInt64 v h = there UInt64 v (absent v) refl (shown v (figure (figure_of v)) h.0 refl)
+form_bytes Sequence v h = there Sequence v (absent v) refl (shown v (figure (figure_of v)) h.0 refl)
+form_bytes Int8 v h = there Int8 v (absent v) refl (shown v (int8 (int8_of v)) h.0 refl)
+form_bytes Int32 v h = there Int32 v (absent v) refl (shown v (int32 (int32_of v)) h.0 refl)
+form_bytes Price v h = there Price v (absent v) refl (shown v (price (price_of v)) h.0 refl)
+form_bytes Time v h = there Time v (absent v) refl (shown v (clock (seconds_of v) (micros_of v)) h.0 refl)
+form_bytes (Code cs) v h = there (Code cs) v (absent v) refl (shown v (figure (figure_of v)) h.0 refl)
+form_bytes Alpha v h = there Alpha v (absent v) refl (shown v (figure (figure_of v)) h.0 refl)
+form_bytes (Reserved w) v h = rw h

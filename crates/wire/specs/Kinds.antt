@@ -1,58 +1,71 @@
--- The kinds of messages: their type bytes, their lengths, and which each reader takes. Assumes nothing.
-use Rattle.std.specs.Prelude.{ℕ, cond, Some, None, Option, ◌==◌}
+-- The kinds of messages: how each is laid out, and which each reader takes. Assumes nothing.
+use Rattle.std.specs.Prelude.{ℕ, List, Option, ◌==◌}
+use Rattle.std.specs.List.{find}
+use Rattle.layout.specs.declared.field.Field.{Field}
+use Rattle.layout.specs.declared.framed.Layout.{Ghosts}
+use Rattle.messages.specs.contracts.execution_report.ExecutionReportLayout.TheImpl as execution_report
+use Rattle.messages.specs.contracts.heartbeat.HeartbeatLayout.TheImpl as heartbeat
+use Rattle.messages.specs.contracts.logon.LogonLayout.TheImpl as logon
+use Rattle.messages.specs.contracts.logon_reply.LogonReplyLayout.TheImpl as logon_reply
+use Rattle.messages.specs.contracts.logout.LogoutLayout.TheImpl as logout
+use Rattle.messages.specs.contracts.missed_message_report.MissedMessageReportLayout.TheImpl as missed_message_report
+use Rattle.messages.specs.contracts.missed_message_request.MissedMessageRequestLayout.TheImpl as missed_message_request
+use Rattle.messages.specs.contracts.missed_message_request_ack.MissedMessageRequestAckLayout.TheImpl as missed_message_request_ack
+use Rattle.messages.specs.contracts.new_order.NewOrderLayout.TheImpl as new_order
+use Rattle.messages.specs.contracts.order_cancel_reject.OrderCancelRejectLayout.TheImpl as order_cancel_reject
+use Rattle.messages.specs.contracts.order_cancel_replace_request.OrderCancelReplaceRequestLayout.TheImpl as order_cancel_replace_request
+use Rattle.messages.specs.contracts.order_cancel_request.OrderCancelRequestLayout.TheImpl as order_cancel_request
+use Rattle.messages.specs.contracts.order_mass_cancel_report.OrderMassCancelReportLayout.TheImpl as order_mass_cancel_report
+use Rattle.messages.specs.contracts.order_mass_cancel_request.OrderMassCancelRequestLayout.TheImpl as order_mass_cancel_request
+use Rattle.messages.specs.contracts.reject.RejectLayout.TheImpl as reject
 use Rattle.wire.specs.declared.kinds.Channel.{Channel}
 use Rattle.wire.specs.declared.kinds.Channel.TheVariants as channel
 use Rattle.wire.specs.declared.kinds.Kind.{Kind}
 use Rattle.wire.specs.declared.kinds.Kind.TheVariants as kind
+use Rattle.wire.specs.declared.kinds.TheConstants.{REAL_TIME, RECOVERY, FOLLOWER}
 
--- the type byte of a kind
-abbrev pub letters : Kind → ℕ
-letters kind.Logon = 65
-letters kind.LogonReply = 66
-letters kind.Logout = 53
-letters kind.Heartbeat = 48
-letters kind.MissedMessageRequest = 77
-letters kind.MissedMessageRequestAck = 78
-letters kind.MissedMessageReport = 80
-letters kind.Reject = 51
-letters kind.NewOrder = 68
-letters kind.OrderCancelRequest = 70
-letters kind.OrderCancelReplaceRequest = 71
-letters kind.OrderMassCancelRequest = 113
-letters kind.ExecutionReport = 56
-letters kind.OrderCancelReject = 57
-letters kind.OrderMassCancelReport = 114
+-- how the messages of a kind are laid out: its type byte, its bytes in all, its fields
+pub record Layout : Type 0 where
+  pub letter : ℕ
+  pub total : ℕ
+  pub table : List Field
 
--- the bytes that a message of a kind has in all
-abbrev pub totals : Kind → ℕ
-totals kind.Logon = 80
-totals kind.LogonReply = 38
-totals kind.Logout = 24
-totals kind.Heartbeat = 4
-totals kind.MissedMessageRequest = 9
-totals kind.MissedMessageRequestAck = 5
-totals kind.MissedMessageReport = 5
-totals kind.Reject = 59
-totals kind.NewOrder = 97
-totals kind.OrderCancelRequest = 73
-totals kind.OrderCancelReplaceRequest = 112
-totals kind.OrderMassCancelRequest = 46
-totals kind.ExecutionReport = 145
-totals kind.OrderCancelReject = 63
-totals kind.OrderMassCancelReport = 56
+abbrev pub laid_out : {M : Type 0} → Ghosts M → Layout
+laid_out m = record { letter = m.letter; total = m.total; table = m.table }
 
--- the kind that a type byte names, of those that a reader takes
-abbrev pub taking : Channel → ℕ → Option Kind
-taking channel.RealTime t = cond (t == 65) (Some kind.Logon) (cond (t == 53) (Some kind.Logout) (cond (t == 48) (Some kind.Heartbeat) (cond (t == 68) (Some kind.NewOrder) (cond (t == 70) (Some kind.OrderCancelRequest) (cond (t == 71) (Some kind.OrderCancelReplaceRequest) (cond (t == 113) (Some kind.OrderMassCancelRequest) (None)))))))
-taking channel.Recovery t = cond (t == 65) (Some kind.Logon) (cond (t == 53) (Some kind.Logout) (cond (t == 48) (Some kind.Heartbeat) (cond (t == 77) (Some kind.MissedMessageRequest) (None))))
-taking channel.Follower t = cond (t == 66) (Some kind.LogonReply) (cond (t == 53) (Some kind.Logout) (cond (t == 48) (Some kind.Heartbeat) (cond (t == 78) (Some kind.MissedMessageRequestAck) (cond (t == 80) (Some kind.MissedMessageReport) (cond (t == 51) (Some kind.Reject) (cond (t == 56) (Some kind.ExecutionReport) (cond (t == 57) (Some kind.OrderCancelReject) (cond (t == 114) (Some kind.OrderMassCancelReport) (None)))))))))
+-- each as its message's own file says
+abbrev pub layout_of : Kind → Layout
+layout_of kind.Logon = laid_out logon.ghosts
+layout_of kind.LogonReply = laid_out logon_reply.ghosts
+layout_of kind.Logout = laid_out logout.ghosts
+layout_of kind.Heartbeat = laid_out heartbeat.ghosts
+layout_of kind.MissedMessageRequest = laid_out missed_message_request.ghosts
+layout_of kind.MissedMessageRequestAck = laid_out missed_message_request_ack.ghosts
+layout_of kind.MissedMessageReport = laid_out missed_message_report.ghosts
+layout_of kind.Reject = laid_out reject.ghosts
+layout_of kind.NewOrder = laid_out new_order.ghosts
+layout_of kind.OrderCancelRequest = laid_out order_cancel_request.ghosts
+layout_of kind.OrderCancelReplaceRequest = laid_out order_cancel_replace_request.ghosts
+layout_of kind.OrderMassCancelRequest = laid_out order_mass_cancel_request.ghosts
+layout_of kind.ExecutionReport = laid_out execution_report.ghosts
+layout_of kind.OrderCancelReject = laid_out order_cancel_reject.ghosts
+layout_of kind.OrderMassCancelReport = laid_out order_mass_cancel_report.ghosts
 
--- the same three, shut, so that a proof takes each as one unknown
-unfoldable pub letter_of : Kind → ℕ
-letter_of k = letters k
+abbrev pub letter_of : Kind → ℕ
+letter_of k = (layout_of k).letter
 
-unfoldable pub total_of : Kind → ℕ
-total_of k = totals k
+abbrev pub total_of : Kind → ℕ
+total_of k = (layout_of k).total
 
-unfoldable pub takes : Channel → ℕ → Option Kind
-takes ch t = taking ch t
+abbrev pub table_of : Kind → List Field
+table_of k = (layout_of k).table
+
+-- the kinds that a reader takes
+abbrev pub kinds_of : Channel → List Kind
+kinds_of channel.RealTime = REAL_TIME
+kinds_of channel.Recovery = RECOVERY
+kinds_of channel.Follower = FOLLOWER
+
+-- the one of them that a type byte names
+abbrev pub takes : Channel → ℕ → Option Kind
+takes ch t = find (λ k. letter_of k == t) (kinds_of ch)

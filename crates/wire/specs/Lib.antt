@@ -1,3 +1,4 @@
-pub mod Keeping
+pub mod Blanks
 pub mod Kinds
 pub mod Messages
+pub mod Plain

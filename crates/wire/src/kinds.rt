@@ -1,8 +1,26 @@
 // The kinds of messages, and which of them each reader takes.
 ghost use Rattle.std.specs.Prelude.{◌≡◌};
-ghost use Rattle.wire.specs.Kinds.{letter_of, total_of, takes};
+ghost use Rattle.wire.specs.Kinds.{kinds_of, letter_of, total_of, table_of, takes};
 
-// Who reads: the gateway on one of its two channels, or a follower.
+use layout::field::Field;
+use layout::framed::Layout;
+use messages::execution_report::ExecutionReport;
+use messages::heartbeat::Heartbeat;
+use messages::logon::Logon;
+use messages::logon_reply::LogonReply;
+use messages::logout::Logout;
+use messages::missed_message_report::MissedMessageReport;
+use messages::missed_message_request::MissedMessageRequest;
+use messages::missed_message_request_ack::MissedMessageRequestAck;
+use messages::new_order::NewOrder;
+use messages::order_cancel_reject::OrderCancelReject;
+use messages::order_cancel_replace_request::OrderCancelReplaceRequest;
+use messages::order_cancel_request::OrderCancelRequest;
+use messages::order_mass_cancel_report::OrderMassCancelReport;
+use messages::order_mass_cancel_request::OrderMassCancelRequest;
+use messages::reject::Reject;
+
+/// Who reads: the gateway on one of its two channels, or a follower.
 #[derive(Clone, Copy, Debug, PartialEq)]
 pub enum Channel {
     RealTime,
@@ -10,6 +28,7 @@ pub enum Channel {
     Follower,
 }
 
+/// The kind of a message.
 #[derive(Clone, Copy, Debug, PartialEq)]
 pub enum Kind {
     Logon,
@@ -29,92 +48,121 @@ pub enum Kind {
     OrderMassCancelReport,
 }
 
+/// What the gateway reads on its real-time channel, what comes most often first.
+pub const REAL_TIME: [Kind; 7] = [
+    Kind::NewOrder,
+    Kind::OrderCancelReplaceRequest,
+    Kind::OrderCancelRequest,
+    Kind::OrderMassCancelRequest,
+    Kind::Heartbeat,
+    Kind::Logon,
+    Kind::Logout,
+];
+
+/// What the gateway reads on its recovery channel.
+pub const RECOVERY: [Kind; 4] = [
+    Kind::MissedMessageRequest,
+    Kind::Heartbeat,
+    Kind::Logon,
+    Kind::Logout,
+];
+
+/// What a follower reads.
+pub const FOLLOWER: [Kind; 9] = [
+    Kind::ExecutionReport,
+    Kind::OrderCancelReject,
+    Kind::OrderMassCancelReport,
+    Kind::Reject,
+    Kind::Heartbeat,
+    Kind::LogonReply,
+    Kind::MissedMessageRequestAck,
+    Kind::MissedMessageReport,
+    Kind::Logout,
+];
+
+// How the messages of a kind are laid out.
+#[derive(Clone, Copy)]
+struct Shape {
+    letter: u8,
+    total: u16,
+    table: &'static [Field],
+}
+
+fn shape_of<M: Layout>() -> Shape
+    ensures letter { result.letter ≡ M.letter }
+    ensures total { result.total ≡ M.total }
+    ensures table { result.table.now ≡ M.table }
+{
+    Shape {
+        letter: M::letter(),
+        total: M::total(),
+        table: M::table(),
+    }
+}
+
 impl Kind {
-    // The byte that names the kind.
-    #[tactic(auto, unfolding(crate::specs::Kinds::letter_of))]
-    pub(crate) fn letter(self) -> u8
-        ensures { result ≡ letter_of self }
+    fn shape(self) -> Shape
+        ensures letter { result.letter ≡ letter_of self }
+        ensures total { result.total ≡ total_of self }
+        ensures table { result.table.now ≡ table_of self }
     {
         match self {
-            Kind::Logon => b'A',
-            Kind::LogonReply => b'B',
-            Kind::Logout => b'5',
-            Kind::Heartbeat => b'0',
-            Kind::MissedMessageRequest => b'M',
-            Kind::MissedMessageRequestAck => b'N',
-            Kind::MissedMessageReport => b'P',
-            Kind::Reject => b'3',
-            Kind::NewOrder => b'D',
-            Kind::OrderCancelRequest => b'F',
-            Kind::OrderCancelReplaceRequest => b'G',
-            Kind::OrderMassCancelRequest => b'q',
-            Kind::ExecutionReport => b'8',
-            Kind::OrderCancelReject => b'9',
-            Kind::OrderMassCancelReport => b'r',
+            Kind::Logon => shape_of::<Logon>(),
+            Kind::LogonReply => shape_of::<LogonReply>(),
+            Kind::Logout => shape_of::<Logout>(),
+            Kind::Heartbeat => shape_of::<Heartbeat>(),
+            Kind::MissedMessageRequest => shape_of::<MissedMessageRequest>(),
+            Kind::MissedMessageRequestAck => shape_of::<MissedMessageRequestAck>(),
+            Kind::MissedMessageReport => shape_of::<MissedMessageReport>(),
+            Kind::Reject => shape_of::<Reject>(),
+            Kind::NewOrder => shape_of::<NewOrder>(),
+            Kind::OrderCancelRequest => shape_of::<OrderCancelRequest>(),
+            Kind::OrderCancelReplaceRequest => shape_of::<OrderCancelReplaceRequest>(),
+            Kind::OrderMassCancelRequest => shape_of::<OrderMassCancelRequest>(),
+            Kind::ExecutionReport => shape_of::<ExecutionReport>(),
+            Kind::OrderCancelReject => shape_of::<OrderCancelReject>(),
+            Kind::OrderMassCancelReport => shape_of::<OrderMassCancelReport>(),
         }
     }
 
-    // How many bytes a message of the kind has in all.
-    #[tactic(auto, unfolding(crate::specs::Kinds::total_of))]
-    pub(crate) fn total(self) -> usize
+    /// The byte that names the kind.
+    pub fn letter(self) -> u8
+        ensures { result ≡ letter_of self }
+    {
+        self.shape().letter
+    }
+
+    /// How many bytes a message of the kind has in all.
+    pub fn total(self) -> usize
         ensures { result ≡ total_of self }
     {
-        match self {
-            Kind::Logon => 80,
-            Kind::LogonReply => 38,
-            Kind::Logout => 24,
-            Kind::Heartbeat => 4,
-            Kind::MissedMessageRequest => 9,
-            Kind::MissedMessageRequestAck => 5,
-            Kind::MissedMessageReport => 5,
-            Kind::Reject => 59,
-            Kind::NewOrder => 97,
-            Kind::OrderCancelRequest => 73,
-            Kind::OrderCancelReplaceRequest => 112,
-            Kind::OrderMassCancelRequest => 46,
-            Kind::ExecutionReport => 145,
-            Kind::OrderCancelReject => 63,
-            Kind::OrderMassCancelReport => 56,
-        }
+        usize::from(self.shape().total)
+    }
+
+    /// The fields of a message of the kind, one behind the other.
+    pub fn table(self) -> &'static [Field]
+        ensures { result.now ≡ table_of self }
+    {
+        self.shape().table
     }
 }
 
 impl Channel {
-    // The kind that a type byte names, if this reader takes it.
-    #[tactic(auto, unfolding(crate::specs::Kinds::takes))]
-    pub(crate) fn kind(self, letter: u8) -> Option<Kind>
-        ensures { result ≡ takes self letter }
+    /// The kinds that are read here.
+    pub fn kinds(self) -> &'static [Kind]
+        ensures { result.now ≡ kinds_of self }
     {
         match self {
-            Channel::RealTime => match letter {
-                b'A' => Some(Kind::Logon),
-                b'5' => Some(Kind::Logout),
-                b'0' => Some(Kind::Heartbeat),
-                b'D' => Some(Kind::NewOrder),
-                b'F' => Some(Kind::OrderCancelRequest),
-                b'G' => Some(Kind::OrderCancelReplaceRequest),
-                b'q' => Some(Kind::OrderMassCancelRequest),
-                _ => None,
-            },
-            Channel::Recovery => match letter {
-                b'A' => Some(Kind::Logon),
-                b'5' => Some(Kind::Logout),
-                b'0' => Some(Kind::Heartbeat),
-                b'M' => Some(Kind::MissedMessageRequest),
-                _ => None,
-            },
-            Channel::Follower => match letter {
-                b'B' => Some(Kind::LogonReply),
-                b'5' => Some(Kind::Logout),
-                b'0' => Some(Kind::Heartbeat),
-                b'N' => Some(Kind::MissedMessageRequestAck),
-                b'P' => Some(Kind::MissedMessageReport),
-                b'3' => Some(Kind::Reject),
-                b'8' => Some(Kind::ExecutionReport),
-                b'9' => Some(Kind::OrderCancelReject),
-                b'r' => Some(Kind::OrderMassCancelReport),
-                _ => None,
-            },
+            Channel::RealTime => &REAL_TIME,
+            Channel::Recovery => &RECOVERY,
+            Channel::Follower => &FOLLOWER,
         }
+    }
+
+    /// The kind that a type byte names, of those that are read here.
+    pub fn kind(self, letter: u8) -> Option<Kind>
+        ensures { result ≡ takes self letter }
+    {
+        self.kinds().iter().copied().find(|k| k.letter() == letter)
     }
 }

@@ -1,6 +1,5 @@
-// Any message of the protocol: read from bytes and written to them.
+// Any message: which kinds there are, who reads them, reading and writing.
 #![tactic(auto)]
 
-pub mod kept;
 pub mod kinds;
 pub mod message;

@@ -1,122 +1,131 @@
-// Any message: read from bytes as a borrowed one, written to bytes from an owned one.
-ghost use Rattle.std.specs.Prelude.{◌≡◌, ℕ, ◌+◌, ◌<◌, ◌≤◌, ◌++◌, length, drop, IfOk, Ok, Err, MatchResult, OnOk};
-ghost use Rattle.wire.specs.Kinds.{totals, total_of};
-ghost use Rattle.wire.specs.Messages.{opening, kept_of, kind_of, written, Holdable, GivenBack, Apart, Again, WasRead, Wrote};
+// Any message: read from bytes, and written to bytes.
+ghost use Rattle.std.specs.Prelude.{◌≡◌, ◌≤◌, ◌++◌, length, drop, IfOk, OnOk};
+ghost use Rattle.wire.specs.Kinds.{total_of};
+ghost use Rattle.wire.specs.Messages.{opening, kind_of, written, Holdable, GivenBack, Apart, Again, WasRead, Wrote};
 
 use crate::kinds::{Channel, Kind};
-use layout::field::Fault;
+use layout::fault::Fault;
+use layout::framed;
+use layout::put::START;
 use layout::reader::Reader;
-use layout::sequence::LastSequence;
-use layout::writer::put_header;
-use messages::reports::*;
-use messages::requests::*;
-use messages::session::*;
-use texts::fixed::RequestId;
-use texts::names::*;
-use texts::values::Text;
+use messages::execution_report::ExecutionReport;
+use messages::heartbeat::Heartbeat;
+use messages::logon::Logon;
+use messages::logon_reply::LogonReply;
+use messages::logout::Logout;
+use messages::missed_message_report::MissedMessageReport;
+use messages::missed_message_request::MissedMessageRequest;
+use messages::missed_message_request_ack::MissedMessageRequestAck;
+use messages::new_order::NewOrder;
+use messages::order_cancel_reject::OrderCancelReject;
+use messages::order_cancel_replace_request::OrderCancelReplaceRequest;
+use messages::order_cancel_request::OrderCancelRequest;
+use messages::order_mass_cancel_report::OrderMassCancelReport;
+use messages::order_mass_cancel_request::OrderMassCancelRequest;
+use messages::reject::Reject;
 
-// A message as it was read: its texts are parts of the bytes.
-#[derive(Clone, Copy)]
+/// A message. Its texts are lent: by the bytes that it was read from, or by whoever writes it.
+#[derive(Clone, Copy, Debug)]
 pub enum Message<'a> {
-    Logon(Logon<Text<'a>>),
-    LogonReply(LogonReply<Text<'a>>),
-    Logout(Logout<Text<'a>>),
-    Heartbeat,
-    MissedMessageRequest(MissedMessageRequest<u32>),
+    Logon(Logon<'a>),
+    LogonReply(LogonReply<'a>),
+    Logout(Logout<'a>),
+    Heartbeat(Heartbeat),
+    MissedMessageRequest(MissedMessageRequest),
     MissedMessageRequestAck(MissedMessageRequestAck),
     MissedMessageReport(MissedMessageReport),
-    Reject(ReadReject<'a>),
-    NewOrder(ReadNewOrder<'a>),
-    OrderCancelRequest(ReadOrderCancelRequest<'a>),
-    OrderCancelReplaceRequest(ReadOrderCancelReplaceRequest<'a>),
-    OrderMassCancelRequest(ReadOrderMassCancelRequest<'a>),
-    ExecutionReport(ReadExecutionReport<'a>),
-    OrderCancelReject(ReadOrderCancelReject<'a>),
-    OrderMassCancelReport(OrderMassCancelReport<Text<'a>>),
+    Reject(Reject<'a>),
+    NewOrder(NewOrder<'a>),
+    OrderCancelRequest(OrderCancelRequest<'a>),
+    OrderCancelReplaceRequest(OrderCancelReplaceRequest<'a>),
+    OrderMassCancelRequest(OrderMassCancelRequest<'a>),
+    ExecutionReport(ExecutionReport<'a>),
+    OrderCancelReject(OrderCancelReject<'a>),
+    OrderMassCancelReport(OrderMassCancelReport<'a>),
 }
 
-// A message of its own: fixed width, no heap. Whatever is one of these can be written.
-#[derive(Clone, Copy)]
-pub enum OwnedMessage {
-    Logon(Logon<CompId>),
-    LogonReply(LogonReply<Reason>),
-    Logout(Logout<LogoutReason>),
-    Heartbeat,
-    MissedMessageRequest(MissedMessageRequest<LastSequence>),
-    MissedMessageRequestAck(MissedMessageRequestAck),
-    MissedMessageReport(MissedMessageReport),
-    Reject(Reject<Reason, ClientOrderId>),
-    NewOrder(NewOrder<RequestId, TraderId, Account, Symbol>),
-    OrderCancelRequest(OrderCancelRequest<RequestId, ClientOrderId, Symbol>),
-    OrderCancelReplaceRequest(OrderCancelReplaceRequest<RequestId, ClientOrderId, Symbol, Account>),
-    OrderMassCancelRequest(OrderMassCancelRequest<RequestId, Symbol, Segment>),
-    ExecutionReport(ExecutionReport<Identifier, ClientOrderId, Symbol, Counterparty>),
-    OrderCancelReject(OrderCancelReject<ClientOrderId, Identifier>),
-    OrderMassCancelReport(OrderMassCancelReport<ClientOrderId>),
+/// A buffer that is too short for a message, which needs this many bytes.
+#[derive(Clone, Copy, Debug, PartialEq)]
+pub struct TooShort {
+    pub needed: usize,
+}
+
+impl Message<'_> {
+    /// What kind of message it is.
+    pub fn kind(&self) -> Kind
+        ensures { result ≡ kind_of self.now }
+    {
+        match self {
+            Message::Logon(_) => Kind::Logon,
+            Message::LogonReply(_) => Kind::LogonReply,
+            Message::Logout(_) => Kind::Logout,
+            Message::Heartbeat(_) => Kind::Heartbeat,
+            Message::MissedMessageRequest(_) => Kind::MissedMessageRequest,
+            Message::MissedMessageRequestAck(_) => Kind::MissedMessageRequestAck,
+            Message::MissedMessageReport(_) => Kind::MissedMessageReport,
+            Message::Reject(_) => Kind::Reject,
+            Message::NewOrder(_) => Kind::NewOrder,
+            Message::OrderCancelRequest(_) => Kind::OrderCancelRequest,
+            Message::OrderCancelReplaceRequest(_) => Kind::OrderCancelReplaceRequest,
+            Message::OrderMassCancelRequest(_) => Kind::OrderMassCancelRequest,
+            Message::ExecutionReport(_) => Kind::ExecutionReport,
+            Message::OrderCancelReject(_) => Kind::OrderCancelReject,
+            Message::OrderMassCancelReport(_) => Kind::OrderMassCancelReport,
+        }
+    }
 }
 
 // The checks of the header, in their order.
+#[tactic(auto, using(crate::proofs::Headers::long), unfolding(crate::specs::Messages::opening))]
 fn open(channel: Channel, r: &Reader<'_>) -> Result<Kind, Fault>
-    ensures cases { MatchResult result (λ k. opening channel r.now.src.now ≡ Ok k) (λ e. opening channel r.now.src.now ≡ Err (e.rule, e.offset)) }
-    ensures long { IfOk result (λ k. length r.now.src.now ≡ totals k) }
+    ensures checks { result ≡ opening channel r.now.src.now }
+    ensures long { IfOk result (λ k. length r.now.src.now ≡ total_of k) }
 {
     let given = r.src.len();
-    if given < 4 {
-        return Err(Fault { rule: 1, offset: 1 });
+    if given < 4 || given < usize::from(r.u16(1)) + 3 {
+        return Err(Fault::Short);
     }
-    let total = usize::from(r.u16(1)) + 3;
-    if given < total {
-        return Err(Fault { rule: 1, offset: 1 });
-    }
-    if r.u8(0) != 2 {
-        return Err(Fault { rule: 2, offset: 0 });
+    if r.u8(0) != START {
+        return Err(Fault::Start);
     }
     let Some(kind) = channel.kind(r.u8(3)) else {
-        return Err(Fault { rule: 3, offset: 3 });
+        return Err(Fault::Unknown);
     };
-    if total != kind.total() || total != given {
-        return Err(Fault { rule: 4, offset: 1 });
+    let stated = usize::from(r.u16(1)) + 3;
+    if stated != kind.total() || stated != given {
+        return Err(Fault::Length);
     }
     Ok(kind)
 }
 
+#[tactic(auto, using(crate::proofs::Reading::reads, crate::proofs::Reading::refused))]
 fn read_kind<'a>(channel: Channel, bytes: &'a [u8]) -> Result<Message<'a>, Fault>
     ensures { WasRead channel bytes.now result }
 {
     let r = Reader { src: bytes };
     match open(channel, &r)? {
-        Kind::Logon => Ok(Message::Logon(read_logon(&r)?)),
-        Kind::LogonReply => Ok(Message::LogonReply(read_logon_reply(&r)?)),
-        Kind::Logout => Ok(Message::Logout(read_logout(&r)?)),
-        Kind::Heartbeat => Ok(Message::Heartbeat),
-        Kind::MissedMessageRequest => Ok(Message::MissedMessageRequest(read_missed_message_request(
+        Kind::Logon => Ok(Message::Logon(framed::read(&r)?)),
+        Kind::LogonReply => Ok(Message::LogonReply(framed::read(&r)?)),
+        Kind::Logout => Ok(Message::Logout(framed::read(&r)?)),
+        Kind::Heartbeat => Ok(Message::Heartbeat(framed::read(&r)?)),
+        Kind::MissedMessageRequest => Ok(Message::MissedMessageRequest(framed::read(&r)?)),
+        Kind::MissedMessageRequestAck => Ok(Message::MissedMessageRequestAck(framed::read(&r)?)),
+        Kind::MissedMessageReport => Ok(Message::MissedMessageReport(framed::read(&r)?)),
+        Kind::Reject => Ok(Message::Reject(framed::read(&r)?)),
+        Kind::NewOrder => Ok(Message::NewOrder(framed::read(&r)?)),
+        Kind::OrderCancelRequest => Ok(Message::OrderCancelRequest(framed::read(&r)?)),
+        Kind::OrderCancelReplaceRequest => Ok(Message::OrderCancelReplaceRequest(framed::read(
             &r,
         )?)),
-        Kind::MissedMessageRequestAck => Ok(Message::MissedMessageRequestAck(
-            read_missed_message_request_ack(&r)?,
-        )),
-        Kind::MissedMessageReport => Ok(Message::MissedMessageReport(read_missed_message_report(
-            &r,
-        )?)),
-        Kind::Reject => Ok(Message::Reject(read_reject(&r)?)),
-        Kind::NewOrder => Ok(Message::NewOrder(read_new_order(&r)?)),
-        Kind::OrderCancelRequest => Ok(Message::OrderCancelRequest(read_order_cancel_request(&r)?)),
-        Kind::OrderCancelReplaceRequest => Ok(Message::OrderCancelReplaceRequest(
-            read_order_cancel_replace_request(&r)?,
-        )),
-        Kind::OrderMassCancelRequest => Ok(Message::OrderMassCancelRequest(
-            read_order_mass_cancel_request(&r)?,
-        )),
-        Kind::ExecutionReport => Ok(Message::ExecutionReport(read_execution_report(&r)?)),
-        Kind::OrderCancelReject => Ok(Message::OrderCancelReject(read_order_cancel_reject(&r)?)),
-        Kind::OrderMassCancelReport => Ok(Message::OrderMassCancelReport(
-            read_order_mass_cancel_report(&r)?,
-        )),
+        Kind::OrderMassCancelRequest => Ok(Message::OrderMassCancelRequest(framed::read(&r)?)),
+        Kind::ExecutionReport => Ok(Message::ExecutionReport(framed::read(&r)?)),
+        Kind::OrderCancelReject => Ok(Message::OrderCancelReject(framed::read(&r)?)),
+        Kind::OrderMassCancelReport => Ok(Message::OrderMassCancelReport(framed::read(&r)?)),
     }
 }
 
-// Reads one message, or says which check is the first to fail, and where.
-#[tactic(auto, using(crate::proofs::Again::again_read))]
+/// Reads one message, or says which check is the first to fail, and where.
+#[tactic(auto, using(crate::proofs::Reading::again))]
 pub fn read<'a>(channel: Channel, bytes: &'a [u8]) -> Result<Message<'a>, Fault>
     ensures checks { WasRead channel bytes.now result }
     ensures again { IfOk result (λ m. Again bytes.now m) }
@@ -124,43 +133,38 @@ pub fn read<'a>(channel: Channel, bytes: &'a [u8]) -> Result<Message<'a>, Fault>
     read_kind(channel, bytes)
 }
 
-// A buffer that is too short for a message, which needs this many bytes.
-#[derive(Clone, Copy, Debug, PartialEq)]
-pub struct TooShort {
-    pub needed: usize,
-}
-
-fn write_kind(message: &OwnedMessage, out: &mut [u8])
-    requires { total_of (kind_of (kept_of message.now)) ≤ length out.old }
-    ensures wrote { out.new ≡ written (kept_of message.now) ++ drop (total_of (kind_of (kept_of message.now))) out.old }
-    ensures holds { Holdable (kept_of message.now) }
-    ensures back { GivenBack (kept_of message.now) }
-    ensures apart { Apart (kept_of message.now) }
+#[tactic(auto, using(crate::proofs::Writing::one_form))]
+fn write_kind(message: &Message<'_>, out: &mut [u8])
+    requires { total_of (kind_of message.now) ≤ length out.old }
+    ensures wrote { out.new ≡ written message.now ++ drop (total_of (kind_of message.now)) out.old }
+    ensures holds { Holdable message.now }
 {
     match message {
-        OwnedMessage::Logon(m) => write_logon(m, out),
-        OwnedMessage::LogonReply(m) => write_logon_reply(m, out),
-        OwnedMessage::Logout(m) => write_logout(m, out),
-        OwnedMessage::Heartbeat => put_header(out, b'0', 4),
-        OwnedMessage::MissedMessageRequest(m) => write_missed_message_request(m, out),
-        OwnedMessage::MissedMessageRequestAck(m) => write_missed_message_request_ack(m, out),
-        OwnedMessage::MissedMessageReport(m) => write_missed_message_report(m, out),
-        OwnedMessage::Reject(m) => write_reject(m, out),
-        OwnedMessage::NewOrder(m) => write_new_order(m, out),
-        OwnedMessage::OrderCancelRequest(m) => write_order_cancel_request(m, out),
-        OwnedMessage::OrderCancelReplaceRequest(m) => write_order_cancel_replace_request(m, out),
-        OwnedMessage::OrderMassCancelRequest(m) => write_order_mass_cancel_request(m, out),
-        OwnedMessage::ExecutionReport(m) => write_execution_report(m, out),
-        OwnedMessage::OrderCancelReject(m) => write_order_cancel_reject(m, out),
-        OwnedMessage::OrderMassCancelReport(m) => write_order_mass_cancel_report(m, out),
+        Message::Logon(m) => framed::write(m, out),
+        Message::LogonReply(m) => framed::write(m, out),
+        Message::Logout(m) => framed::write(m, out),
+        Message::Heartbeat(m) => framed::write(m, out),
+        Message::MissedMessageRequest(m) => framed::write(m, out),
+        Message::MissedMessageRequestAck(m) => framed::write(m, out),
+        Message::MissedMessageReport(m) => framed::write(m, out),
+        Message::Reject(m) => framed::write(m, out),
+        Message::NewOrder(m) => framed::write(m, out),
+        Message::OrderCancelRequest(m) => framed::write(m, out),
+        Message::OrderCancelReplaceRequest(m) => framed::write(m, out),
+        Message::OrderMassCancelRequest(m) => framed::write(m, out),
+        Message::ExecutionReport(m) => framed::write(m, out),
+        Message::OrderCancelReject(m) => framed::write(m, out),
+        Message::OrderMassCancelReport(m) => framed::write(m, out),
     }
 }
 
-// Writes a message in its one form to the front of a buffer; the bytes past it stay.
-pub fn write(message: &OwnedMessage, out: &mut [u8]) -> Result<usize, TooShort>
-    ensures bytes { Wrote (kept_of message.now) out.old out.new result }
-    ensures back { OnOk result (GivenBack (kept_of message.now)) }
-    ensures apart { OnOk result (Apart (kept_of message.now)) }
+/// Writes a message in its one form to the front of a buffer, and says how many bytes it has; those past it stay.
+/// A buffer that is too short stays as it is.
+#[tactic(auto, using(crate::proofs::Writing::given_back, crate::proofs::Writing::apart))]
+pub fn write(message: &Message<'_>, out: &mut [u8]) -> Result<usize, TooShort>
+    ensures bytes { Wrote message.now out.old out.new result }
+    ensures back { OnOk result (GivenBack message.now) }
+    ensures apart { OnOk result (Apart message.now) }
 {
     let total = message.kind().total();
     if out.len() < total {

@@ -1,4 +1,4 @@
-use Rattle.std.proofs.Common.{◌<◌, length, ap, ◌∙◌, rules}
+use Rattle.std.proofs.Common.{◌^◌, ◌<◌, length, ap, ◌∙◌, rules}
 use Rattle.texts.specs.Bytes.{is_text}
 use Rattle.texts.proofs.Padding.{is_text-all}
 use Rattle.texts.proofs.Digits.{length-id_of, printable-id_of, returns_of}
@@ -12,5 +12,5 @@ invariant_of-result c =
 
 pub returns : goal.returns
 returns c =
-    let h : c.args.number < 18446744073709551616 = search rules in
+    let h : c.args.number < 2 ^ 64 = search rules in
     record { text = c.write_id.ensures; returns = returns_of c.args.letter c.args.number h }

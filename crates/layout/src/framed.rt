@@ -1,0 +1,94 @@
+// What a message is to its reader and its writer, and the one reader and the one writer of all.
+ghost use Rattle.std.specs.Prelude.{◌≡◌, ◌≤◌, ℕ, true, List, length};
+ghost use Rattle.layout.specs.declared.field.Field.{Field as Fields};
+ghost use Rattle.layout.specs.Layout.{Content, Body, Checked, AllOk, Says, text_places, within};
+ghost use Rattle.layout.specs.Writing.{Wrote, over_all, tiled};
+ghost use Rattle.layout.specs.Holding.{HoldsIn};
+
+use crate::check::check;
+use crate::fault::Fault;
+use crate::field::Field;
+use crate::put::put_header;
+use crate::reader::Reader;
+
+/// The layout of a message's bytes.
+pub trait Layout {
+    // the fields, one behind the other
+    ghost table: { List Fields };
+
+    // the byte that names the type
+    ghost letter: { ℕ };
+
+    // how many bytes a message has in all
+    ghost total: { ℕ };
+
+    /// The fields, one behind the other.
+    fn table() -> &'static [Field]
+        ensures { result.now ≡ table };
+
+    /// The byte that names the type.
+    fn letter() -> u8
+        ensures { result ≡ letter };
+
+    /// How many bytes a message has in all.
+    fn total() -> u16
+        ensures { result ≡ total };
+
+    /// The check of all fields: the first that does not hold what its form asks for is refused.
+    fn check(r: &Reader<'_>) -> Result<(), Fault>
+        requires { length r.now.src.now ≡ total }
+        ensures { Checked table r.now.src.now result }
+    {
+        check(Self::table(), usize::from(Self::total()), r)
+    }
+
+    ghost inside: { within total table ≡ true };
+
+    ghost tiles: { tiled 4 total table ≡ true };
+
+    ghost headed: { 4 ≤ total };
+}
+
+/// A message by its layout: what its fields hold, and where its texts stand.
+pub trait Framed<'a>: Layout {
+    // what each field of the table holds
+    ghost contents: { Self → List Content };
+
+    // where each text stands in the bytes that it was read from
+    ghost places: { Self → List ℕ };
+
+    /// The fields of bytes that the check has passed.
+    fn fields(r: &Reader<'a>) -> Self
+    where
+        Self: Sized,
+        requires room { length r.now.src.now ≡ Self.total }
+        requires passed { AllOk Self.table r.now.src.now }
+        ensures says { Says (contents result) Self.table r.now.src.now }
+        ensures placed { places result ≡ text_places Self.table r.now.src.now };
+
+    /// Writes each field at its place.
+    fn put(&self, out: &mut [u8])
+        requires { Self.total ≤ length out.old }
+        ensures wrote { out.new ≡ over_all Self.table (contents self.now) out.old }
+        ensures holds { HoldsIn Self.table (contents self.now) };
+}
+
+/// Reads a message, or says which field is the first bad one.
+pub fn read<'a, M: Framed<'a>>(r: &Reader<'a>) -> Result<M, Fault>
+    requires { length r.now.src.now ≡ M.total }
+    ensures { Body M.table M.contents M.places r.now.src.now result }
+{
+    M::check(r)?;
+    Ok(M::fields(r))
+}
+
+/// Writes a message to the front of a buffer; the bytes past it stay.
+#[tactic(auto, using(crate::proofs::Wholes::whole))]
+pub fn write<'a, M: Framed<'a>>(m: &M, out: &mut [u8])
+    requires { M.total ≤ length out.old }
+    ensures wrote { Wrote M.letter M.total M.table (M.contents m.now) out.old out.new }
+    ensures holds { HoldsIn M.table (M.contents m.now) }
+{
+    put_header(out, M::letter(), M::total());
+    m.put(out);
+}

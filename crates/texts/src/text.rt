@@ -1,0 +1,87 @@
+// Text as it stands in a message: borrowed, its width in its type.
+ghost use Rattle.std.specs.Prelude.{◌≡◌, true, length};
+ghost use Rattle.texts.specs.Bytes.{is_text, named};
+
+use crate::bytes::text_end;
+use crate::fixed::{FixedText, RequestId};
+
+/// A text field of N bytes: printable ones, and then nothing but nulls.
+#[derive(Clone, Copy, Debug)]
+pub struct Text<'a, const N: usize> {
+    /// The whole field, with its nulls.
+    pub field: &'a [u8],
+    /// Where the field begins in the message that it was read from; 0 in a text of its own.
+    pub offset: usize,
+    ghost wide: { length field.now ≡ N },
+    ghost text: { is_text field.now ≡ true },
+}
+
+/// A text that is not empty.
+#[derive(Clone, Copy, Debug)]
+pub struct Name<'a, const N: usize> {
+    pub text: Text<'a, N>,
+    ghost given: { named text.field.now ≡ true },
+}
+
+impl<'a, const N: usize> Text<'a, N> {
+    ghost use Rattle.std.specs.Prelude.{◌≤◌};
+    ghost use Rattle.texts.specs.Says.{says};
+
+    /// What the text says: its printable bytes.
+    pub fn as_bytes(&self) -> &'a [u8]
+        ensures value { result.now ≡ says self.now }
+        ensures bound { length result.now ≤ N }
+    {
+        let field = self.field;
+        &field[0..text_end(field)]
+    }
+
+    /// Where the field begins in its message.
+    pub fn offset(&self) -> usize
+        ensures { result ≡ self.now.offset }
+    {
+        self.offset
+    }
+
+    /// The same text, kept.
+    pub fn keep(&self) -> FixedText<N>
+        ensures { result.bytes ≡ self.now.field.now }
+    {
+        let mut bytes = [0; N];
+        bytes.copy_from_slice(self.field);
+        FixedText { bytes }
+    }
+}
+
+impl<'a, const N: usize> Name<'a, N> {
+    ghost use Rattle.std.specs.Prelude.{◌<◌, ◌≤◌};
+    ghost use Rattle.texts.specs.Says.{says};
+
+    /// What the name says, which is at least one byte.
+    #[tactic(auto, using(crate::proofs::Kept::named_says))]
+    pub fn as_bytes(&self) -> &'a [u8]
+        ensures value { result.now ≡ says self.now.text }
+        ensures bound { length result.now ≤ N }
+        ensures given { 0 < length result.now }
+    {
+        self.text.as_bytes()
+    }
+
+    /// Where the field begins in its message.
+    pub fn offset(&self) -> usize
+        ensures { result ≡ self.now.text.offset }
+    {
+        self.text.offset
+    }
+}
+
+impl<'a> Name<'a, 20> {
+    /// The same name, kept.
+    pub fn keep(&self) -> RequestId
+        ensures { result.id.bytes ≡ self.now.text.field.now }
+    {
+        RequestId {
+            id: self.text.keep(),
+        }
+    }
+}
