@@ -2,6 +2,4 @@
 #![tactic(auto)]
 
 pub mod buffered;
-pub mod buffered_calls;
 pub mod codec;
-pub mod place;

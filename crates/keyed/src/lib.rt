@@ -4,6 +4,8 @@
 ghost use Rattle.std.specs.Prelude.{◌≡◌, ℕ, ◌==◌};
 ghost use Rattle.std.specs.List.{position};
 
+pub mod numbers;
+
 /// A row that is known by a number.
 pub trait Numbered {
     ghost key: { Self → ℕ };

@@ -1,26 +1,47 @@
--- What the order table holds, and what its calls answer. Assumes nothing.
-use Rattle.std.specs.Prelude.{◌≡◌, ℕ, ◌+◌, cond, List, [], ◌∷◌, ◌++◌, length, Some, None, Ok, Err, vec_items, Option, Result, nat_lt}
+-- What the calls of the order table answer. Assumes nothing.
+use Rattle.std.specs.Prelude.{◌≡◌, ℕ, ◌+◌, Bool, not, ◌&&◌, List, [], ◌∷◌, ◌++◌, length, Some, None, Ok, Err, Option, Result, ◌==◌, nat_lt, count_by, find, reverse, if◌then◌else◌}
+use Rattle.std.specs.Str.{bytes_eq}
+use Rattle.texts.specs.Bytes.{said}
+use Rattle.limits.specs.declared.TheConstants.{ORDERS}
 use Rattle.orders.specs.declared.row.Row.{Row}
 use Rattle.orders.specs.declared.row.Terms.{Terms}
 use Rattle.orders.specs.declared.row.Ask.{Ask}
-use Rattle.orders.specs.declared.order.Order.{Order}
-use Rattle.orders.specs.declared.table.Table.{Table}
-use Rattle.orders.specs.declared.table_calls.AddRefusal.{AddRefusal}
-use Rattle.orders.specs.declared.table_calls.AddRefusal.TheVariants.{BadQuantity, Full}
-use Rattle.orders.specs.Rows.{sized, accepted}
-use Rattle.orders.specs.Orders.{row_of}
+use Rattle.orders.specs.declared.table.AddRefusal.{AddRefusal}
+use Rattle.orders.specs.declared.table.AddRefusal.TheVariants.{BadQuantity, Full}
+use Rattle.orders.specs.Rows.{orderable, accepted}
 
-abbrev pub rows_of : Table → List Row
-rows_of t = vec_items t.rows
+-- whether a row has shares open
+abbrev pub is_open : Row → Bool
+is_open r = nat_lt 0 r.leaves
+
+-- how many orders have shares open
+abbrev pub open_count : List Row → ℕ
+open_count rs = count_by is_open rs
+
+-- a row, where it is the owner's
+abbrev pub owned : ℕ → Option Row → Option Row
+owned o None = None
+owned o (Some r) = if r.terms.owner == o then Some r else None
+
+-- whether a row is the owner's and has a text as its current client order id
+abbrev pub goes_by : ℕ → List ℕ → Row → Bool
+goes_by o c r = r.terms.owner == o && bytes_eq (said r.client.bytes) c
+
+-- the owner's highest-numbered row that goes by a client order id
+abbrev pub latest : ℕ → List ℕ → List Row → Option Row
+latest o c rs = find (goes_by o c) (reverse rs)
 
 -- why no order is added, tried in this order
 abbrev pub add_fault : ℕ → List Row → Option AddRefusal
-add_fault q rs = cond (sized q) (cond (nat_lt (length rs) 256) None (Some Full)) (Some BadQuantity)
+add_fault q rs =
+    if not (orderable q) then Some BadQuantity
+    else if nat_lt (length rs) ORDERS then None else Some Full
 
+-- the number of each refusal
 abbrev pub add_number : AddRefusal → ℕ
 add_number BadQuantity = 22
 add_number Full = 23
 
-abbrev pub Adds : List Row → Terms → Ask → Result Order AddRefusal → List Row → Type 0
-Adds rs t a (Ok o) rs' = (add_fault a.quantity rs ≡ None) × (row_of o ≡ accepted (length rs + 1) t a) × (rs' ≡ rs ++ (accepted (length rs + 1) t a ∷ []))
+abbrev pub Adds : List Row → Terms → Ask → Result Row AddRefusal → List Row → Type 0
+Adds rs t a (Ok r) rs' = (add_fault a.quantity rs ≡ None) × (r ≡ accepted (length rs + 1) t a) × (rs' ≡ rs ++ r ∷ [])
 Adds rs t a (Err e) rs' = (add_fault a.quantity rs ≡ Some e) × (rs' ≡ rs)

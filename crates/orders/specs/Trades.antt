@@ -1,18 +1,15 @@
--- The trades of a day, and what their table's calls answer. Assumes nothing.
-use Rattle.std.specs.Prelude.{◌≡◌, ℕ, ◌+◌, ◌<◌, ◌≤◌, true, cond, List, [], ◌∷◌, ◌++◌, length, Some, None, Ok, Err, vec_items, Option, Result}
+-- What the calls of the table of trades answer. Assumes nothing.
+use Rattle.std.specs.Prelude.{◌≡◌, ℕ, ◌+◌, ◌<◌, ◌≤◌, true, List, [], ◌∷◌, ◌++◌, length, Some, None, Ok, Err, Option, Result, if◌then◌else◌}
+use Rattle.keyed.specs.Numbers.{under, put_under}
+use Rattle.limits.specs.declared.TheConstants.{TRADES}
 use Rattle.orders.specs.declared.trade.Trade.{Trade}
-use Rattle.orders.specs.declared.trade.Trades.{Trades}
-use Rattle.orders.specs.declared.trades_calls.TradeRefusal.{TradeRefusal}
-use Rattle.orders.specs.declared.trades_calls.TradeRefusal.TheVariants.{Unknown, DoneBefore}
-use Rattle.orders.specs.Places.{at, put}
+use Rattle.orders.specs.declared.trade.TradeRefusal.{TradeRefusal}
+use Rattle.orders.specs.declared.trade.TradeRefusal.TheVariants.{Unknown, DoneBefore}
 
-abbrev pub trades_of : Trades → List Trade
-trades_of t = vec_items t.trades
-
--- a trade is added under the next number, refused exactly where there are 512
+-- a trade is added under the next number, refused exactly where the table is full
 abbrev pub Notes : List Trade → Trade → Option ℕ → List Trade → Type 0
-Notes ts t None ts' = (512 ≤ length ts) × (ts' ≡ ts)
-Notes ts t (Some n) ts' = (length ts < 512) × (n ≡ length ts + 1) × (ts' ≡ ts ++ (t ∷ []))
+Notes ts t None ts' = (TRADES ≤ length ts) × (ts' ≡ ts)
+Notes ts t (Some n) ts' = (length ts < TRADES) × (n ≡ length ts + 1) × (ts' ≡ ts ++ t ∷ [])
 
 -- a trade that is cancelled
 abbrev pub void : Trade → Trade
@@ -21,13 +18,14 @@ void t = record t { cancelled = true }
 -- why a trade is not cancelled, tried in this order
 abbrev pub void_fault : Option Trade → Option TradeRefusal
 void_fault None = Some Unknown
-void_fault (Some t) = cond t.cancelled (Some DoneBefore) None
+void_fault (Some t) = if t.cancelled then Some DoneBefore else None
 
+-- the number of each refusal
 abbrev pub trade_number : TradeRefusal → ℕ
 trade_number Unknown = 42
 trade_number DoneBefore = 43
 
 -- the trade as it was is answered, and its row alone is marked
 abbrev pub Voids : List Trade → ℕ → Result Trade TradeRefusal → List Trade → Type 0
-Voids ts n (Ok t) ts' = (void_fault (at ts n) ≡ None) × (at ts n ≡ Some t) × (ts' ≡ put ts n (void t))
-Voids ts n (Err e) ts' = (void_fault (at ts n) ≡ Some e) × (ts' ≡ ts)
+Voids ts n (Ok t) ts' = (void_fault (under ts n) ≡ None) × (under ts n ≡ Some t) × (ts' ≡ put_under ts n (void t))
+Voids ts n (Err e) ts' = (void_fault (under ts n) ≡ Some e) × (ts' ≡ ts)

@@ -38,11 +38,12 @@ fn undone_after_cancel(rt: HostRuntime) -> Result<(), Fail> {
     let order = order.withdraw(Ending::Cancelled).ok_or("not cancelled")?;
     let order = order.undo(40).ok_or("not undone")?;
     assert!(rt; table.write(order));
-    let kept = table.order(1).ok_or("not kept")?;
+    let order = table.order(1).ok_or("not kept")?;
+    let kept = order.row();
     assert_eq!(rt; kept.ordered, 60);
     assert_eq!(rt; kept.withdrawn, 60);
     assert_eq!(rt; kept.leaves, 0);
-    assert_eq!(rt; kept.status() as u8, 4);
+    assert_eq!(rt; order.status() as u8, 4);
     Ok(())
 }
 
@@ -57,7 +58,7 @@ fn replaced_above_executed(rt: HostRuntime) -> Result<(), Fail> {
         return Err(Fail::new("replaced by what is executed"));
     }
     let order = order.replace(ask(41))?;
-    assert_eq!(rt; order.leaves, 1);
+    assert_eq!(rt; order.row().leaves, 1);
     Ok(())
 }
 
@@ -70,7 +71,7 @@ fn found_by_owner_and_id(rt: HostRuntime) -> Result<(), Fail> {
     assert!(rt; table.own(1, 1).is_none());
     assert!(rt; table.own(1, 2).is_some());
     let named = table.named(0, FixedText::empty()).ok_or("not named")?;
-    assert_eq!(rt; named.number, 3);
+    assert_eq!(rt; named.row().number, 3);
     assert_eq!(rt; table.open_count(), 3);
     Ok(())
 }

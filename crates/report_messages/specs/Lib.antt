@@ -1,1 +1,2 @@
+pub mod Identifiers
 pub mod Telling

@@ -1,61 +1,87 @@
--- What the message of a report says. Partition and number are the store's, the Execution ID follows from them, and what no rule names is null. Assumes nothing.
-use Rattle.std.specs.Prelude.{ℕ, List, [], pos, Some, None, Option}
+-- What the message of a report says. Partition and number are the store's, the Execution ID follows from them, and what
+-- no rule names is null. Assumes nothing.
+use Rattle.std.specs.Prelude.{ℕ, List, [], ◌∷◌, pos}
+use Rattle.codes.specs.Order.{book_code, side_code}
+use Rattle.codes.specs.Report.{capacity_code, exec_type_code, mass_response_code, price_differential_code, status_code}
 use Rattle.codes.specs.Session.{partition_code}
 use Rattle.codes.specs.declared.session.Partition.{Partition}
 use Rattle.codes.specs.declared.report.PriceDifferential.TheVariants as differential
+use Rattle.terms.specs.Execution.{kind_of}
 use Rattle.texts.specs.Bytes.{said}
-use Rattle.texts.specs.Identifiers.{order_id_text, execution_id_text}
-use Rattle.texts.specs.declared.identifiers.OrderId.{OrderId}
-use Rattle.texts.specs.declared.identifiers.ExecutionId.{ExecutionId}
-use Rattle.messages.specs.declared.terms.Execution.{Execution}
-use Rattle.messages.specs.declared.terms.Execution.TheVariants as execution
-use Rattle.messages.specs.declared.reports.ExecutionReport.{ExecutionReport as ExecutionMessage}
-use Rattle.messages.specs.declared.reports.OrderCancelReject.{OrderCancelReject}
-use Rattle.messages.specs.declared.reports.OrderMassCancelReport.{OrderMassCancelReport}
-use Rattle.wire.specs.Messages.{Said}
-use Rattle.wire.specs.Messages.Said.{the_execution_report, the_order_cancel_reject, the_order_mass_cancel_report}
-use Rattle.reports.specs.declared.report.Exec.{Exec}
-use Rattle.reports.specs.declared.report.Exec.TheVariants as exec
+use Rattle.layout.specs.Layout.{Content}
+use Rattle.layout.specs.Layout.Content.{words, figure, int32, price, clock, nothing}
+use Rattle.messages.specs.Terms.{execution_reject, execution_liquidity, execution_trade}
+use Rattle.wire.specs.declared.kinds.Kind.{Kind}
+use Rattle.wire.specs.declared.kinds.Kind.TheVariants as kind
 use Rattle.reports.specs.declared.report.ExecutionReport.{ExecutionReport}
 use Rattle.reports.specs.declared.report.CancelReject.{CancelReject}
 use Rattle.reports.specs.declared.report.MassCancelReport.{MassCancelReport}
 use Rattle.reports.specs.declared.report.Report.{Report}
 use Rattle.reports.specs.declared.report.Report.TheVariants as report
+use Rattle.report_messages.specs.Identifiers.{order_text, reference_text, own_text}
 
-abbrev pub execution_of : Exec → Execution
-execution_of exec.New = execution.New
-execution_of exec.Cancelled = execution.Cancelled
-execution_of exec.Replaced = execution.Replaced
-execution_of (exec.Rejected code) = execution.Rejected code
-execution_of exec.Expired = execution.Expired
-execution_of exec.Restated = execution.Restated
-execution_of (exec.Trade l t) = execution.Trade l t
-execution_of (exec.TradeCancel l) = execution.TradeCancel l
+-- an Execution Report: secondary order, counterparty and price differential are null
+abbrev pub execution_told : Partition → ℕ → ExecutionReport → List Content
+execution_told p n e =
+    figure (partition_code p)
+    ∷ int32 (pos n)
+    ∷ words (own_text p n)
+    ∷ words (said e.client.bytes)
+    ∷ words (order_text e.order)
+    ∷ figure (exec_type_code (kind_of e.execution))
+    ∷ words (reference_text e.reference)
+    ∷ figure (status_code e.status)
+    ∷ execution_reject e.execution
+    ∷ price e.price.raw
+    ∷ int32 e.quantity
+    ∷ int32 e.leaves
+    ∷ nothing
+    ∷ int32 e.display
+    ∷ words (said e.symbol.bytes)
+    ∷ figure (side_code e.side)
+    ∷ figure 0
+    ∷ words []
+    ∷ execution_liquidity e.execution
+    ∷ figure e.trade
+    ∷ clock e.time.seconds e.time.microseconds
+    ∷ figure (book_code e.book)
+    ∷ execution_trade e.execution
+    ∷ figure (capacity_code e.capacity)
+    ∷ figure (price_differential_code differential.Unspecified)
+    ∷ nothing
+    ∷ []
 
--- an identifier, or nothing
-abbrev pub order_text : Option OrderId → List ℕ
-order_text None = []
-order_text (Some i) = said (order_id_text i.number)
+-- a Cancel Reject: it names no order
+abbrev pub reject_told : Partition → ℕ → CancelReject → List Content
+reject_told p n r =
+    figure (partition_code p)
+    ∷ int32 (pos n)
+    ∷ words (said r.client.bytes)
+    ∷ words []
+    ∷ int32 r.reason
+    ∷ clock r.time.seconds r.time.microseconds
+    ∷ nothing
+    ∷ []
 
-abbrev pub reference_text : Option ExecutionId → List ℕ
-reference_text None = []
-reference_text (Some i) = said (execution_id_text i.partition i.sequence)
+abbrev pub mass_told : Partition → ℕ → MassCancelReport → List Content
+mass_told p n r =
+    figure (partition_code p)
+    ∷ int32 (pos n)
+    ∷ words (said r.client.bytes)
+    ∷ figure (mass_response_code r.response)
+    ∷ int32 r.reason
+    ∷ nothing
+    ∷ clock r.time.seconds r.time.microseconds
+    ∷ nothing
+    ∷ []
 
--- the report's own Execution ID
-abbrev pub own_text : Partition → ℕ → List ℕ
-own_text p n = said (execution_id_text (partition_code p) n)
+-- what the message of a report under its number says, and its kind
+abbrev pub told_as : Partition → ℕ → Report → List Content
+told_as p n (report.Execution e) = execution_told p n e
+told_as p n (report.CancelReject r) = reject_told p n r
+told_as p n (report.MassCancel r) = mass_told p n r
 
-abbrev pub execution_told : Partition → ℕ → ExecutionReport → ExecutionMessage (List ℕ) (List ℕ) (List ℕ) (List ℕ)
-execution_told p n e = record { partition = p; sequence = pos n; execution_id = own_text p n; client_order_id = said e.client.bytes; order_id = order_text e.order; execution = execution_of e.exec; reference_id = reference_text e.reference; status = e.status; executed_price = e.price; executed_quantity = e.quantity; leaves_quantity = e.leaves; display_quantity = e.display; symbol = said e.symbol.bytes; side = e.side; secondary_order_id = 0; counterparty = []; trade_match_id = e.trade; transact_time = e.time; book = e.book; capacity = e.capacity; price_differential = differential.Unspecified }
-
-abbrev pub reject_told : Partition → ℕ → CancelReject → OrderCancelReject (List ℕ) (List ℕ)
-reject_told p n r = record { partition = p; sequence = pos n; client_order_id = said r.client.bytes; order_id = []; reason = r.reason; transact_time = r.time }
-
-abbrev pub mass_told : Partition → ℕ → MassCancelReport → OrderMassCancelReport (List ℕ)
-mass_told p n r = record { partition = p; sequence = pos n; client_order_id = said r.client.bytes; response = r.response; reason = r.reason; transact_time = r.time }
-
--- what the message of a report under its number says
-abbrev pub told_as : Partition → ℕ → Report → Said
-told_as p n (report.Execution e) = the_execution_report (execution_told p n e)
-told_as p n (report.CancelReject r) = the_order_cancel_reject (reject_told p n r)
-told_as p n (report.MassCancel r) = the_order_mass_cancel_report (mass_told p n r)
+abbrev pub kind_told : Report → Kind
+kind_told (report.Execution e) = kind.ExecutionReport
+kind_told (report.CancelReject r) = kind.OrderCancelReject
+kind_told (report.MassCancel r) = kind.OrderMassCancelReport

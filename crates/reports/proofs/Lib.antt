@@ -1,3 +1,3 @@
-pub mod Looks
+pub mod Rows
 pub mod Tallies
 pub mod Folds

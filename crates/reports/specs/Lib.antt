@@ -1,7 +1,8 @@
 pub mod Effects
 pub mod Told
+pub mod Changes
 pub mod Fold
-pub mod Views
+pub mod Known
 pub mod Tally
 pub mod Laws
 pub mod FoldLaws

@@ -1,7 +1,6 @@
 // Reports, and what an owner knows of its orders from them.
 #![tactic(auto)]
 
-pub mod fold;
 pub mod laws;
 pub mod report;
 pub mod standing;

@@ -1,33 +1,22 @@
 // The reports that a store keeps. Partition and sequence number are the store's to give, and the Execution ID follows from them.
-ghost use Rattle.std.specs.Prelude.{◌≡◌};
-ghost use Rattle.reports.specs.Told.{kind_of, told_of};
+ghost use Rattle.std.specs.Prelude.{◌≡◌, ℕ};
 
 use crate::standing::Told;
 use codes::order::{Book, Side};
-use codes::report::{Capacity, ExecType, Liquidity, MassResponse, Status, TradeType};
+use codes::report::{Capacity, MassResponse, Status};
+use partitions::series::Owned;
+use terms::execution::Execution;
 use texts::fixed::FixedText;
 use texts::identifiers::{ExecutionId, OrderId};
 use texts::values::{Price, Time};
 
-// Why an Execution Report is sent, with what only such a report tells.
-#[derive(Clone, Copy)]
-pub enum Exec {
-    New,
-    Cancelled,
-    Replaced,
-    Rejected(i32),
-    Expired,
-    Restated,
-    Trade(Liquidity, TradeType),
-    TradeCancel(Liquidity),
-}
-
-// `reference` names the report of the fill that is undone, `trade` is the TradeMatchID, `leaves` are the shares open.
+/// What an Execution Report tells: `reference` names the report of the fill that is undone, `trade` is the TradeMatchID,
+/// `leaves` are the shares open.
 #[derive(Clone, Copy)]
 pub struct ExecutionReport {
     pub client: FixedText<20>,
     pub order: Option<OrderId>,
-    pub exec: Exec,
+    pub execution: Execution,
     pub reference: Option<ExecutionId>,
     pub status: Status,
     pub price: Price,
@@ -42,6 +31,7 @@ pub struct ExecutionReport {
     pub capacity: Capacity,
 }
 
+/// Why a cancel or a replace was refused.
 #[derive(Clone, Copy)]
 pub struct CancelReject {
     pub client: FixedText<20>,
@@ -49,6 +39,7 @@ pub struct CancelReject {
     pub time: Time,
 }
 
+/// How a mass cancel was answered.
 #[derive(Clone, Copy)]
 pub struct MassCancelReport {
     pub client: FixedText<20>,
@@ -57,6 +48,7 @@ pub struct MassCancelReport {
     pub time: Time,
 }
 
+/// A report, without what the store gives: partition and sequence number.
 #[derive(Clone, Copy)]
 pub enum Report {
     Execution(ExecutionReport),
@@ -64,39 +56,32 @@ pub enum Report {
     MassCancel(MassCancelReport),
 }
 
-// A report in a store, with the line of the CompID that it is for.
+/// A report in a store, with the line of the CompID that it is for.
 #[derive(Clone, Copy)]
 pub struct Entry {
     pub owner: usize,
     pub report: Report,
 }
 
-impl Exec {
-    pub fn kind(self) -> ExecType
-        ensures { result ≡ kind_of self }
-    {
-        match self {
-            Exec::New => ExecType::New,
-            Exec::Cancelled => ExecType::Cancelled,
-            Exec::Replaced => ExecType::Replaced,
-            Exec::Rejected(_) => ExecType::Rejected,
-            Exec::Expired => ExecType::Expired,
-            Exec::Restated => ExecType::Restated,
-            Exec::Trade(_, _) => ExecType::Trade,
-            Exec::TradeCancel(_) => ExecType::TradeCancel,
-        }
+impl Owned for Entry {
+    ghost owner_of = { λ e. e.owner };
+
+    fn owner(&self) -> usize {
+        self.owner
     }
 }
 
 impl Report {
-    // What the report tells of an order, if it is an Execution Report.
+    ghost use Rattle.reports.specs.Told.{told_of};
+
+    /// What the report tells of an order, if it is an Execution Report.
     pub fn told(self) -> Option<Told>
         ensures { result ≡ told_of self }
     {
         match self {
             Report::Execution(e) => Some(Told {
                 order: e.order,
-                kind: e.exec.kind(),
+                kind: e.execution.kind(),
                 status: e.status,
                 quantity: e.quantity,
                 leaves: e.leaves,

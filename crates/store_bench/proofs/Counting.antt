@@ -1,20 +1,19 @@
 -- Appending counts one, and the next number leaves out no report. Assumes nothing.
-use Rattle.std.proofs.Common.{◌≡◌, ℕ, zero, suc, ◌+◌, ◌<◌, ◌≤◌, Bool, true, false, cond, eqb, List, [], ◌∷◌, length, drop, Some, None, Option, sym, refl, ap, ◌∙◌, subst, arith, length-append}
+use Rattle.std.proofs.Common.{◌≡◌, ℕ, zero, suc, ◌+◌, ◌<◌, ◌≤◌, Bool, true, false, cond, eqb, List, [], ◌∷◌, length, map, drop, is_some, ◌%◌, Some, None, Option, sym, refl, ap, ◌∙◌, subst, arith}
 use Rattle.std.specs.Option.{option_map}
 use Rattle.std.specs.List.{position_from}
 use Rattle.std.proofs.lemmas.List.Sums.{sum_by-cons}
+use Rattle.std.proofs.lemmas.List.{map_push}
 use Rattle.codes.specs.declared.session.Partition.{Partition}
 use Rattle.codes.specs.declared.session.Partition.TheVariants.{One, Two, Three}
 use Rattle.reports.specs.declared.report.Entry.{Entry}
-use Rattle.reports.specs.Tally.{entry_at}
-use Rattle.store.specs.Kept.{Kept, grown, total, next_after}
+use Rattle.keyed.specs.Numbers.{under}
+use Rattle.partitions.proofs.Nexts.{next-from}
+use Rattle.partitions.specs.declared.per_partition.PerPartition.{PerPartition}
+use Rattle.partitions.specs.Series.{grown}
+use Rattle.store.specs.Kept.{Kept, next_after}
 use Rattle.store.proofs.Nexts.{next-shift}
-use Rattle.store_bench.specs.Counts.{owned, owned_below, Counts}
-
-pub total-grown : (k : Kept) (p : Partition) (e : Entry) → total (grown k p e) ≡ total k + 1
-total-grown k One e = let h = length-append k.one (e ∷ []) in omega arith
-total-grown k Two e = let h = length-append k.two (e ∷ []) in omega arith
-total-grown k Three e = let h = length-append k.three (e ∷ []) in omega arith
+use Rattle.store_bench.specs.Counts.{turn, owners, filled, owned, owned_in, owned_below, Counts}
 
 owned-cons : (o : ℕ) (x : Entry) (l : List Entry) (b : Bool) → b ≡ eqb x.owner o → owned o (x ∷ l) ≡ cond b 1 0 + owned o l
 owned-cons o x l b e = sum_by-cons (λ (y : Entry). cond (eqb y.owner o) 1 0) x l ∙ ap (λ (t : Bool). cond t 1 0 + owned o l) (sym e)
@@ -28,30 +27,56 @@ front x l o true r e h = (omega arith, omega arith, owned-cons o x l true e)
 front x l o false None e h = owned-cons o x l false e ∙ omega (arith, h)
 front x l o false (Some n) e h = (omega arith, omega (arith, h.1), owned-cons o x l false e ∙ omega (arith, h.2))
 
-pub next-counts : (l : List Entry) (o above : ℕ) → Counts l o above (next_after l o above)
-next-counts [] o zero = refl
-next-counts [] o (suc above) = refl
-next-counts (x ∷ l) o zero =
-    subst (λ r. Counts (x ∷ l) o 0 (cond (eqb x.owner o) (Some 1) r)) (sym (next-shift o 1 l)) (front x l o (eqb x.owner o) (next_after l o 0) refl (next-counts l o 0))
-next-counts (x ∷ l) o (suc above) =
+-- the search for it, from the number on
+abbrev next-in : List Entry → ℕ → ℕ → Option ℕ
+next-in l o above = position_from (λ (e : Entry). eqb e.owner o) (above + 1) (drop above l)
+
+counts-in : (l : List Entry) (o above : ℕ) → Counts l o above (next-in l o above)
+counts-in [] o zero = refl
+counts-in [] o (suc above) = refl
+counts-in (x ∷ l) o zero =
+    subst (λ r. Counts (x ∷ l) o 0 (cond (eqb x.owner o) (Some 1) r)) (sym (next-shift o 1 l)) (front x l o (eqb x.owner o) (next-in l o 0) refl (counts-in l o 0))
+counts-in (x ∷ l) o (suc above) =
     let same : suc above + 1 ≡ above + 1 + 1 = omega arith in
-    subst (λ r. Counts (x ∷ l) o (suc above) r) (sym (ap (λ j. position_from (λ (e : Entry). eqb e.owner o) j (drop above l)) same ∙ next-shift o (above + 1) (drop above l))) (lift x l o above (next_after l o above) (next-counts l o above))
+    subst (λ r. Counts (x ∷ l) o (suc above) r) (sym (ap (λ j. position_from (λ (e : Entry). eqb e.owner o) j (drop above l)) same ∙ next-shift o (above + 1) (drop above l))) (lift x l o above (next-in l o above) (counts-in l o above))
+
+pub next-counts : (l : List Entry) (o above : ℕ) → Counts l o above (next_after l o above)
+next-counts l o above = subst (Counts l o above) (sym (next-from (λ (e : Entry). e.owner) l o above)) (counts-in l o above)
 
 -- a number within the list has an entry
-pub entry-there : (l : List Entry) (n : ℕ) → 0 < n → n ≤ length l → entry_at l n ≡ None → ⊥
+pub entry-there : (l : List Entry) (n : ℕ) → 0 < n → n ≤ length l → under l n ≡ None → ⊥
 entry-there l zero a b e = omega arith
 entry-there [] (suc n) a b e = omega arith
 entry-there (x ∷ l) (suc zero) a b e = let z : ◌≡◌ {A = ℕ} 0 1 = cc in omega arith
 entry-there (x ∷ l) (suc (suc n)) a b e = entry-there l (suc n) (omega arith) (omega arith) e
 
-pub below_more : (o : ℕ) (k : Kept) → owned_below (suc o) k ≡ owned_below o k + (owned o k.one + owned o k.two + owned o k.three)
+-- a number within the list is found
+pub entry_there : (l : List Entry) (n : ℕ) (r : Option Entry) → n < length l → r ≡ under l (n + 1) → is_some r ≡ true
+entry_there l n None lt e = absurd (entry-there l (n + 1) (omega arith) (omega arith) (sym e))
+entry_there l n (Some x) lt e = refl
+
+below_more : (o : ℕ) (k : Kept) → owned_below (suc o) k ≡ owned_below o k + owned_in o k
 unfolding owned_below
 below_more o k = refl
 
-pub below_none : (k : Kept) → owned_below 0 k ≡ 0
+pub below_none : (k : Kept) → 0 ≡ owned_below 0 k
 unfolding owned_below
 below_none k = refl
 
 -- one owner more
-pub below-owner : (o f a b c : ℕ) (k : Kept) → f ≡ owned_below o k → a ≡ owned o k.one → b ≡ owned o k.two → c ≡ owned o k.three → f + a + b + c ≡ owned_below (o + 1) k
-below-owner o f a b c k h x y z = let more = below_more o k in let same : o + 1 ≡ suc o = omega arith in omega arith ∙ sym (ap (λ n. owned_below n k) same ∙ more)
+pub below_owner : (o f a : ℕ) (k : Kept) → f ≡ owned_below o k → a ≡ owned_in o k → f + a ≡ owned_below (o + 1) k
+below_owner o f a k h x = let more = below_more o k in let same : o + 1 ≡ suc o = omega arith in omega arith ∙ sym (ap (λ n. owned_below n k) same ∙ more)
+
+pub filled_none : (os : PerPartition (List ℕ)) → os ≡ filled 0 os
+unfolding filled
+filled_none os = refl
+
+pub filled_more : (i : ℕ) (os now after : PerPartition (List ℕ)) → now ≡ filled i os → after ≡ grown now (turn (i % 3)) (i % 8) → after ≡ filled (i + 1) os
+unfolding filled
+filled_more i os now after h e = let same : i + 1 ≡ suc i = omega arith in e ∙ ap (λ t. grown t (turn (i % 3)) (i % 8)) h ∙ sym (ap (λ n. filled n os) same)
+
+-- one report more, by its owner
+pub owners_grown : (k : Kept) (p : Partition) (e : Entry) → owners (grown k p e) ≡ grown (owners k) p e.owner
+owners_grown k One e = ap (λ l. record { one = l; two = map (λ (x : Entry). x.owner) k.two; three = map (λ (x : Entry). x.owner) k.three }) (map_push (λ (x : Entry). x.owner) k.one e)
+owners_grown k Two e = ap (λ l. record { one = map (λ (x : Entry). x.owner) k.one; two = l; three = map (λ (x : Entry). x.owner) k.three }) (map_push (λ (x : Entry). x.owner) k.two e)
+owners_grown k Three e = ap (λ l. record { one = map (λ (x : Entry). x.owner) k.one; two = map (λ (x : Entry). x.owner) k.two; three = l }) (map_push (λ (x : Entry). x.owner) k.three e)

@@ -1,7 +1,9 @@
--- How many reports a store has, and how many are an owner's. Assumes nothing.
-use Rattle.std.specs.Prelude.{◌≡◌, ℕ, zero, suc, ◌+◌, ◌<◌, ◌≤◌, List, length, drop, Some, None, Option, ◌==◌, count_by}
+-- A made-up day's reports by their owners, and how many are an owner's. Assumes nothing.
+use Rattle.std.specs.Prelude.{◌≡◌, ℕ, zero, suc, ◌+◌, ◌%◌, ◌<◌, ◌≤◌, List, length, drop, Some, None, Option, ◌==◌, count_by}
 use Rattle.codes.specs.declared.session.Partition.{Partition}
 use Rattle.codes.specs.declared.session.Partition.TheVariants.{One, Two, Three}
+use Rattle.partitions.specs.declared.per_partition.PerPartition.{PerPartition}
+use Rattle.partitions.specs.Series.{grown, mapped}
 use Rattle.reports.specs.declared.report.Entry.{Entry}
 use Rattle.store.specs.Kept.{Kept}
 
@@ -11,14 +13,27 @@ turn zero = One
 turn (suc zero) = Two
 turn (suc (suc n)) = Three
 
+-- whose the reports of each partition are
+abbrev pub owners : Kept → PerPartition (List ℕ)
+owners k = mapped (λ e. e.owner) k
+
+-- the same after the day's first reports: eight owners in turn, three partitions in turn
+unfoldable pub filled : ℕ → PerPartition (List ℕ) → PerPartition (List ℕ)
+filled zero os = os
+filled (suc i) os = grown (filled i os) (turn (i % 3)) (i % 8)
+
 -- how many reports of a list are an owner's
 abbrev pub owned : ℕ → List Entry → ℕ
 owned o l = count_by (λ e. e.owner == o) l
 
+-- and how many in all partitions
+abbrev pub owned_in : ℕ → Kept → ℕ
+owned_in o k = owned o k.one + owned o k.two + owned o k.three
+
 -- how many are of the first owners
 unfoldable pub owned_below : ℕ → Kept → ℕ
 owned_below zero k = 0
-owned_below (suc o) k = owned_below o k + (owned o k.one + owned o k.two + owned o k.three)
+owned_below (suc o) k = owned_below o k + owned_in o k
 
 -- the next number leaves out no report of the owner
 abbrev pub Counts : List Entry → ℕ → ℕ → Option ℕ → Type 0

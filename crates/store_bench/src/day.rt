@@ -5,15 +5,16 @@ ghost use Rattle.store_bench.specs.Counts.{turn};
 use codes::order::{Book, Side};
 use codes::report::{Capacity, Status};
 use codes::session::Partition;
-use reports::report::{Entry, Exec, ExecutionReport, Report};
+use reports::report::{Entry, ExecutionReport, Report};
+use terms::execution::Execution;
 use texts::fixed::FixedText;
 use texts::identifiers::OrderId;
 use texts::values::{Price, Time};
 
-// How many CompIDs the day has.
+/// How many CompIDs the day has.
 pub const OWNERS: usize = 8;
 
-// The partition of a report: each in turn.
+/// The partition of a report: each in turn.
 pub fn partition_of(i: u32) -> Partition
     ensures { result ≡ turn (i % 3) }
 {
@@ -24,15 +25,17 @@ pub fn partition_of(i: u32) -> Partition
     }
 }
 
-// The report of an order that was entered.
+/// The report of an order that was entered.
 pub fn entry_of(i: u32) -> Entry
     ensures { result.owner ≡ i % 8 }
 {
     let owner = i as usize % OWNERS;
     let report = Report::Execution(ExecutionReport {
         client: FixedText::empty(),
-        order: Some(OrderId { number: i as u64 }),
-        exec: Exec::New,
+        order: Some(OrderId {
+            number: u64::from(i),
+        }),
+        execution: Execution::New,
         reference: None,
         status: Status::New,
         price: Price { raw: 0 },

@@ -1,0 +1,3 @@
+pub mod Totals
+pub mod Nexts
+pub mod Places

@@ -1,0 +1,3 @@
+pub mod PerPartition
+pub mod Marks
+pub mod Series
