@@ -52,6 +52,7 @@ fn is_same_again(message: &Message<'_>, bytes: &[u8]) -> bool
 }
 
 /// What the bytes of a message are answered: the message as text, or the check that refuses it and the offset.
+#[tactic(auto, using(crate::proofs::Buffers::read_inside))]
 pub fn answer_message(heap: Global, channel: Channel, bytes: &[u8]) -> Result<Answer, AllocError>
     ensures { IfOk result (λ a. AnswersRead channel bytes.now a) }
 {
