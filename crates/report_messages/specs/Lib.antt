@@ -1,2 +1,3 @@
 pub mod Identifiers
 pub mod Telling
+pub mod Back

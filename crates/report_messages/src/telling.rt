@@ -1,7 +1,8 @@
 // A report under its number, with the texts that its message lends.
-ghost use Rattle.std.specs.Prelude.{◌≡◌, ◌<◌, ◌≤◌, [], MatchOption};
+ghost use Rattle.std.specs.Prelude.{◌≡◌, ◌<◌, ◌≤◌, [], Some, None, MatchOption};
 ghost use Rattle.texts.specs.Bytes.{said};
 ghost use Rattle.report_messages.specs.declared.telling.TheConstants.{NUMBERS};
+ghost use Rattle.report_messages.specs.Back.{order_in, reference_in, execution_in, reject_in, mass_in, report_in};
 ghost use Rattle.report_messages.specs.Identifiers.{order_of, reference_of, order_text, reference_text, own_text};
 
 use codes::report::PriceDifferential;
@@ -31,19 +32,31 @@ pub struct Telling {
     ghost own: { said execution.bytes ≡ own_text partition number },
     ghost named: { said order.bytes ≡ order_text (order_of report) },
     ghost referred: { said reference.bytes ≡ reference_text (reference_of report) },
+    ghost named_back: { order_in (said order.bytes) ≡ order_of report },
+    ghost referred_back: { reference_in (said reference.bytes) ≡ reference_of report },
     ghost nobody: { said counterparty.bytes ≡ [] },
 }
 
+#[tactic(auto, using(crate::proofs::Texts::order_back))]
 fn order_id(order: Option<OrderId>) -> FixedText<12>
-    ensures { said result.bytes ≡ order_text order }
+    ensures text { said result.bytes ≡ order_text order }
+    ensures back { order_in (said result.bytes) ≡ order }
 {
-    order.map_or(FixedText::empty(), |id| id.text())
+    match order {
+        Some(id) => id.text(),
+        None => FixedText::empty(),
+    }
 }
 
+#[tactic(auto, using(crate::proofs::Texts::reference_back))]
 fn reference_id(reference: Option<ExecutionId>) -> FixedText<12>
-    ensures { said result.bytes ≡ reference_text reference }
+    ensures text { said result.bytes ≡ reference_text reference }
+    ensures back { reference_in (said result.bytes) ≡ reference }
 {
-    reference.map_or(FixedText::empty(), |id| id.text())
+    match reference {
+        Some(id) => id.text(),
+        None => FixedText::empty(),
+    }
 }
 
 fn own_id(partition: Partition, number: u32) -> FixedText<12>
@@ -104,9 +117,10 @@ impl Telling {
     }
 
     fn execution_message<'a>(&'a self, e: &'a ExecutionReport) -> ExecutionMessage<'a>
-        requires order { order_text e.now.order ≡ order_text (order_of self.now.report) }
-        requires reference { reference_text e.now.reference ≡ reference_text (reference_of self.now.report) }
-        ensures { execution_report_contents result ≡ execution_told self.now.partition self.now.number e.now }
+        requires order { order_of self.now.report ≡ e.now.order }
+        requires reference { reference_of self.now.report ≡ e.now.reference }
+        ensures back { execution_in result ≡ e.now }
+        ensures contents { execution_report_contents result ≡ execution_told self.now.partition self.now.number e.now }
     {
         ExecutionMessage {
             partition: self.partition,
@@ -134,8 +148,9 @@ impl Telling {
     }
 
     fn reject_message<'a>(&'a self, r: &'a CancelReject) -> OrderCancelReject<'a>
-        requires { order_text (order_of self.now.report) ≡ [] }
-        ensures { order_cancel_reject_contents result ≡ reject_told self.now.partition self.now.number r.now }
+        requires { order_of self.now.report ≡ None }
+        ensures back { reject_in result ≡ r.now }
+        ensures contents { order_cancel_reject_contents result ≡ reject_told self.now.partition self.now.number r.now }
     {
         OrderCancelReject {
             partition: self.partition,
@@ -148,7 +163,8 @@ impl Telling {
     }
 
     fn mass_message<'a>(&'a self, r: &'a MassCancelReport) -> OrderMassCancelReport<'a>
-        ensures { order_mass_cancel_report_contents result ≡ mass_told self.now.partition self.now.number r.now }
+        ensures back { mass_in result ≡ r.now }
+        ensures contents { order_mass_cancel_report_contents result ≡ mass_told self.now.partition self.now.number r.now }
     {
         OrderMassCancelReport {
             partition: self.partition,
@@ -162,6 +178,7 @@ impl Telling {
 
     /// The message that tells the report to its owner.
     pub fn message(&self) -> Message<'_>
+        ensures back { report_in result ≡ Some self.now.report }
         ensures kind { kind_of result ≡ kind_told self.now.report }
         ensures contents { contents_of result ≡ told_as self.now.partition self.now.number self.now.report }
     {

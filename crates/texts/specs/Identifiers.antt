@@ -1,5 +1,6 @@
 -- Identifiers: a letter, and a number in eleven digits of base 62. Assumes nothing.
 use Rattle.std.specs.Prelude.{◌≡◌, ℕ, zero, suc, ◌+◌, ◌-◌, ◌*◌, ◌/◌, ◌%◌, ◌^◌, ◌<◌, if◌then◌else◌, ◌&&◌, List, [], ◌∷◌, ◌++◌, length, drop, Some, None, Option, ◌==◌, nat_le, nat_lt, slice_index}
+use Rattle.texts.specs.declared.identifiers.ExecutionId.{ExecutionId}
 use Rattle.texts.specs.declared.identifiers.TheConstants.{SEQUENCES}
 
 -- the digit that stands for a number below 62: 0 to 9, A to Z, a to z
@@ -42,6 +43,12 @@ execution_number partition sequence = partition * SEQUENCES + sequence
 
 abbrev pub execution_id_text : ℕ → ℕ → List ℕ
 execution_id_text partition sequence = id_of 69 (execution_number partition sequence)
+
+-- the report of such a number, where its partition is one byte
+abbrev pub execution_of : Option ℕ → Option ExecutionId
+execution_of None = None
+execution_of (Some n) =
+    if nat_lt (n / SEQUENCES) 256 then Some (record { partition = n / SEQUENCES; sequence = n % SEQUENCES }) else None
 
 -- an identifier gives its number back, and no other number has the same one
 abbrev pub Returns : ℕ → ℕ → Type 0

@@ -1,7 +1,7 @@
 // Identifiers: a letter, and a number in eleven digits of base 62.
 ghost use Rattle.std.specs.Prelude.{◌≡◌, ℕ, ◌+◌, ◌<◌, ◌≤◌, length};
 ghost use Rattle.std.specs.Option.{option_map};
-ghost use Rattle.texts.specs.Identifiers.{digit, worth, id_of, order_id_text, execution_id_text, execution_number, after, number_of, Returns};
+ghost use Rattle.texts.specs.Identifiers.{digit, worth, id_of, order_id_text, execution_id_text, execution_number, execution_of, after, number_of, Returns};
 
 use crate::fixed::FixedText;
 
@@ -122,5 +122,17 @@ impl ExecutionId {
             b'E',
             u64::from(self.partition) * SEQUENCES + u64::from(self.sequence),
         )
+    }
+
+    /// The report that an identifier names, if it is one: an E, then eleven digits of a number with a partition's byte.
+    pub fn read(bytes: &[u8]) -> Option<ExecutionId>
+        ensures { result ≡ execution_of (number_of 69 bytes.now) }
+    {
+        let number = read_id(b'E', bytes)?;
+        let partition = u8::try_from(number / SEQUENCES).ok()?;
+        Some(ExecutionId {
+            partition,
+            sequence: (number % SEQUENCES) as u32,
+        })
     }
 }

@@ -163,6 +163,7 @@ fn write_kind(message: &Message<'_>, out: &mut [u8])
 #[tactic(auto, using(crate::proofs::Writing::given_back, crate::proofs::Writing::apart))]
 pub fn write(message: &Message<'_>, out: &mut [u8]) -> Result<usize, TooShort>
     ensures bytes { Wrote message.now out.old out.new result }
+    ensures holds { OnOk result (Holdable message.now) }
     ensures back { OnOk result (GivenBack message.now) }
     ensures apart { OnOk result (Apart message.now) }
 {

@@ -1,0 +1,88 @@
+// The report that a message tells.
+ghost use Rattle.std.specs.Prelude.{◌≡◌};
+ghost use Rattle.texts.specs.Says.{says};
+ghost use Rattle.report_messages.specs.Back.{kept, order_in, reference_in, execution_in, reject_in, mass_in, report_in};
+
+use messages::execution_report::ExecutionReport as ExecutionMessage;
+use messages::order_cancel_reject::OrderCancelReject;
+use messages::order_mass_cancel_report::OrderMassCancelReport;
+use reports::report::{CancelReject, ExecutionReport, MassCancelReport, Report};
+use texts::fixed::FixedText;
+use texts::identifiers::{ExecutionId, OrderId};
+use texts::text::Text;
+use wire::message::Message;
+
+#[tactic(auto, using(crate::proofs::Texts::kept_same))]
+fn kept<const N: usize>(text: &Text<'_, N>) -> FixedText<N>
+    ensures { result ≡ kept text.now }
+{
+    text.keep()
+}
+
+#[tactic(auto, using(crate::proofs::Texts::order_read))]
+fn order_in(text: &Text<'_, 12>) -> Option<OrderId>
+    ensures { result ≡ order_in (says text.now) }
+{
+    OrderId::read(text.as_bytes())
+}
+
+fn reference_in(text: &Text<'_, 12>) -> Option<ExecutionId>
+    ensures { result ≡ reference_in (says text.now) }
+{
+    ExecutionId::read(text.as_bytes())
+}
+
+fn execution_in(m: &ExecutionMessage<'_>) -> ExecutionReport
+    ensures { result ≡ execution_in m.now }
+{
+    ExecutionReport {
+        client: kept(&m.client_order_id),
+        order: order_in(&m.order_id),
+        execution: m.execution,
+        reference: reference_in(&m.reference_id),
+        status: m.status,
+        price: m.executed_price,
+        quantity: m.executed_quantity,
+        leaves: m.leaves_quantity,
+        display: m.display_quantity,
+        symbol: kept(&m.symbol),
+        side: m.side,
+        trade: m.trade_match_id,
+        time: m.transact_time,
+        book: m.book,
+        capacity: m.capacity,
+    }
+}
+
+fn reject_in(m: &OrderCancelReject<'_>) -> CancelReject
+    ensures { result ≡ reject_in m.now }
+{
+    CancelReject {
+        client: kept(&m.client_order_id),
+        reason: m.reason,
+        time: m.transact_time,
+    }
+}
+
+fn mass_in(m: &OrderMassCancelReport<'_>) -> MassCancelReport
+    ensures { result ≡ mass_in m.now }
+{
+    MassCancelReport {
+        client: kept(&m.client_order_id),
+        response: m.response,
+        reason: m.reason,
+        time: m.transact_time,
+    }
+}
+
+/// The report that a message tells; none where it tells none. It undoes `Telling::message`.
+pub fn report_of(message: &Message<'_>) -> Option<Report>
+    ensures { result ≡ report_in message.now }
+{
+    match message {
+        Message::ExecutionReport(m) => Some(Report::Execution(execution_in(m))),
+        Message::OrderCancelReject(m) => Some(Report::CancelReject(reject_in(m))),
+        Message::OrderMassCancelReport(m) => Some(Report::MassCancel(mass_in(m))),
+        _ => None,
+    }
+}
