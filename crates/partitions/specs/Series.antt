@@ -1,7 +1,9 @@
 -- A partition's items under their numbers. Assumes nothing.
-use Rattle.std.specs.Prelude.{ℕ, ◌+◌, List, length, drop, position, Option, ◌==◌}
+use Rattle.std.specs.Prelude.{ℕ, ◌+◌, List, [], ◌∷◌, ◌++◌, length, drop, position, Option, ◌==◌}
+use Rattle.codes.specs.declared.session.Partition.{Partition}
 use Rattle.std.specs.Option.{option_map}
 use Rattle.partitions.specs.declared.per_partition.PerPartition.{PerPartition}
+use Rattle.partitions.specs.PerPartition.{at, with_at}
 
 module _ {X : Type 0} where
   -- the lowest number above a given one under which an item is the owner's
@@ -11,3 +13,7 @@ module _ {X : Type 0} where
   -- all items
   abbrev pub total : PerPartition (List X) → ℕ
   total k = length k.one + length k.two + length k.three
+
+  -- one item more in a partition; the others stay
+  abbrev pub grown : PerPartition (List X) → Partition → X → PerPartition (List X)
+  grown k p x = with_at k p (at k p ++ x ∷ [])

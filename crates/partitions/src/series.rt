@@ -1,10 +1,10 @@
 // A partition's items under numbers that count from 1, in memory that is reserved at the start.
 ghost use Rattle.std.specs.Prelude.{◌≡◌, ℕ, ◌+◌, ◌<◌, ◌≤◌, ◌++◌, ◌∷◌, List, [], length, map, drop, position, IfOk, vec_len, vec_capacity, ◌==◌};
 ghost use Rattle.keyed.specs.Numbers.{under};
+ghost use Rattle.partitions.specs.Marks.{mark};
+ghost use Rattle.partitions.specs.Series.{total};
 
 use crate::per_partition::PerPartition;
-ghost use Rattle.partitions.specs.Marks.{mark};
-
 use keyed::numbers::item_under;
 use limits::REPORTS;
 use std::alloc::{AllocError, Global};
@@ -56,6 +56,7 @@ fn passed_over<T: Owned>(items: &[T], owner: usize, above: u32) -> Option<usize>
 }
 
 impl<T: Copy + Owned> Series<T> {
+    ghost use Rattle.partitions.specs.PerPartition.{for_each};
     ghost use Rattle.partitions.specs.Series.{next_of};
 
     pub fn new(alloc: Global) -> Result<Series<T>, AllocError>
@@ -64,6 +65,17 @@ impl<T: Copy + Owned> Series<T> {
         let items = Vec::with_capacity(alloc, REPORTS)?;
         let marks = Vec::with_capacity(alloc, REPORTS)?;
         Ok(Series { items, marks })
+    }
+
+    /// No items in any partition.
+    pub fn for_each(alloc: Global) -> Result<PerPartition<Series<T>>, AllocError>
+        ensures { IfOk result (λ s. s ≡ for_each []) }
+    {
+        Ok(PerPartition {
+            one: Series::new(alloc)?,
+            two: Series::new(alloc)?,
+            three: Series::new(alloc)?,
+        })
     }
 
     /// The last number; 0 where there is no item.
@@ -97,4 +109,11 @@ impl<T: Copy + Owned> Series<T> {
         let passed = passed_over(&self.items, owner, above)?;
         Some(above + 1 + passed as u32)
     }
+}
+
+/// How many items there are in all partitions.
+pub fn total<T: Copy + Owned>(series: &PerPartition<Series<T>>) -> usize
+    ensures { result ≡ total series.now }
+{
+    (series.one.last() + series.two.last() + series.three.last()) as usize
 }

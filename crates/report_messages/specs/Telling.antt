@@ -14,8 +14,8 @@ use Rattle.messages.specs.declared.reports.OrderCancelReject.{OrderCancelReject}
 use Rattle.messages.specs.declared.reports.OrderMassCancelReport.{OrderMassCancelReport}
 use Rattle.wire.specs.Messages.{Said}
 use Rattle.wire.specs.Messages.Said.{the_execution_report, the_order_cancel_reject, the_order_mass_cancel_report}
-use Rattle.reports.specs.declared.report.Exec.{Exec}
-use Rattle.reports.specs.declared.report.Exec.TheVariants as exec
+use Rattle.terms.specs.declared.execution.Execution.{Execution as Exec}
+use Rattle.terms.specs.declared.execution.Execution.TheVariants as exec
 use Rattle.reports.specs.declared.report.ExecutionReport.{ExecutionReport}
 use Rattle.reports.specs.declared.report.CancelReject.{CancelReject}
 use Rattle.reports.specs.declared.report.MassCancelReport.{MassCancelReport}
@@ -23,6 +23,7 @@ use Rattle.reports.specs.declared.report.Report.{Report}
 use Rattle.reports.specs.declared.report.Report.TheVariants as report
 
 abbrev pub execution_of : Exec → Execution
+execution_of exec.Unspecified = execution.Unspecified
 execution_of exec.New = execution.New
 execution_of exec.Cancelled = execution.Cancelled
 execution_of exec.Replaced = execution.Replaced
@@ -46,7 +47,7 @@ abbrev pub own_text : Partition → ℕ → List ℕ
 own_text p n = said (execution_id_text (partition_code p) n)
 
 abbrev pub execution_told : Partition → ℕ → ExecutionReport → ExecutionMessage (List ℕ) (List ℕ) (List ℕ) (List ℕ)
-execution_told p n e = record { partition = p; sequence = pos n; execution_id = own_text p n; client_order_id = said e.client.bytes; order_id = order_text e.order; execution = execution_of e.exec; reference_id = reference_text e.reference; status = e.status; executed_price = e.price; executed_quantity = e.quantity; leaves_quantity = e.leaves; display_quantity = e.display; symbol = said e.symbol.bytes; side = e.side; secondary_order_id = 0; counterparty = []; trade_match_id = e.trade; transact_time = e.time; book = e.book; capacity = e.capacity; price_differential = differential.Unspecified }
+execution_told p n e = record { partition = p; sequence = pos n; execution_id = own_text p n; client_order_id = said e.client.bytes; order_id = order_text e.order; execution = execution_of e.execution; reference_id = reference_text e.reference; status = e.status; executed_price = e.price; executed_quantity = e.quantity; leaves_quantity = e.leaves; display_quantity = e.display; symbol = said e.symbol.bytes; side = e.side; secondary_order_id = 0; counterparty = []; trade_match_id = e.trade; transact_time = e.time; book = e.book; capacity = e.capacity; price_differential = differential.Unspecified }
 
 abbrev pub reject_told : Partition → ℕ → CancelReject → OrderCancelReject (List ℕ) (List ℕ)
 reject_told p n r = record { partition = p; sequence = pos n; client_order_id = said r.client.bytes; order_id = []; reason = r.reason; transact_time = r.time }

@@ -14,7 +14,8 @@ use messages::reports::{
     ExecutionReport as ExecutionMessage, OrderCancelReject, OrderMassCancelReport,
 };
 use messages::terms::Execution;
-use reports::report::{CancelReject, Exec, ExecutionReport, MassCancelReport, Report};
+use terms::execution::Execution as Exec;
+use reports::report::{CancelReject, ExecutionReport, MassCancelReport, Report};
 use texts::fixed::FixedText;
 use texts::identifiers::{ExecutionId, OrderId};
 use texts::names::{ClientOrderId, Counterparty, Identifier, Symbol};
@@ -24,6 +25,7 @@ fn execution(exec: Exec) -> Execution
     ensures { result ≡ execution_of exec }
 {
     match exec {
+        Exec::Unspecified => Execution::Unspecified,
         Exec::New => Execution::New,
         Exec::Cancelled => Execution::Cancelled,
         Exec::Replaced => Execution::Replaced,
@@ -71,7 +73,7 @@ fn execution_message(
         execution_id: own_id(partition, number),
         client_order_id: e.client,
         order_id: order_id(e.order),
-        execution: execution(e.exec),
+        execution: execution(e.execution),
         reference_id: reference_id(e.reference),
         status: e.status,
         executed_price: e.price,
