@@ -1,0 +1,3 @@
+pub mod Downloads
+pub mod Sessions
+pub mod Sending

@@ -1,0 +1,217 @@
+// A line's session: what it may do on each channel, and how far it has come.
+ghost use Rattle.std.specs.Prelude.{◌≡◌, true};
+ghost use Rattle.partitions.specs.PerPartition.{at};
+ghost use Rattle.sessions.specs.Sessions.{fresh, on, logon_number, request_number, logged_on, closed, recovery_closed, requested, recovered};
+ghost use Rattle.sessions.specs.Sending.{next_to_send, sent_after, found, looked};
+
+use crate::download::{Download, Recovered};
+use codes::session::{AckResponse, Partition};
+use limits::REQUESTS;
+use partitions::per_partition::PerPartition;
+use std::marker::Model;
+use store::Store;
+
+/// The two channels of a line.
+#[derive(Clone, Copy, Debug, PartialEq)]
+pub enum Channel {
+    RealTime,
+    Recovery,
+}
+
+/// Why a Logon is refused, with the number of each reason.
+#[derive(Clone, Copy, Debug, PartialEq)]
+pub enum LogonRefusal {
+    AlreadyOn = 12,
+    RecoveryBeforeRealTime = 13,
+}
+
+/// Why a Missed Message Request is refused, with its number.
+#[derive(Clone, Copy, Debug, PartialEq)]
+pub enum RequestRefusal {
+    DownloadRuns = 30,
+}
+
+impl LogonRefusal {
+    pub fn number(self) -> u8
+        ensures { result ≡ logon_number self }
+    {
+        self as u8
+    }
+}
+
+impl RequestRefusal {
+    pub fn number(self) -> u8
+        ensures { result ≡ request_number self }
+    {
+        self as u8
+    }
+}
+
+/// What is kept of a line: `sent` is the last number of each partition that was sent or passed over, `used` are the
+/// Missed Message Requests that were accepted.
+#[derive(Clone, Copy)]
+pub struct SessionState {
+    pub real_time: bool,
+    pub recovery: bool,
+    pub sent: PerPartition<u32>,
+    pub download: Option<Download>,
+    pub used: u8,
+}
+
+/// A state in which no channel is on before the real-time one, no download runs without the recovery channel, and no more
+/// requests are used than a day accepts: in a contract it is that state.
+#[derive(Clone, Copy)]
+pub struct Session {
+    state: SessionState,
+}
+
+impl Model for Session {
+    ghost use Rattle.sessions.specs.declared.session.SessionState.{SessionState as State};
+    ghost use Rattle.sessions.specs.Sessions.{Sound};
+
+    ghost Value = { State };
+
+    ghost view = { λ s. s.state };
+
+    ghost invariant = { λ s. Sound s.state };
+
+    ghost inverse = { λ t. record { state = t } };
+}
+
+impl Session {
+    /// Of a line that nobody has logged on.
+    pub fn new() -> Session
+        ensures { result ≡ fresh }
+    {
+        let state = SessionState {
+            real_time: false,
+            recovery: false,
+            sent: PerPartition {
+                one: 0,
+                two: 0,
+                three: 0,
+            },
+            download: None,
+            used: 0,
+        };
+        Session { state }
+    }
+
+    pub fn is_on(self, channel: Channel) -> bool
+        ensures { result ≡ on channel self }
+    {
+        match channel {
+            Channel::RealTime => self.state.real_time,
+            Channel::Recovery => self.state.recovery,
+        }
+    }
+
+    /// The session with a channel logged on. A Logon on the real-time channel fixes each partition's last number for
+    /// sending.
+    pub fn logon(self, channel: Channel, lasts: PerPartition<u32>) -> Result<Session, LogonRefusal>
+        ensures { result ≡ logged_on channel lasts self }
+    {
+        if self.is_on(channel) {
+            return Err(LogonRefusal::AlreadyOn);
+        }
+        let state = match channel {
+            Channel::RealTime => SessionState {
+                real_time: true,
+                sent: lasts,
+                ..self.state
+            },
+            Channel::Recovery if !self.state.real_time => {
+                return Err(LogonRefusal::RecoveryBeforeRealTime);
+            }
+            Channel::Recovery => SessionState {
+                recovery: true,
+                ..self.state
+            },
+        };
+        Ok(Session { state })
+    }
+
+    /// The session with both channels closed, after a real-time Logout or a lost line. Requests stay used.
+    pub fn close(self) -> Session
+        ensures { result ≡ closed self }
+    {
+        let state = SessionState {
+            real_time: false,
+            recovery: false,
+            download: None,
+            ..self.state
+        };
+        Session { state }
+    }
+
+    /// The session with its recovery channel closed.
+    pub fn close_recovery(self) -> Session
+        ensures { result ≡ recovery_closed self }
+    {
+        let state = SessionState {
+            recovery: false,
+            download: None,
+            ..self.state
+        };
+        Session { state }
+    }
+
+    /// The session after a Missed Message Request for the reports of a partition, none where it is not 1 to 3, above a
+    /// number and up to the last, and the answer to it.
+    pub fn request(self, partition: Option<Partition>, above: u32, last: u32) -> Result<(Session, AckResponse), RequestRefusal>
+        requires { on Channel.Recovery self ≡ true }
+        ensures { result ≡ requested partition above last self }
+    {
+        if self.state.download.is_some() {
+            return Err(RequestRefusal::DownloadRuns);
+        }
+        let Some(partition) = partition else {
+            return Ok((self, AckResponse::InvalidAppId));
+        };
+        if self.state.used >= REQUESTS {
+            return Ok((self, AckResponse::LimitReached));
+        }
+        let state = SessionState {
+            download: Some(Download::new(partition, above, last)),
+            used: self.state.used + 1,
+            ..self.state
+        };
+        Ok((Session { state }, AckResponse::Successful))
+    }
+
+    // The owner's next report of a partition, which is then sent; where there is none, all that was looked at is passed over.
+    fn look<S: Store>(&mut self, partition: Partition, owner: usize, store: &S) -> Option<u32>
+        ensures answer { result ≡ found (S.kept store.now) owner self.old.sent partition }
+        ensures after { self.new ≡ looked (S.kept store.now) owner partition self.old }
+    {
+        let mark = self.state.sent.at_mut(partition);
+        let next = store.next(partition, owner, *mark);
+        *mark = next.unwrap_or((*mark).max(store.last(partition)));
+        next
+    }
+
+    /// The next report to send to the line's CompID: of the lowest partition that has one. It is then sent.
+    pub fn next_live<S: Store>(&mut self, owner: usize, store: &S) -> Option<(Partition, u32)>
+        ensures answer { result ≡ next_to_send (S.kept store.now) owner self.old.sent }
+        ensures after { self.new ≡ sent_after (S.kept store.now) owner self.old }
+    {
+        if let Some(number) = self.look(Partition::One, owner, store) {
+            return Some((Partition::One, number));
+        }
+        if let Some(number) = self.look(Partition::Two, owner, store) {
+            return Some((Partition::Two, number));
+        }
+        let number = self.look(Partition::Three, owner, store)?;
+        Some((Partition::Three, number))
+    }
+
+    /// What the download that runs hands out next; nothing where none runs.
+    pub fn next_recovered<S: Store>(&mut self, owner: usize, store: &S) -> Option<Recovered>
+        ensures { recovered (S.kept store.now) owner self.old ≡ (result, self.new) }
+    {
+        let download = self.state.download?;
+        let (recovered, rest) = download.next(owner, store);
+        self.state.download = rest;
+        Some(recovered)
+    }
+}
