@@ -1,3 +1,4 @@
 pub mod Downloads
 pub mod Sessions
 pub mod Sending
+pub mod Laws

@@ -1,11 +1,10 @@
 -- What is sent on a real-time channel, and how far. Assumes nothing.
-use Rattle.std.specs.Prelude.{ℕ, max, length, Bool, Some, None, Option, is_some, if◌then◌else◌}
+use Rattle.std.specs.Prelude.{ℕ, max, length, Option, is_some, if◌then◌else◌}
 use Rattle.std.specs.Option.{unwrap_or, option_or, option_map}
 use Rattle.codes.specs.declared.session.Partition.{Partition}
 use Rattle.codes.specs.declared.session.Partition.TheVariants.{One, Two, Three}
 use Rattle.partitions.specs.declared.per_partition.PerPartition.{PerPartition}
 use Rattle.partitions.specs.PerPartition.{at, with_at}
-use Rattle.sessions.specs.declared.session.SessionState.{SessionState}
 use Rattle.store.specs.Kept.{Kept, next_after}
 
 -- a partition's next report to send
@@ -23,13 +22,13 @@ next_to_send k o sent = option_or (found_in k o sent One) (option_or (found_in k
 abbrev pub mark_after : Kept → ℕ → PerPartition ℕ → Partition → ℕ
 mark_after k o sent p = unwrap_or (found k o sent p) (max (at sent p) (length (at k p)))
 
-abbrev pub looked : Kept → ℕ → Partition → SessionState → SessionState
-looked k o p s = record s { sent = with_at s.sent p (mark_after k o s.sent p) }
+abbrev pub looked : Kept → ℕ → Partition → PerPartition ℕ → PerPartition ℕ
+looked k o p sent = with_at sent p (mark_after k o sent p)
 
 -- the partitions are looked at in turn, up to the first that has a report
-abbrev pub sent_after : Kept → ℕ → SessionState → SessionState
-sent_after k o s =
-    let one = looked k o One s in
+abbrev pub sent_after : Kept → ℕ → PerPartition ℕ → PerPartition ℕ
+sent_after k o sent =
+    let one = looked k o One sent in
     let two = looked k o Two one in
-    if is_some (found k o s.sent One) then one
-    else if is_some (found k o s.sent Two) then two else looked k o Three two
+    if is_some (found k o sent One) then one
+    else if is_some (found k o sent Two) then two else looked k o Three two

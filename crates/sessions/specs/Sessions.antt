@@ -5,9 +5,8 @@ use Rattle.codes.specs.declared.session.AckResponse.{AckResponse}
 use Rattle.codes.specs.declared.session.AckResponse.TheVariants.{Successful, LimitReached, InvalidAppId}
 use Rattle.limits.specs.declared.TheConstants.{REQUESTS}
 use Rattle.partitions.specs.declared.per_partition.PerPartition.{PerPartition}
-use Rattle.partitions.specs.PerPartition.{at, for_each}
+use Rattle.partitions.specs.PerPartition.{for_each}
 use Rattle.sessions.specs.declared.download.Download.{Download}
-use Rattle.sessions.specs.declared.download.Recovered.{Recovered}
 use Rattle.sessions.specs.declared.session.Channel.{Channel}
 use Rattle.sessions.specs.declared.session.Channel.TheVariants.{RealTime, Recovery}
 use Rattle.sessions.specs.declared.session.LogonRefusal.{LogonRefusal}
@@ -15,8 +14,7 @@ use Rattle.sessions.specs.declared.session.LogonRefusal.TheVariants.{AlreadyOn, 
 use Rattle.sessions.specs.declared.session.RequestRefusal.{RequestRefusal}
 use Rattle.sessions.specs.declared.session.RequestRefusal.TheVariants.{DownloadRuns}
 use Rattle.sessions.specs.declared.session.SessionState.{SessionState}
-use Rattle.sessions.specs.Downloads.{begun, remaining, handed_out}
-use Rattle.store.specs.Kept.{Kept}
+use Rattle.sessions.specs.Downloads.{begun}
 
 -- what each session keeps
 abbrev pub Sound : SessionState → Type 0
@@ -64,13 +62,10 @@ acknowledged (Some p) above last s =
 abbrev pub requested : Option Partition → ℕ → ℕ → SessionState → Result (SessionState × AckResponse) RequestRefusal
 requested p above last s = if is_some s.download then Err DownloadRuns else Ok (acknowledged p above last s)
 
--- what the download that runs hands out, and the session after it
-abbrev pub handed_by : SessionState → Recovered × Option Download → Option Recovered × SessionState
-handed_by s (r, rest) = (Some r, record s { download = rest })
+-- with another download, or none
+abbrev pub with_download : SessionState → Option Download → SessionState
+with_download s d = record s { download = d }
 
-abbrev pub recovered : Kept → ℕ → SessionState → Option Recovered × SessionState
-recovered k o s = recovered_by k o s s.download
-  where
-    recovered_by : Kept → ℕ → SessionState → Option Download → Option Recovered × SessionState
-    recovered_by k o s None = (None, s)
-    recovered_by k o s (Some d) = handed_by s (handed_out d (remaining (at k d.partition) o d))
+-- with other marks of how far was sent
+abbrev pub with_sent : SessionState → PerPartition ℕ → SessionState
+with_sent s sent = record s { sent = sent }

@@ -2,4 +2,5 @@
 #![tactic(auto)]
 
 pub mod download;
+pub mod laws;
 pub mod session;

@@ -1,7 +1,8 @@
 // A line's session: what it may do on each channel, and how far it has come.
 ghost use Rattle.std.specs.Prelude.{◌≡◌, true};
 ghost use Rattle.partitions.specs.PerPartition.{at};
-ghost use Rattle.sessions.specs.Sessions.{fresh, on, logon_number, request_number, logged_on, closed, recovery_closed, requested, recovered};
+ghost use Rattle.sessions.specs.Sessions.{fresh, on, logon_number, request_number, logged_on, closed, recovery_closed, requested, with_download, with_sent};
+ghost use Rattle.sessions.specs.Downloads.{recovered};
 ghost use Rattle.sessions.specs.Sending.{next_to_send, sent_after, found, looked};
 
 use crate::download::{Download, Recovered};
@@ -158,7 +159,12 @@ impl Session {
 
     /// The session after a Missed Message Request for the reports of a partition, none where it is not 1 to 3, above a
     /// number and up to the last, and the answer to it.
-    pub fn request(self, partition: Option<Partition>, above: u32, last: u32) -> Result<(Session, AckResponse), RequestRefusal>
+    pub fn request(
+        self,
+        partition: Option<Partition>,
+        above: u32,
+        last: u32,
+    ) -> Result<(Session, AckResponse), RequestRefusal>
         requires { on Channel.Recovery self ≡ true }
         ensures { result ≡ requested partition above last self }
     {
@@ -182,7 +188,7 @@ impl Session {
     // The owner's next report of a partition, which is then sent; where there is none, all that was looked at is passed over.
     fn look<S: Store>(&mut self, partition: Partition, owner: usize, store: &S) -> Option<u32>
         ensures answer { result ≡ found (S.kept store.now) owner self.old.sent partition }
-        ensures after { self.new ≡ looked (S.kept store.now) owner partition self.old }
+        ensures after { self.new ≡ with_sent self.old (looked (S.kept store.now) owner partition self.old.sent) }
     {
         let mark = self.state.sent.at_mut(partition);
         let next = store.next(partition, owner, *mark);
@@ -193,7 +199,7 @@ impl Session {
     /// The next report to send to the line's CompID: of the lowest partition that has one. It is then sent.
     pub fn next_live<S: Store>(&mut self, owner: usize, store: &S) -> Option<(Partition, u32)>
         ensures answer { result ≡ next_to_send (S.kept store.now) owner self.old.sent }
-        ensures after { self.new ≡ sent_after (S.kept store.now) owner self.old }
+        ensures after { self.new ≡ with_sent self.old (sent_after (S.kept store.now) owner self.old.sent) }
     {
         if let Some(number) = self.look(Partition::One, owner, store) {
             return Some((Partition::One, number));
@@ -207,7 +213,8 @@ impl Session {
 
     /// What the download that runs hands out next; nothing where none runs.
     pub fn next_recovered<S: Store>(&mut self, owner: usize, store: &S) -> Option<Recovered>
-        ensures { recovered (S.kept store.now) owner self.old ≡ (result, self.new) }
+        ensures answer { result ≡ (recovered (S.kept store.now) owner self.old.download).0 }
+        ensures after { self.new ≡ with_download self.old (recovered (S.kept store.now) owner self.old.download).1 }
     {
         let download = self.state.download?;
         let (recovered, rest) = download.next(owner, store);

@@ -1,0 +1,3 @@
+pub mod Owned
+pub mod Whole
+pub mod Marks
