@@ -1,7 +1,7 @@
 // A line's session: what it may do on each channel, and how far it has come.
 ghost use Rattle.std.specs.Prelude.{◌≡◌, true};
 ghost use Rattle.partitions.specs.PerPartition.{at};
-ghost use Rattle.sessions.specs.Sessions.{fresh, on, logon_number, request_number, logged_on, closed, recovery_closed, requested, with_download, with_sent};
+ghost use Rattle.sessions.specs.Sessions.{Sound, fresh, on, logon_number, request_number, logged_on, closed, recovery_closed, requested, with_download, with_sent};
 ghost use Rattle.sessions.specs.Downloads.{recovered};
 ghost use Rattle.sessions.specs.Sending.{next_to_send, sent_after, found, looked};
 
@@ -98,6 +98,15 @@ impl Session {
         Session { state }
     }
 
+    /// The state, which keeps what every session keeps.
+    pub fn state(self) -> SessionState
+        ensures is { result ≡ self }
+        ensures sound { Sound result }
+    {
+        self.state
+    }
+
+    /// Whether a Logon was accepted on the channel, and no Logout or lost line has closed it since.
     pub fn is_on(self, channel: Channel) -> bool
         ensures { result ≡ on channel self }
     {
@@ -132,29 +141,23 @@ impl Session {
         Ok(Session { state })
     }
 
-    /// The session with both channels closed, after a real-time Logout or a lost line. Requests stay used.
+    /// The session with its recovery channel closed and its download ended.
+    pub fn close_recovery(mut self) -> Session
+        ensures { result ≡ recovery_closed self }
+    {
+        self.state.recovery = false;
+        self.state.download = None;
+        self
+    }
+
+    /// The session with both channels closed and its download ended, after a real-time Logout or a lost line. Requests
+    /// stay used.
     pub fn close(self) -> Session
         ensures { result ≡ closed self }
     {
-        let state = SessionState {
-            real_time: false,
-            recovery: false,
-            download: None,
-            ..self.state
-        };
-        Session { state }
-    }
-
-    /// The session with its recovery channel closed.
-    pub fn close_recovery(self) -> Session
-        ensures { result ≡ recovery_closed self }
-    {
-        let state = SessionState {
-            recovery: false,
-            download: None,
-            ..self.state
-        };
-        Session { state }
+        let mut session = self.close_recovery();
+        session.state.real_time = false;
+        session
     }
 
     /// The session after a Missed Message Request for the reports of a partition, none where it is not 1 to 3, above a
