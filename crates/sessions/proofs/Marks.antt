@@ -21,7 +21,7 @@ clash : {X : Type 0} (b : Bool) → b ≡ true → b ≡ false → X
 clash b t f = cc
 
 -- only one number is the lowest
-only : (l : List Entry) (o a : ℕ) (r r' : Option ℕ) → Lowest l o a r → Lowest l o a r' → r ≡ r'
+pub only : (l : List Entry) (o a : ℕ) (r r' : Option ℕ) → Lowest l o a r → Lowest l o a r' → r ≡ r'
 only l o a None None h h' = refl
 only l o a None (Some n) h h' = clash (hers o l n) h'.1 (h n h'.0)
 only l o a (Some n) None h h' = clash (hers o l n) h.1 (h' n h.0)
@@ -58,14 +58,14 @@ abbrev Same : ℕ → Kept → PerPartition ℕ → PerPartition ℕ → Type 0
 Same o k s s' = (p : Partition) (l : List Entry) → Grown (at k p) l → next_after l o (at s p) ≡ next_after l o (at s' p)
 
 -- the marks after a look, by what was found
-abbrev after : Option ℕ → Option ℕ → Option ℕ → Kept → PerPartition ℕ → PerPartition ℕ
+abbrev pub after : Option ℕ → Option ℕ → Option ℕ → Kept → PerPartition ℕ → PerPartition ℕ
 after r1 r2 r3 k s =
     let one = with_at s One (unwrap_or r1 (max s.one (length k.one))) in
     let two = with_at one Two (unwrap_or r2 (max s.two (length k.two))) in
     if is_some r1 then one
     else if is_some r2 then two else with_at two Three (unwrap_or r3 (max s.three (length k.three)))
 
-abbrev first : Option ℕ → Option ℕ → Option ℕ → Option (Partition × ℕ)
+abbrev pub first : Option ℕ → Option ℕ → Option ℕ → Option (Partition × ℕ)
 first r1 r2 r3 =
     option_or (option_map (λ n. (One, n)) r1) (option_or (option_map (λ n. (Two, n)) r2) (option_map (λ n. (Three, n)) r3))
 
@@ -101,7 +101,7 @@ same_after o k s s' None None None h m1 m2 m3 = by
     by Three l g = m3 refl l g ∙ h Three l g
 
 -- what is sent next is the same
-as_it_is : (l : List Entry) → Grown l l
+pub as_it_is : (l : List Entry) → Grown l l
 as_it_is l = ([], sym (append-nil l))
 
 same_next : (o : ℕ) (k : Kept) (s s' : PerPartition ℕ) → Same o k s s' → next_to_send k o s ≡ next_to_send k o s'
@@ -120,7 +120,7 @@ same_on o k s s' h =
     (same_after o k s s' (found k o s One) (found k o s Two) (found k o s Three) h
     (λ e l g. moved o s.one k.one l g e) (λ e l g. moved o s.two k.two l g e) (λ e l g. moved o s.three k.three l g e))
 
-grown_on : (a b c : List Entry) → Grown a b → Grown b c → Grown a c
+pub grown_on : (a b c : List Entry) → Grown a b → Grown b c → Grown a c
 grown_on a b c (m, e) (n, f) = (m ++ n, f ∙ ap (λ ys. ys ++ n) e ∙ append_assoc a m n)
 
 sent_same : (o : ℕ) (k : Kept) (ks : List Kept) (s s' : PerPartition ℕ) → Same o k s s' → Growing k ks → sends o (k ∷ ks) s ≡ sends_noted o (k ∷ ks) s'

@@ -1,6 +1,7 @@
 -- What is handed out over many calls, while the store grows. Assumes nothing.
-use Rattle.std.specs.Prelude.{◌≡◌, ℕ, ◌+◌, ◌-◌, ◌≤◌, List, [], ◌∷◌, ◌++◌, length, map, take, filter, Some, None, Option, nat_le, if◌then◌else◌}
-use Rattle.std.specs.List.{cons_option, range_with_len}
+use Rattle.std.specs.Prelude.{◌≡◌, ℕ, ◌+◌, ◌-◌, ◌≤◌, List, [], ◌∷◌, ◌++◌, length, map, take, filter, Some, None, Option, nat_le, ◌==◌, if◌then◌else◌}
+use Rattle.std.specs.List.{cons_option, filter_map, range_with_len}
+use Rattle.codes.specs.Session.{partition_code}
 use Rattle.codes.specs.declared.session.Partition.{Partition}
 use Rattle.codes.specs.declared.session.ReportResponse.TheVariants.{Complete, MessageLimit}
 use Rattle.keyed.specs.Numbers.{under}
@@ -66,3 +67,25 @@ abbrev pub MarksLoseNothing : Type 0
 MarksLoseNothing =
     (o : ℕ) (k : Kept) (ks : List Kept) (sent : PerPartition ℕ)
     → Growing k ks → sends o (k ∷ ks) sent ≡ sends_noted o (k ∷ ks) sent
+
+-- the number that was sent, where it is of the partition
+abbrev pub in_partition : Partition → Option (Partition × ℕ) → Option ℕ
+in_partition p None = None
+in_partition p (Some (q, n)) = if partition_code q == partition_code p then Some n else None
+
+-- the marks after a call over each of the stores, and the last of them
+abbrev pub sent_by : ℕ → List Kept → PerPartition ℕ → PerPartition ℕ
+sent_by o [] sent = sent
+sent_by o (k ∷ ks) sent = sent_by o ks (sent_after k o sent)
+
+abbrev pub last_of : Kept → List Kept → Kept
+last_of k [] = k
+last_of k (k' ∷ ks) = last_of k' ks
+
+-- in each partition what was sent, and what then remains, are the owner's reports above the mark: in order, each once
+abbrev pub SendsEach : Type 0
+SendsEach =
+    (o : ℕ) (p : Partition) (k : Kept) (ks : List Kept) (sent : PerPartition ℕ) → Growing k ks
+    → let l = at (last_of k ks) p in
+    let after = sent_by o (k ∷ ks) sent in
+    filter_map (in_partition p) (sends o (k ∷ ks) sent) ++ owned l o (at after p) (length l) ≡ owned l o (at sent p) (length l)
