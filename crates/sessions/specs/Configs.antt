@@ -24,7 +24,8 @@ admitted name password = fitting_name 25 name && fitting 25 password
 
 abbrev pub Admits : List ℕ → List ℕ → ℕ → Bool → Result Participant StartRefusal → Type 0
 Admits name password firm ends (Ok p) =
-    (admitted name password ≡ true) × (said p.name.bytes ≡ name) × (said p.password.bytes ≡ password) × (p.firm ≡ firm) × (p.ends_orders ≡ ends)
+    (admitted name password ≡ true) × (said p.name.bytes ≡ name) × (said p.password.bytes ≡ password)
+    × (p.firm ≡ firm) × (p.ends_orders ≡ ends)
 Admits name password firm ends (Err e) = (admitted name password ≡ false) × (e ≡ BadConfiguration)
 
 -- a symbol says something, both texts fit their fields, and the partition is 1 to 3

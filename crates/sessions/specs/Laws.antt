@@ -46,7 +46,8 @@ abbrev pub DownloadsWhole : Type 0
 DownloadsWhole =
     (o : ℕ) (p : Partition) (above target : ℕ) (k : Kept) (ks : List Kept)
     → target ≤ length (at k p) → Growing k ks
-    → hands_out o ks (Some (begun p above target)) ≡ take (length ks) (whole p DOWNLOADED (owned (at k p) o above target))
+    → let all = whole p DOWNLOADED (owned (at k p) o above target) in
+    hands_out o ks (Some (begun p above target)) ≡ take (length ks) all
 
 -- what is sent, one call after another, each over the store as it then is
 abbrev pub sends : ℕ → List Kept → PerPartition ℕ → List (Option (Partition × ℕ))
@@ -73,11 +74,12 @@ abbrev pub in_partition : Partition → Option (Partition × ℕ) → Option ℕ
 in_partition p None = None
 in_partition p (Some (q, n)) = if partition_code q == partition_code p then Some n else None
 
--- the marks after a call over each of the stores, and the last of them
+-- the marks after a call over each of the stores
 abbrev pub sent_by : ℕ → List Kept → PerPartition ℕ → PerPartition ℕ
 sent_by o [] sent = sent
 sent_by o (k ∷ ks) sent = sent_by o ks (sent_after k o sent)
 
+-- the last of the stores
 abbrev pub last_of : Kept → List Kept → Kept
 last_of k [] = k
 last_of k (k' ∷ ks) = last_of k' ks
@@ -88,4 +90,5 @@ SendsEach =
     (o : ℕ) (p : Partition) (k : Kept) (ks : List Kept) (sent : PerPartition ℕ) → Growing k ks
     → let l = at (last_of k ks) p in
     let after = sent_by o (k ∷ ks) sent in
-    filter_map (in_partition p) (sends o (k ∷ ks) sent) ++ owned l o (at after p) (length l) ≡ owned l o (at sent p) (length l)
+    let numbers = filter_map (in_partition p) (sends o (k ∷ ks) sent) in
+    numbers ++ owned l o (at after p) (length l) ≡ owned l o (at sent p) (length l)

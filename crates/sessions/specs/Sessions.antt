@@ -18,7 +18,8 @@ use Rattle.sessions.specs.Downloads.{begun}
 
 -- what each session keeps
 abbrev pub Sound : SessionState → Type 0
-Sound s = (s.used ≤ REQUESTS) × (s.recovery ≡ true → s.real_time ≡ true) × (is_some s.download ≡ true → s.recovery ≡ true)
+Sound s =
+    (s.used ≤ REQUESTS) × (s.recovery ≡ true → s.real_time ≡ true) × (is_some s.download ≡ true → s.recovery ≡ true)
 
 -- of a line that nobody has logged on
 abbrev pub fresh : SessionState

@@ -12,8 +12,8 @@ use limits::{COMP_IDS, INSTRUMENTS};
 use std::alloc::{AllocError, Global};
 use texts::names::{CompId, Password, Segment, Symbol};
 
-/// Why a gateway is not started: its configuration is over the limits or repeats a name, its matcher or its store is not
-/// empty, or memory is short.
+/// Why a gateway is not started: its configuration is over the limits or repeats a name, its matcher or its store is
+/// not empty, or memory is short.
 #[derive(Clone, Copy, Debug, PartialEq)]
 pub enum StartRefusal {
     BadConfiguration,
@@ -54,7 +54,8 @@ trait Named {
         ensures { result.now ≡ name_of self.now };
 }
 
-/// A CompID that trades: its password, its firm, and whether its marked orders end with the line. Its name is not empty.
+/// A CompID that trades: its password, its firm, and whether its marked orders end with the line. Its name is not
+/// empty; a password may be.
 #[derive(Clone, Copy)]
 pub struct Participant {
     pub name: CompId,
@@ -64,7 +65,7 @@ pub struct Participant {
     ghost called: { named name.bytes ≡ true },
 }
 
-/// An instrument, with the partition of its reports. Its symbol is not empty.
+/// An instrument, with the partition of its reports. Its symbol is not empty; a segment may be.
 #[derive(Clone, Copy)]
 pub struct Instrument {
     pub symbol: Symbol,
@@ -119,7 +120,8 @@ impl Participant {
 impl Instrument {
     ghost use Rattle.sessions.specs.Configs.{Lists};
 
-    /// Refused where a text does not fit its field or is not printable, the symbol is empty, or the partition is not 1 to 3.
+    /// Refused where a text does not fit its field or is not printable, the symbol is empty, or the partition is not 1
+    /// to 3.
     #[tactic(auto, using(crate::proofs::Names::name_given))]
     pub fn new(symbol: &[u8], segment: &[u8], partition: u8) -> Result<Instrument, StartRefusal>
         ensures { Lists symbol.now segment.now partition result }

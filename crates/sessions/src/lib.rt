@@ -1,4 +1,5 @@
-// What a gateway keeps of one line: on which channels it is logged on, how far reports were sent, and what it downloads.
+// What a gateway keeps of one line: on which channels it is logged on, how far reports were sent, and what it
+// downloads; and what a gateway is started with.
 #![tactic(auto)]
 
 pub mod config;

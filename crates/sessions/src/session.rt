@@ -59,8 +59,8 @@ pub struct SessionState {
     pub used: u8,
 }
 
-/// A state in which no channel is on before the real-time one, no download runs without the recovery channel, and no more
-/// requests are used than a day accepts: in a contract it is that state.
+/// A state in which the recovery channel is on only with the real-time one, a download runs only with the recovery
+/// channel, and no more requests are used than a day accepts: in a contract it is that state.
 #[derive(Clone, Copy)]
 pub struct Session {
     state: SessionState,
@@ -116,8 +116,8 @@ impl Session {
         }
     }
 
-    /// The session with a channel logged on. A Logon on the real-time channel fixes each partition's last number for
-    /// sending.
+    /// The session with a channel logged on. A Logon on the real-time channel fixes each partition's last number, above
+    /// which reports are sent.
     pub fn logon(self, channel: Channel, lasts: PerPartition<u32>) -> Result<Session, LogonRefusal>
         ensures { result ≡ logged_on channel lasts self }
     {
@@ -188,7 +188,8 @@ impl Session {
         Ok((Session { state }, AckResponse::Successful))
     }
 
-    // The owner's next report of a partition, which is then sent; where there is none, all that was looked at is passed over.
+    // The owner's next report of a partition, which is then sent; where there is none, the mark moves past all that was
+    // looked at, so that a later call does not look at it again.
     fn look<S: Store>(&mut self, partition: Partition, owner: usize, store: &S) -> Option<u32>
         ensures answer { result ≡ found (S.kept store.now) owner self.old.sent partition }
         ensures after { self.new ≡ with_sent self.old (looked (S.kept store.now) owner partition self.old.sent) }
