@@ -12,3 +12,15 @@ pub const REPORTS: usize = 16_384;
 
 /// The most shares of one order.
 pub const SHARES: u32 = 1_000_000_000;
+
+/// How many Missed Message Requests of a CompID a day accepts.
+pub const REQUESTS: u8 = 48;
+
+/// The most reports that one download hands out.
+pub const DOWNLOADED: u8 = 64;
+
+/// How many CompIDs a gateway serves, each with a line of its own.
+pub const COMP_IDS: usize = 8;
+
+/// How many instruments a gateway serves.
+pub const INSTRUMENTS: usize = 32;

@@ -1,5 +1,5 @@
 -- Worked examples on the definitions. Assumes nothing.
-use Rattle.std.specs.Prelude.{◌≡◌, ℕ, Some, None}
+use Rattle.std.specs.Prelude.{◌≡◌, ℕ, pos, Some, None}
 use Rattle.codes.specs.declared.report.Status.TheVariants as status
 use Rattle.orders.specs.declared.row.Row.{Row}
 use Rattle.orders.specs.declared.row.Terms.{Terms}
@@ -11,7 +11,7 @@ use Rattle.orders.specs.Orders.{replace_fault}
 
 -- the same request for another quantity
 abbrev pub for : ℕ → Ask → Ask
-for q a = record { client = a.client; price = a.price; display = q; quantity = q }
+for q a = record { client = a.client; price = a.price; display = pos q; quantity = q }
 
 -- an order of 100 that has 40 executed
 abbrev pub part_filled : Terms → Ask → Row

@@ -1,5 +1,5 @@
 // An order whose figures agree, its five changes and its status.
-ghost use Rattle.std.specs.Prelude.{◌≡◌, ◌+◌, true, IfSome, IfOk, nat_lt};
+ghost use Rattle.std.specs.Prelude.{◌≡◌, ◌+◌, ◌≤◌, true, IfSome, IfOk, nat_lt};
 ghost use Rattle.orders.specs.Rows.{balanced, untouched, orderly, orderable, accepted, replaced, ended, filled, undone, status_of};
 ghost use Rattle.orders.specs.declared.row.Row.{Row as Figures};
 
@@ -152,7 +152,8 @@ impl Order {
 
     /// The order with so many shares filled; none where it is no share or more than are open.
     pub fn fill(self, quantity: u32) -> Option<Order>
-        ensures { Makes (fillable quantity self) (filled quantity self) result }
+        ensures answer { Makes (fillable quantity self) (filled quantity self) result }
+        ensures bound { IfSome result (λ _. quantity ≤ SHARES) }
     {
         let row = self.row;
         if quantity == 0 || quantity > row.leaves {
@@ -169,6 +170,7 @@ impl Order {
     /// The order without so many of its fills; none where it is no share or more than are executed.
     pub fn undo(self, quantity: u32) -> Option<Order>
         ensures answer { Makes (undoable quantity self) (undone quantity self) result }
+        ensures bound { IfSome result (λ _. quantity ≤ SHARES) }
         ensures figures { IfSome result (λ r. (r.leaves ≡ self.leaves) × (r.withdrawn ≡ self.withdrawn) × (r.ordered + quantity ≡ self.ordered) × (r.executed + quantity ≡ self.executed)) }
     {
         let row = self.row;

@@ -5,7 +5,7 @@ ghost use Rattle.std.specs.Prelude.{◌≡◌};
 use codes::session::Partition;
 
 /// One thing for each partition.
-#[derive(Drop)]
+#[derive(Clone, Copy, Drop)]
 pub struct PerPartition<T> {
     pub one: T,
     pub two: T,

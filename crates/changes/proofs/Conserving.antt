@@ -1,0 +1,82 @@
+-- What is kept over a list of changes of one order. Assumes nothing.
+use Rattle.std.proofs.Common.{◌≡◌, ℕ, true, List, [], ◌∷◌, Some, None, refl, arith, subst, leb-true, ltb-true}
+use Rattle.std.specs.Prelude.{is_none, nat_le, nat_lt}
+use Rattle.std.proofs.lemmas.Bool.{and_parts}
+use Rattle.limits.specs.declared.TheConstants.{SHARES}
+use Rattle.orders.specs.declared.row.Row.{Row}
+use Rattle.orders.specs.declared.row.Terms.{Terms}
+use Rattle.orders.specs.declared.row.Ask.{Ask}
+use Rattle.orders.specs.Rows.{orderable, accepted, replaced, ended, filled, undone}
+use Rattle.orders.specs.Orders.{fillable, undoable, replace_fault}
+use Rattle.changes.specs.declared.change.Change.{Change}
+use Rattle.changes.specs.declared.change.Change.TheVariants.{Accept, Replace, Withdraw, Fill, Undo}
+use Rattle.changes.specs.Changes.{after}
+use Rattle.changes.specs.Laws.{Makes, Conserved, Conserves, all_filled, all_undone}
+use Rattle.changes.proofs.Orderly.{figures, orderly_from, allowed, replaceable}
+
+none_made : (n : ℕ) (cs : List Change) → Makes n cs None → (all_filled cs ≡ 0) × (all_undone cs ≡ 0)
+none_made n [] m = (refl, refl)
+none_made n (c ∷ cs) m = absurd (cc)
+
+accepts : (n : ℕ) (t : Terms) (a : Ask) (cs : List Change) → Makes n cs None → orderable a.quantity ≡ true → Conserved (Accept t a ∷ cs) (accepted n t a)
+accepts n t a cs m o =
+    let z = none_made n cs m in
+    let l = leb-true a.quantity SHARES (and_parts (nat_lt 0 a.quantity) (nat_le a.quantity SHARES) o).1 in record {
+      accepted = omega arith;
+      executed = omega (arith, z.0, z.1);
+      orderly = orderly_from (accepted n t a) (record { sum = omega arith; limit = l; whole = λ h. (refl, refl) });
+    }
+
+steps : (n : ℕ) (c : Change) (cs : List Change) (b r : Row) → Conserved cs b → after n c (Some b) ≡ Some r → Conserved (c ∷ cs) r
+steps n (Accept t a) cs b r k h = absurd (cc)
+steps n (Replace a) cs b r k h =
+    let q = allowed (is_none (replace_fault a.quantity b)) _ _ h in
+    let f = figures b k.orderly in
+    let e = replaceable a.quantity b q.0 in
+    let w = f.whole e.0 in
+    subst (Conserved (Replace a ∷ cs)) q.1 (record {
+      accepted = omega (arith, e.1, w.0);
+      executed = omega (arith, k.executed);
+      orderly = orderly_from (replaced a b) (record { sum = omega (arith, e.1, w.0); limit = e.2; whole = λ x. w });
+    })
+steps n (Withdraw e c) cs b r k h =
+    let q = allowed (nat_lt 0 b.leaves) _ _ h in
+    let f = figures b k.orderly in
+    subst (Conserved (Withdraw e c ∷ cs)) q.1 (record {
+      accepted = omega (arith, k.accepted);
+      executed = omega (arith, k.executed);
+      orderly = orderly_from (ended e b) (record { sum = omega (arith, f.sum); limit = f.limit; whole = λ x. absurd (let no : ⊥ = omega (arith, x) in no) });
+    })
+steps n (Fill g) cs b r k h =
+    let q = allowed (fillable g.quantity b) _ _ h in
+    let f = figures b k.orderly in
+    let p = and_parts (nat_lt 0 g.quantity) (nat_le g.quantity b.leaves) q.0 in
+    let l = leb-true g.quantity b.leaves p.1 in
+    let m = ltb-true 0 g.quantity p.0 in
+    subst (Conserved (Fill g ∷ cs)) q.1 (record {
+      accepted = omega (arith, k.accepted, l);
+      executed = omega (arith, k.executed);
+      orderly = orderly_from (filled g.quantity b) (record { sum = omega (arith, f.sum, l); limit = f.limit; whole = λ x. f.whole (omega (arith, l, m)) });
+    })
+steps n (Undo u) cs b r k h =
+    let q = allowed (undoable u.quantity b) _ _ h in
+    let f = figures b k.orderly in
+    let p = and_parts (nat_lt 0 u.quantity) (nat_le u.quantity b.executed) q.0 in
+    let l = leb-true u.quantity b.executed p.1 in
+    subst (Conserved (Undo u ∷ cs)) q.1 (record {
+      accepted = omega (arith, k.accepted, l);
+      executed = omega (arith, k.executed, l);
+      orderly = orderly_from (undone u.quantity b) (record { sum = omega (arith, f.sum, l); limit = omega (arith, f.limit); whole = f.whole });
+    })
+
+firsts : (n : ℕ) (c : Change) (cs : List Change) (r : Row) → Makes n cs None → after n c None ≡ Some r → Conserved (c ∷ cs) r
+firsts n (Accept t a) cs r m h = let q = allowed (orderable a.quantity) _ _ h in subst (Conserved (Accept t a ∷ cs)) q.1 (accepts n t a cs m q.0)
+firsts n (Replace a) cs r m h = absurd (cc)
+firsts n (Withdraw e c) cs r m h = absurd (cc)
+firsts n (Fill f) cs r m h = absurd (cc)
+firsts n (Undo u) cs r m h = absurd (cc)
+
+pub conserves : Conserves
+conserves n [] r m = absurd (cc)
+conserves n (c ∷ cs) r (None, m, h, s) = firsts n c cs r m h
+conserves n (c ∷ cs) r (Some b, m, h, s) = steps n c cs b r (conserves n cs b m) h

@@ -1,0 +1,3 @@
+pub mod Orderly
+pub mod Conserving
+pub mod Following

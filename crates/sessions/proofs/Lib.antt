@@ -1,0 +1,5 @@
+pub mod Owned
+pub mod Whole
+pub mod Marks
+pub mod Names
+pub mod Sends

@@ -1,0 +1,8 @@
+-- A name in its field. Assumes nothing.
+use Rattle.std.proofs.Common.{◌≡◌, ℕ, ◌<◌, true, leb, List, length, ap, ◌∙◌}
+use Rattle.texts.specs.Bytes.{all_printable, named, padded}
+use Rattle.texts.specs.Texts.{fitting}
+use Rattle.texts.proofs.Padding.{both_true, named-padded}
+
+pub name_given : (w : ℕ) (t bs : List ℕ) → fitting w t ≡ true → bs ≡ padded w t → 0 < length t → named bs ≡ true
+name_given w t bs f e l = ap named e ∙ named-padded w t (both_true (leb (length t) w) (all_printable t) f).1 l
