@@ -1,0 +1,4 @@
+// The orders, the trades, a matcher and a store of one day, kept in step: what a gateway keeps under its lines.
+#![tactic(auto)]
+
+pub mod instrument;
