@@ -1,1 +1,3 @@
-pub mod Telling
+pub mod Recording
+pub mod Rows
+pub mod Keeps

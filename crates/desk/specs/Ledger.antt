@@ -1,5 +1,5 @@
 -- What the reports in a store say of the orders. Assumes nothing.
-use Rattle.std.specs.Prelude.{◌≡◌, ℕ, ◌<◌, ◌≤◌, Bool, true, ◌&&◌, List, [], ◌∷◌, length, map, Some, None, Ok, Err, Option, Result, ◌==◌, slice_get, if◌then◌else◌}
+use Rattle.std.specs.Prelude.{◌≡◌, ℕ, ◌+◌, ◌<◌, ◌≤◌, Bool, true, ◌&&◌, List, [], ◌∷◌, ◌++◌, length, map, Some, None, Ok, Err, Option, Result, ◌==◌, slice_get, if◌then◌else◌}
 use Rattle.std.specs.List.{fold as fold_each}
 use Rattle.std.specs.FinMap.{get, len}
 use Rattle.codes.specs.declared.session.Partition.{Partition}
@@ -7,6 +7,9 @@ use Rattle.codes.specs.Session.{partition_code}
 use Rattle.texts.specs.declared.values.Time.{Time}
 use Rattle.keyed.specs.Numbers.{under, put_under}
 use Rattle.orders.specs.declared.row.Row.{Row}
+use Rattle.orders.specs.declared.row.Terms.{Terms}
+use Rattle.orders.specs.declared.row.Ask.{Ask}
+use Rattle.orders.specs.Rows.{accepted}
 use Rattle.orders.specs.Kept.{kept_from}
 use Rattle.partitions.specs.PerPartition.{at}
 use Rattle.partitions.specs.Series.{grown}
@@ -20,7 +23,9 @@ use Rattle.reports.specs.Told.{told_of}
 use Rattle.reports.specs.Tally.{tally}
 use Rattle.store.specs.Kept.{Kept}
 use Rattle.changes.specs.declared.change.Change.{Change}
+use Rattle.changes.specs.declared.change.Change.TheVariants.{Accept, Replace, Withdraw, Fill, Undo}
 use Rattle.changes.specs.declared.change.Told.{Told}
+use Rattle.changes.specs.Changes.{after}
 use Rattle.changes.specs.Laws.{standing_of, reports_of}
 use Rattle.desk.specs.declared.instrument.Instrument.{Instrument}
 
@@ -43,15 +48,54 @@ abbrev pub told_in : Time → Change → Row → Option Instrument → Kept → 
 told_in t c r None k = k
 told_in t c r (Some i) k = appended k i.partition (entries_of r.terms.owner (reports_of (told_at i t) c r))
 
--- the order after the change, if it may be made, is told
-abbrev pub telling : List Instrument → Time → Change → Option Row → Kept → Kept
-telling is t c None k = k
-telling is t c (Some r) k = told_in t c r (slice_get is r.terms.instrument) k
+-- the rows of the orders, and the reports that tell them
+pub record Ledger : Type 0 where
+  pub rows : List Row
+  pub kept : Kept
 
--- the row of a number, written over
-abbrev pub written : ℕ → Option Row → List Row → List Row
-written n None rows = rows
-written n (Some r) rows = put_under rows n r
+abbrev pub ledger : List Row → Kept → Ledger
+ledger rows kept = record { rows = rows; kept = kept }
+
+-- a row in the place of the row of its number, and the change that made it told
+abbrev pub rewritten : List Instrument → Time → ℕ → Change → Option Row → Ledger → Ledger
+rewritten is t n c None l = l
+rewritten is t n c (Some r) l = ledger (put_under l.rows n r) (told_in t c r (slice_get is r.terms.instrument) l.kept)
+
+-- a change of the order of a number; nothing, where it may not be made
+abbrev pub changed : List Instrument → Time → ℕ → Change → Ledger → Ledger
+changed is t n c l = rewritten is t n c (after n c (under l.rows n)) l
+
+-- a new row, and the change that made it told
+abbrev pub added : List Instrument → Time → Change → Row → Ledger → Ledger
+added is t c r l = ledger (l.rows ++ r ∷ []) (told_in t c r (slice_get is r.terms.instrument) l.kept)
+
+-- a new order under the next number
+abbrev pub entered : List Instrument → Time → Terms → Ask → Ledger → Ledger
+entered is t s a l = added is t (Accept s a) (accepted (length l.rows + 1) s a) l
+
+-- how many reports tell a change
+abbrev pub report_count : Change → ℕ
+report_count (Accept s a) = 1
+report_count (Replace a) = 1
+report_count (Withdraw e c) = 1
+report_count (Fill f) = 1
+report_count (Undo u) = 2
+
+-- the number of the next report in the partition of an order
+abbrev pub next_in : Option Instrument → Kept → ℕ
+next_in None k = 0
+next_in (Some i) k = length (at k i.partition) + 1
+
+abbrev pub next_told : List Instrument → Option Row → Kept → ℕ
+next_told is None k = 0
+next_told is (Some r) k = next_in (slice_get is r.terms.instrument) k
+
+abbrev pub next_report : List Instrument → ℕ → Ledger → ℕ
+next_report is n l = next_told is (under l.rows n) l.kept
+
+-- at most so many places are used
+abbrev pub Uses : ℕ → ℕ → ℕ → Type 0
+Uses most free free' = (free' ≤ free) × (free ≤ free' + most)
 
 -- ---- what an owner is to know
 

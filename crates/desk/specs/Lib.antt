@@ -1,2 +1,4 @@
 pub mod Ledger
 pub mod View
+pub mod Steps
+pub mod Inside

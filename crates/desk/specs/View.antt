@@ -1,5 +1,5 @@
 -- What a desk keeps, and what holds of it at all times. Assumes nothing.
-use Rattle.std.specs.Prelude.{◌≡◌, ℕ, ◌+◌, ◌≤◌, ◌<◌, Bool, List, length, Some, None, Option, ◌==◌, nat_lt, if◌then◌else◌}
+use Rattle.std.specs.Prelude.{◌≡◌, ℕ, ◌+◌, ◌≤◌, ◌<◌, Bool, true, List, [], length, is_some, Some, None, Option, ◌==◌, nat_lt, if◌then◌else◌}
 use Rattle.std.specs.List.{sum_by}
 use Rattle.std.specs.FinMap.{get}
 use Rattle.keyed.specs.Numbers.{under}
@@ -9,7 +9,7 @@ use Rattle.orders.specs.declared.row.Row.{Row}
 use Rattle.orders.specs.declared.trade.Fill.{Fill}
 use Rattle.orders.specs.declared.trade.Trade.{Trade}
 use Rattle.orders.specs.Tables.{open_count}
-use Rattle.store.specs.Kept.{Kept}
+use Rattle.store.specs.Kept.{Kept, empty}
 use Rattle.desk.specs.declared.instrument.Instrument.{Instrument}
 use Rattle.desk.specs.declared.instrument.TheConstants.{INSTRUMENTS}
 use Rattle.desk.specs.Ledger.{Recorded}
@@ -69,3 +69,11 @@ pub record Sound (v : View) : Type 0 where
   pub spare : open_count v.rows ≤ v.free
   pub filling : Filling v.trades
   pub summed : Summed v.rows v.trades
+
+-- a new day
+abbrev pub fresh : List Instrument → Meaning → ℕ → View
+fresh is m free = record { instruments = is; rows = []; trades = []; market = m; kept = empty; free = free }
+
+-- an order that is there, and has shares open
+abbrev pub IsOpen : View → ℕ → Type 0
+IsOpen v n = is_some (open_of (under v.rows n)) ≡ true

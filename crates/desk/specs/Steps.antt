@@ -1,0 +1,71 @@
+-- What each call of a desk answers, and what it leaves. Assumes nothing.
+use Rattle.std.specs.Prelude.{◌≡◌, ℕ, ◌+◌, ◌-◌, ◌≤◌, [], length, vec_items, Some, None, Ok, Err, Option, Result, nat_le, nat_lt, if◌then◌else◌}
+use Rattle.std.specs.FinMap.{len}
+use Rattle.keyed.specs.Numbers.{under}
+use Rattle.limits.specs.declared.TheConstants.{ORDERS}
+use Rattle.texts.specs.declared.values.Time.{Time}
+use Rattle.texts.specs.declared.fixed.FixedText.{FixedText}
+use Rattle.matching.specs.Meaning.{Meaning, opened, closed}
+use Rattle.orders.specs.declared.row.Row.{Row}
+use Rattle.orders.specs.declared.row.Terms.{Terms}
+use Rattle.orders.specs.declared.row.Ask.{Ask}
+use Rattle.orders.specs.declared.row.Ending.{Ending}
+use Rattle.orders.specs.declared.row.Ending.TheVariants.{Cancelled, Expired}
+use Rattle.changes.specs.declared.change.Change.{Change}
+use Rattle.changes.specs.declared.change.Change.TheVariants.{Withdraw}
+use Rattle.desk.specs.declared.refusal.AcceptRefusal.{AcceptRefusal}
+use Rattle.desk.specs.declared.refusal.AcceptRefusal.TheVariants.{OrdersFull, MatcherFull}
+use Rattle.desk.specs.Ledger.{Ledger, ledger, changed, entered, Uses}
+use Rattle.desk.specs.View.{View}
+
+abbrev pub ledger_of : View → Ledger
+ledger_of v = ledger v.rows v.kept
+
+abbrev pub with_ledger : View → Ledger → View
+with_ledger v l = record v { rows = l.rows; kept = l.kept }
+
+-- w is u, but for the free places, of which at most so many are used
+pub record Leaves (most : ℕ) (u w : View) : Type 0 where
+  pub state : w ≡ record u { free = w.free }
+  pub places : Uses most u.free w.free
+
+-- ---- a new order
+
+-- why no order is accepted, tried in this order
+abbrev pub accept_fault : View → Option AcceptRefusal
+accept_fault v =
+    if nat_lt (length v.rows) ORDERS then (if nat_le v.market.capacity (len v.market.orders) then Some MatcherFull else None)
+    else Some OrdersFull
+
+-- the number of each refusal
+abbrev pub accept_number : AcceptRefusal → ℕ
+accept_number OrdersFull = 23
+accept_number MatcherFull = 24
+
+-- the order takes the next number, enters the matcher, and is reported
+abbrev pub accepted_to : Time → Terms → Ask → View → View
+accepted_to t s a v = record (with_ledger v (entered v.instruments t s a (ledger_of v))) {
+  market = opened v.market (length v.rows + 1) (record { instrument = s.instrument; quantity = a.quantity });
+}
+
+abbrev pub Accepts : Time → Terms → Ask → View → Result ℕ AcceptRefusal → View → Type 0
+Accepts t s a v (Ok n) w = (accept_fault v ≡ None) × (n ≡ length v.rows + 1) × Leaves 1 (accepted_to t s a v) w
+Accepts t s a v (Err e) w = (accept_fault v ≡ Some e) × (w ≡ v)
+
+-- ---- the end of an order
+
+-- what is open of an order is withdrawn from the matcher, and reported under a client order id
+abbrev pub withdrawn : Time → ℕ → Ending → FixedText 20 → View → View
+withdrawn t n e c v = record (with_ledger v (changed v.instruments t n (Withdraw e c) (ledger_of v))) { market = closed v.market n }
+
+abbrev pub client_of : Option Row → Option (FixedText 20)
+client_of None = None
+client_of (Some r) = Some r.client
+
+-- likewise for an end that nobody asked for, under the client order id of the order
+abbrev pub expired_under : Time → ℕ → Option (FixedText 20) → View → View
+expired_under t n None v = v
+expired_under t n (Some c) v = withdrawn t n Expired c v
+
+abbrev pub expired : Time → ℕ → View → View
+expired t n v = expired_under t n (client_of (under v.rows n)) v

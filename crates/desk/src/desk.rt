@@ -1,0 +1,245 @@
+// The orders, the trades, a matcher and a store of one day, kept in step.
+ghost use Rattle.std.specs.Prelude.{◌≡◌, ℕ, ◌+◌, ◌-◌, ◌<◌, ◌≤◌, true, length, [], MatchResult};
+
+use crate::instrument::Instrument;
+use crate::refusal::AcceptRefusal;
+use crate::telling::{change, open};
+use changes::change::Change;
+use codes::session::Partition;
+use limits::ORDERS;
+use matching::matcher::{Matcher, Terms as Entry};
+use orders::order::Order;
+use orders::row::{Ask, Ending, Terms};
+use orders::table::Table;
+use orders::trade::{Trade, Trades};
+use std::alloc::Global;
+use std::marker::Model;
+use store::Store;
+use terms::pricing::Pricing;
+use texts::fixed::FixedText;
+use texts::values::Time;
+
+/// What a gateway keeps under its lines: in a contract, its instruments, the rows of its orders, its trades, what the
+/// matcher holds, what the store keeps, and how many places are free there.
+#[derive(Drop)]
+pub struct Desk<M: Matcher, S: Store> {
+    instruments: Vec<Instrument>,
+    table: Table,
+    trades: Trades,
+    matcher: M,
+    store: S,
+}
+
+impl<M: Matcher, S: Store> Model for Desk<M, S> {
+    ghost use Rattle.std.specs.Coded.{codes};
+    ghost use Rattle.std.specs.FinMap as map;
+    ghost use Rattle.desk.specs.View.{View, Sound};
+
+    ghost Value = { View };
+
+    ghost coded = { Prim.hlevel (codes, map.code) };
+
+    ghost use Rattle.desk.specs.Inside.{view as shown};
+
+    ghost view = { shown M.Matcher S.Store };
+
+    ghost invariant = { λ d. Sound (shown M.Matcher S.Store d) };
+}
+
+impl<M: Matcher, S: Store> Desk<M, S> {
+    ghost use Rattle.keyed.specs.Numbers.{under};
+    ghost use Rattle.orders.specs.Orders.{replace_fault};
+    ghost use Rattle.orders.specs.Rows.{orderable};
+    ghost use Rattle.orders.specs.Tables.{latest, open_count};
+    ghost use Rattle.partitions.specs.PerPartition.{at};
+    ghost use Rattle.matching.specs.Meaning.{Meaning};
+    ghost use Rattle.store.specs.Kept.{empty};
+    ghost use Rattle.texts.specs.Bytes.{said};
+    ghost use Rattle.std.specs.FinMap.{len};
+    ghost use Rattle.desk.specs.declared.instrument.TheConstants.{INSTRUMENTS};
+    ghost use Rattle.desk.specs.View.{Sound, IsOpen, fresh};
+    ghost use Rattle.desk.specs.Steps.{Accepts, Leaves, expired, withdrawn};
+    ghost use Rattle.orders.specs.declared.row.Ending.TheVariants.{Cancelled};
+
+    /// A desk of a new day, over a matcher and a store that hold nothing; where memory is short they are given back.
+    pub fn new(
+        alloc: Global,
+        instruments: Vec<Instrument>,
+        matcher: M,
+        store: S,
+    ) -> Result<Desk<M, S>, (M, S)>
+        requires listed { length instruments.items ≤ INSTRUMENTS }
+        requires nothing_open { len (M.meaning matcher).orders ≡ 0 }
+        requires nothing_kept { S.kept store ≡ empty }
+        ensures { MatchResult result (λ d. d ≡ fresh instruments.items (M.meaning matcher) (S.free store)) (λ back. back ≡ (matcher, store)) }
+    {
+        let Ok(table) = Table::new(alloc) else {
+            return Err((matcher, store));
+        };
+        let Ok(trades) = Trades::new(alloc) else {
+            return Err((matcher, store));
+        };
+        Ok(Desk {
+            instruments,
+            table,
+            trades,
+            matcher,
+            store,
+        })
+    }
+
+    /// Accepts an order: it takes the next number, enters the matcher, and is reported to its owner. A refusal changes
+    /// nothing.
+    pub fn accept(
+        &mut self,
+        terms: Terms,
+        ask: Ask,
+        pricing: Pricing,
+        time: Time,
+    ) -> Result<u64, AcceptRefusal>
+        requires orderable { orderable ask.quantity ≡ true }
+        requires placed { terms.instrument < length self.old.instruments }
+        requires spare { open_count self.old.rows + 2 ≤ self.old.free }
+        ensures { Accepts time terms ask self.old result self.new }
+    {
+        let number = self.table.len() + 1;
+        if number > ORDERS as u64 {
+            return Err(AcceptRefusal::OrdersFull);
+        }
+        let entry = Entry {
+            instrument: terms.instrument as u8,
+            side: terms.side,
+            pricing,
+            time_in_force: terms.time_in_force,
+            quantity: ask.quantity,
+            book: terms.book,
+        };
+        match self.matcher.enter(number, entry) {
+            Err(_) => Err(AcceptRefusal::MatcherFull),
+            Ok(()) => {
+                open(
+                    &mut self.table,
+                    &mut self.store,
+                    &self.instruments,
+                    terms,
+                    ask,
+                    time,
+                );
+                Ok(number)
+            }
+        }
+    }
+
+    // Withdraws what is open of an order from the matcher, and tells its owner under a client order id.
+    fn withdraw(&mut self, number: u64, ending: Ending, client: FixedText<20>, time: Time)
+        requires { IsOpen self.old number }
+        ensures { Leaves 1 (withdrawn time number ending client self.old) self.new }
+    {
+        let _ = self.matcher.cancel(number);
+        let withdrawal = Change::Withdraw(ending, client);
+        change(
+            &mut self.table,
+            &mut self.store,
+            &self.instruments,
+            number,
+            &withdrawal,
+            time,
+        );
+    }
+
+    /// Cancels an open order at somebody's request, which has a client order id of its own.
+    pub fn cancel(&mut self, number: u64, client: FixedText<20>, time: Time)
+        requires { IsOpen self.old number }
+        ensures { Leaves 1 (withdrawn time number Cancelled client self.old) self.new }
+    {
+        self.withdraw(number, Ending::Cancelled, client, time);
+    }
+
+    /// Ends an open order whose owner's line was lost.
+    pub fn expire(&mut self, number: u64, time: Time)
+        requires { IsOpen self.old number }
+        ensures { Leaves 1 (expired time number self.old) self.new }
+    {
+        if let Some(order) = self.table.order(number) {
+            self.withdraw(number, Ending::Expired, order.row().client, time);
+        }
+    }
+
+    /// What holds of every desk, for callers: they see the value alone.
+    pub fn sound(&self)
+        ensures { Sound self.now }
+    {
+        let _ = &self.table;
+    }
+
+    /// How many places are free beyond those of the open orders' ends.
+    pub fn spare(&self) -> usize
+        ensures { result + open_count self.now.rows ≡ self.now.free }
+    {
+        self.store.places() - self.table.open_count()
+    }
+
+    /// How many orders there are: the highest number.
+    pub fn order_count(&self) -> u64
+        ensures { result ≡ length self.now.rows }
+    {
+        self.table.len()
+    }
+
+    /// The order of a number.
+    pub fn order(&self, number: u64) -> Option<Order>
+        ensures { result ≡ under self.now.rows number }
+    {
+        self.table.order(number)
+    }
+
+    /// The owner's highest-numbered order whose current client order id this is.
+    pub fn named(&self, owner: usize, client: FixedText<20>) -> Option<Order>
+        ensures { result ≡ latest owner (said client.bytes) self.now.rows }
+    {
+        self.table.named(owner, client)
+    }
+
+    /// How many trades there are: the highest number.
+    pub fn trade_count(&self) -> u64
+        ensures { result ≡ length self.now.trades }
+    {
+        self.trades.len()
+    }
+
+    /// The trade of a number.
+    pub fn trade(&self, number: u64) -> Option<Trade>
+        ensures { result ≡ under self.now.trades number }
+    {
+        self.trades.trade(number)
+    }
+
+    /// The last number of a partition; 0 where it has no report.
+    pub fn last(&self, partition: Partition) -> u32
+        ensures { result ≡ length (at self.now.kept partition) }
+    {
+        self.store.last(partition)
+    }
+
+    /// The instruments, in the order in which they were given.
+    pub fn instruments(&self) -> &[Instrument]
+        ensures { result.now ≡ self.now.instruments }
+    {
+        &self.instruments
+    }
+
+    /// The store, to read its reports.
+    pub fn store(&self) -> &S
+        ensures kept { S.kept result.now ≡ self.now.kept }
+        ensures free { S.free result.now ≡ self.now.free }
+    {
+        &self.store
+    }
+
+    /// The matcher, to see what it holds.
+    pub fn matcher(&self) -> &M
+        ensures { M.meaning result.now ≡ self.now.market }
+    {
+        &self.matcher
+    }
+}
