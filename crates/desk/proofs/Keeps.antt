@@ -1,8 +1,9 @@
 -- Every call keeps a desk sound. Assumes nothing.
 use Rattle.std.specs.Prelude.{if◌then◌else◌, slice_get, is_none, nat_le, nat_lt}
-use Rattle.std.proofs.Common.{◌≡◌, ℕ, zero, suc, ◌+◌, ◌-◌, ◌<◌, ◌≤◌, ◌⊎◌, Bool, true, false, cond, ◌&&◌, List, [], ◌∷◌, ◌++◌, length, Some, None, Ok, Err, Option, Result, is_ok, inl, inr, is_some, refl, sym, ap, ◌∙◌, subst, arith, leb-true, ltb-true, lt-ltb}
+use Rattle.std.proofs.Common.{◌≡◌, ℕ, zero, suc, ◌+◌, ◌-◌, ◌<◌, ◌≤◌, ◌⊎◌, Bool, true, false, cond, ◌&&◌, eqb, List, [], ◌∷◌, ◌++◌, length, Some, None, Ok, Err, Option, Result, is_ok, inl, inr, is_some, refl, sym, ap, ◌∙◌, subst, arith, leb-true, ltb-true, lt-ltb}
 use Rattle.std.proofs.lemmas.Bool.{and_parts, cond-true, cond-false, cases_eq, eq-eqb, ne_eqb, le-ltb}
-use Rattle.std.proofs.lemmas.List.Sums.{sum_by-cons, sum_by_push}
+use Rattle.std.proofs.lemmas.List.Sums.{fold-append, sum_by-cons, sum_by_push}
+use Rattle.std.specs.Option.{option_map}
 use Rattle.std.specs.Result.{result_err}
 use Rattle.std.specs.FinMap.{get, len, get-empty, len-empty, empty_of_len}
 use Rattle.std.specs.Ordering.{nat_cmp}
@@ -15,34 +16,40 @@ use Rattle.keyed.specs.Numbers.{under, put_under}
 use Rattle.keyed.proofs.Keyed.{put-here, put-apart}
 use Rattle.keyed.proofs.Under.{none-some, under-others}
 use Rattle.limits.specs.declared.TheConstants.{ORDERS, SHARES}
-use Rattle.matching.specs.Meaning.{Meaning, opened, closed, cancel_refusal, enter_refusal}
+use Rattle.matching.specs.Meaning.{Meaning, opened, closed, resized, amend_refusal, cancel_refusal, enter_refusal}
+use Rattle.matching.specs.declared.matcher.Held.{Held}
 use Rattle.matching.specs.declared.matcher.Refusal.{Refusal}
 use Rattle.matching.specs.declared.matcher.Refusal.TheVariants.{Full}
 use Rattle.orders.specs.declared.row.Row.{Row}
 use Rattle.orders.specs.declared.row.Ask.{Ask}
 use Rattle.orders.specs.declared.row.Terms.{Terms}
 use Rattle.orders.specs.declared.row.Ending.{Ending}
-use Rattle.orders.specs.Rows.{orderly, orderable, accepted, ended}
+use Rattle.orders.specs.Rows.{orderly, orderable, accepted, ended, replaced}
+use Rattle.orders.specs.Orders.{replace_fault}
 use Rattle.orders.specs.Kept.{kept_from}
 use Rattle.orders.specs.Tables.{is_open, open_count}
 use Rattle.orders.proofs.Kept.{kept_at, kept_none}
 use Rattle.partitions.specs.PerPartition.{at}
+use Rattle.partitions.specs.Series.{grown}
 use Rattle.reports.specs.declared.standing.Standing.{Standing}
+use Rattle.reports.specs.declared.report.Entry.{Entry}
+use Rattle.reports.specs.Fold.{Knowledge, nothing_known, fold}
+use Rattle.reports.specs.Told.{told_of}
 use Rattle.reports.specs.Tally.{tally}
 use Rattle.store.specs.Kept.{Kept, empty}
 use Rattle.changes.specs.declared.change.Change.{Change}
 use Rattle.changes.specs.declared.change.Change.TheVariants.{Accept, Replace, Withdraw, Fill, Undo}
 use Rattle.changes.specs.Changes.{after}
-use Rattle.changes.specs.Changes.{after as made_of}
+use Rattle.changes.specs.Changes.{after as made_of, where_allowed}
 use Rattle.changes.specs.Laws.{reports_of}
-use Rattle.changes.proofs.Orderly.{allowed}
+use Rattle.changes.proofs.Orderly.{allowed, replaceable}
 use Rattle.desk.specs.declared.instrument.Instrument.{Instrument}
 use Rattle.desk.specs.declared.instrument.TheConstants.{INSTRUMENTS}
-use Rattle.desk.specs.Ledger.{Ledger, ledger, told_at, told_in, appended, entries_of, rewritten, changed, added, entered, standing, all_told, Recorded}
+use Rattle.desk.specs.Ledger.{Ledger, ledger, told_at, told_in, appended, entries_of, rewritten, changed, added, entered, is_at, standing, told_one, all_told, Recorded}
 use Rattle.desk.specs.View.{View, Sound, Booked, Filling, Summed, held_as, open_of, executed_of, traded}
 use Rattle.desk.specs.declared.refusal.AcceptRefusal.TheVariants.{MatcherFull}
-use Rattle.desk.specs.Steps.{ledger_of, accept_fault}
-use Rattle.desk.proofs.Recording.{Rewrites, recorded}
+use Rattle.desk.specs.Steps.{Silent, ledger_of, accept_fault}
+use Rattle.desk.proofs.Recording.{Rewrites, recorded, same_or_apart, appended-here, appended-apart, tally-told}
 use Rattle.desk.proofs.Rows.{put-here as put-row-here, push_here, push_apart, past_none, keeps, rewrites_there, rewrites_new}
 
 -- ---- a new day
@@ -296,3 +303,93 @@ full_fault v q len' e s h is room refused =
     full : (b : Bool) → Some e ≡ cond b (Some Full) None → cond b (Some MatcherFull) None ≡ Some MatcherFull
     full true x = refl
     full false x = absurd (cc)
+
+-- ---- another quantity and price
+
+pub replace_fits : (rows : List Row) (n : ℕ) (a : Ask) → is_some (made_of n (Replace a) (under rows n)) ≡ true → (b : Row) × (under rows n ≡ Some b) × (made_of n (Replace a) (Some b) ≡ Some (replaced a b)) × (0 < b.leaves) × (b.executed < a.quantity)
+replace_fits rows n a h = go (under rows n) refl h
+  where
+    test : (b : Row) (x : Bool) → is_none (replace_fault a.quantity b) ≡ x → is_some (where_allowed x (replaced a b)) ≡ true → is_none (replace_fault a.quantity b) ≡ true
+    test b true e h = e
+    test b false e h = absurd (cc)
+
+    go : (x : Option Row) → under rows n ≡ x → is_some (made_of n (Replace a) x) ≡ true → (b : Row) × (under rows n ≡ Some b) × (made_of n (Replace a) (Some b) ≡ Some (replaced a b)) × (0 < b.leaves) × (b.executed < a.quantity)
+    go None e h = absurd (cc)
+    go (Some b) e h =
+        let t = test b (is_none (replace_fault a.quantity b)) refl h in
+        let f = replaceable a.quantity b t in
+        (b, e, cond-true _ _ _ t, f.0, f.1)
+
+pub replace_there : (rows : List Row) (n : ℕ) (a : Ask) → is_some (made_of n (Replace a) (under rows n)) ≡ true → is_some (under rows n) ≡ true
+replace_there rows n a h = let (b, was, made, some, above) = replace_fits rows n a h in ap is_some was
+
+pub replace_above : (rows : List Row) (n : ℕ) (a : Ask) (b : Row) → is_some (made_of n (Replace a) (under rows n)) ≡ true → Some b ≡ under rows n → b.executed < a.quantity
+replace_above rows n a b h e =
+    let (x, was, made, some, above) = replace_fits rows n a h in
+    let same : x ≡ b = let q = e ∙ was in cc in
+    subst (λ (y : Row). y.executed < a.quantity) same above
+
+pub amended : (v : View) (m : Meaning) (n q q' : ℕ) (a : Ask) (out : Result (Unit {0}) Refusal) → Sound v → is_some (made_of n (Replace a) (under v.rows n)) ≡ true → q' ≡ q → q ≡ a.quantity - executed_of (under v.rows n)
+    → result_err out ≡ amend_refusal v.market n q' → m ≡ (if is_ok out then resized v.market n q' else v.market) → m ≡ resized v.market n q
+amended v m n q q' a (Ok u) s h same amount refused is = is ∙ ap (resized v.market n) same
+amended v m n q q' a (Err e) s h same amount refused is =
+    let (b, was, made, some, above) = replace_fits v.rows n a h in
+    let held : is_some (get v.market.orders n) ≡ true = ap is_some (s.booked n ∙ ap open_of was ∙ cond-true _ _ _ (lt-ltb 0 b.leaves some)) in
+    let size : q' ≡ a.quantity - b.executed = same ∙ amount ∙ ap (λ x. a.quantity - executed_of x) was in
+    let no : ◌≡◌ {A = Option Refusal} (Some e) None = refused ∙ cond-true _ _ _ held ∙ cond-false _ _ _ (ne_eqb q' 0 (λ z. absurd (let no : ⊥ = omega arith in no))) in
+    absurd (cc)
+
+pub sound-replaced : (v w : View) (t : Time) (n q : ℕ) (a : Ask) → Sound v → is_some (made_of n (Replace a) (under v.rows n)) ≡ true → open_count v.rows + 1 ≤ v.free → w.instruments ≡ v.instruments
+    → ledger_of w ≡ changed v.instruments t n (Replace a) (ledger_of v) → w.trades ≡ v.trades → q ≡ a.quantity - executed_of (under v.rows n) → w.market ≡ resized v.market n q → v.free ≤ w.free + 1 → Sound w
+sound-replaced v w t n q a s h spare instruments after trades amount market free =
+    let (b, was, made, some, above) = replace_fits v.rows n a h in
+    let r = replaced a b in
+    let count = changed-open v.instruments t n (Replace a) (ledger_of v) b (replaced a b) s.recorded was made in
+    let rows = ap (λ (x : Ledger). open_count x.rows) after in
+    let y = one_open b some in
+    let z = one_open (replaced a b) (omega arith) in
+    let size : q ≡ a.quantity - b.executed = amount ∙ ap (λ x. a.quantity - executed_of x) was in
+    let held : get v.market.orders n ≡ Some (held_as b) = s.booked n ∙ ap open_of was ∙ cond-true _ _ _ (lt-ltb 0 b.leaves some) in
+    let now : option_map (λ (x : Held). record x { quantity = q }) (get v.market.orders n) ≡ open_of (Some (replaced a b)) =
+    ap (option_map (λ (x : Held). record x { quantity = q })) held ∙ ap (λ k. Some (record (held_as b) { quantity = k })) size ∙ sym (cond-true _ _ _ (lt-ltb 0 (a.quantity - b.executed) (omega arith))) in
+    sound-changed v w t n (Replace a) b (replaced a b) s was made instruments after trades (ap (λ (m : Meaning). m.orders) market ∙ ap (put v.market.orders n) now) refl (omega arith)
+
+-- ---- a report that touches no order
+
+module _ (is : List Instrument) (rows : List Row) (kept : Kept) (p : Partition) (e : Entry) (s : Recorded is rows kept) (silent : Silent e.report) where
+  silent_one : (q : ℕ) (k : Knowledge) → told_one p q (Ok k) e ≡ Ok k
+  silent_one q k = by_owner (eqb e.owner q)
+    where
+      by_owner : (b : Bool) → cond b (fold p (told_of e.report) k) (Ok k) ≡ Ok k
+      by_owner true = silent p k
+      by_owner false = refl
+
+  told_same : (q : ℕ) (u : Partition) → (p ≡ u) ⊎ (is_at p u ≡ false) → all_told u q (at (grown kept p e) u) ≡ all_told u q (at kept u)
+  told_same q u (inr away) = ap (all_told u q) (appended-apart kept p u (e ∷ []) away)
+  told_same q u (inl here) =
+      subst (λ x. all_told x q (at (grown kept p e) x) ≡ all_told x q (at kept x)) here
+      (ap (all_told p q) (appended-here kept p (e ∷ [])) ∙ fold-append (told_one p q) (Ok nothing_known) (at kept p) (e ∷ [])
+      ∙ ap (λ k. told_one p q k e) (s.unrefused q p) ∙ silent_one q _ ∙ sym (s.unrefused q p))
+
+  tally_same : (q : ℕ) (u : Partition) → tally u q (at (grown kept p e) u) ≡ tally u q (at kept u)
+  tally_same q u = tally-told u q nothing_known _ (at (grown kept p e) u) (told_same q u (same_or_apart p u) ∙ s.unrefused q u)
+
+  pub recorded-noted : Recorded is rows (grown kept p e)
+  recorded-noted = record {
+    numbered = s.numbered;
+    placed = s.placed;
+    unrefused = λ q u. told_same q u (same_or_apart p u) ∙ s.unrefused q u ∙ ap Ok (sym (tally_same q u));
+    tallied = λ q u n. ap (λ x. get x n) (tally_same q u) ∙ s.tallied q u n;
+    room = λ q u. let l = s.room q u in let x = ap len (tally_same q u) in omega arith;
+  }
+
+pub sound-noted : (v w : View) (p : Partition) (e : Entry) → Sound v → Silent e.report → w.instruments ≡ v.instruments → w.rows ≡ v.rows → w.trades ≡ v.trades → w.market ≡ v.market → w.kept ≡ grown v.kept p e → open_count w.rows ≤ w.free → Sound w
+sound-noted v w p e s silent instruments rows trades market kept spare = record {
+  listed = subst (λ x. length x ≤ INSTRUMENTS) (sym instruments) s.listed;
+  recorded = subst (λ x. Recorded x w.rows w.kept) (sym instruments) (subst (λ x. Recorded v.instruments x w.kept) (sym rows) (subst (Recorded v.instruments v.rows) (sym kept)
+      (recorded-noted v.instruments v.rows v.kept p e s.recorded silent)));
+  booked = subst (λ x. Booked x w.market) (sym rows) (subst (Booked v.rows) (sym market) s.booked);
+  spare = spare;
+  filling = subst Filling (sym trades) s.filling;
+  summed = subst (λ x. Summed x w.trades) (sym rows) (subst (Summed v.rows) (sym trades) s.summed);
+}

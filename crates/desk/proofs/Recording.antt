@@ -107,7 +107,7 @@ module _ (p : Partition) (o : ℕ) where
       ap (λ b. told (cond b (fold p (told_of (Execution e)) k) (Ok k)) (entries_of o es)) (eq-eqb o o refl) ∙ own_fold (fold p (told_of (Execution e)) k) es
 
   -- where no report is refused, what is folded is the tally
-  tally-told : (k k' : Knowledge) (l : List Entry) → told (Ok k) l ≡ Ok k' → fold_each (tally_one p o) k l ≡ k'
+  pub tally-told : (k k' : Knowledge) (l : List Entry) → told (Ok k) l ≡ Ok k' → fold_each (tally_one p o) k l ≡ k'
   tally-told k k' [] h = cc
   tally-told k k' (e ∷ l) h = go (eqb e.owner o) (fold p (told_of e.report) k) (λ j f. tally-told j k' l f) h
     where

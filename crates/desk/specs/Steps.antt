@@ -1,22 +1,28 @@
 -- What each call of a desk answers, and what it leaves. Assumes nothing.
-use Rattle.std.specs.Prelude.{◌≡◌, ℕ, ◌+◌, ◌-◌, ◌≤◌, [], length, vec_items, Some, None, Ok, Err, Option, Result, nat_le, nat_lt, if◌then◌else◌}
+use Rattle.std.specs.Prelude.{◌≡◌, ℕ, ◌+◌, ◌-◌, ◌≤◌, true, length, is_some, Some, None, Ok, Err, Option, Result, nat_le, nat_lt, if◌then◌else◌}
 use Rattle.std.specs.FinMap.{len}
 use Rattle.keyed.specs.Numbers.{under}
 use Rattle.limits.specs.declared.TheConstants.{ORDERS}
 use Rattle.texts.specs.declared.values.Time.{Time}
 use Rattle.texts.specs.declared.fixed.FixedText.{FixedText}
-use Rattle.matching.specs.Meaning.{Meaning, opened, closed}
+use Rattle.matching.specs.Meaning.{opened, closed, resized}
 use Rattle.orders.specs.declared.row.Row.{Row}
 use Rattle.orders.specs.declared.row.Terms.{Terms}
 use Rattle.orders.specs.declared.row.Ask.{Ask}
 use Rattle.orders.specs.declared.row.Ending.{Ending}
 use Rattle.orders.specs.declared.row.Ending.TheVariants.{Cancelled, Expired}
-use Rattle.changes.specs.declared.change.Change.{Change}
-use Rattle.changes.specs.declared.change.Change.TheVariants.{Withdraw}
+use Rattle.codes.specs.declared.session.Partition.{Partition}
+use Rattle.partitions.specs.Series.{grown}
+use Rattle.reports.specs.declared.report.Entry.{Entry}
+use Rattle.reports.specs.declared.report.Report.{Report}
+use Rattle.reports.specs.Fold.{Knowledge, fold}
+use Rattle.reports.specs.Told.{told_of}
+use Rattle.changes.specs.declared.change.Change.TheVariants.{Replace, Withdraw}
+use Rattle.changes.specs.Changes.{after}
 use Rattle.desk.specs.declared.refusal.AcceptRefusal.{AcceptRefusal}
 use Rattle.desk.specs.declared.refusal.AcceptRefusal.TheVariants.{OrdersFull, MatcherFull}
 use Rattle.desk.specs.Ledger.{Ledger, ledger, changed, entered, Uses}
-use Rattle.desk.specs.View.{View}
+use Rattle.desk.specs.View.{View, executed_of}
 
 abbrev pub ledger_of : View → Ledger
 ledger_of v = ledger v.rows v.kept
@@ -69,3 +75,24 @@ expired_under t n (Some c) v = withdrawn t n Expired c v
 
 abbrev pub expired : Time → ℕ → View → View
 expired t n v = expired_under t n (client_of (under v.rows n)) v
+
+-- ---- another quantity and price
+
+-- the order may be replaced so
+abbrev pub Replaceable : View → ℕ → Ask → Type 0
+Replaceable v n a = is_some (after n (Replace a) (under v.rows n)) ≡ true
+
+-- the matcher holds what is open of the new quantity
+abbrev pub replaced_to : Time → ℕ → Ask → View → View
+replaced_to t n a v = record (with_ledger v (changed v.instruments t n (Replace a) (ledger_of v))) {
+  market = resized v.market n (a.quantity - executed_of (under v.rows n));
+}
+
+-- ---- a report that touches no order
+
+-- whoever folds it knows what he knew
+abbrev pub Silent : Report → Type 0
+Silent r = (p : Partition) (k : Knowledge) → fold p (told_of r) k ≡ Ok k
+
+abbrev pub noted : Partition → Entry → View → View
+noted p e v = record v { kept = grown v.kept p e }

@@ -3,15 +3,16 @@ ghost use Rattle.std.specs.Prelude.{◌≡◌, ℕ, ◌+◌, ◌-◌, ◌<◌, �
 
 use crate::instrument::Instrument;
 use crate::refusal::AcceptRefusal;
-use crate::telling::{change, open};
+use crate::telling::{append, change, open};
 use changes::change::Change;
 use codes::session::Partition;
 use limits::ORDERS;
-use matching::matcher::{Matcher, Terms as Entry};
+use matching::matcher::{Matcher, Terms as Request};
 use orders::order::Order;
 use orders::row::{Ask, Ending, Terms};
 use orders::table::Table;
 use orders::trade::{Trade, Trades};
+use reports::report::Entry;
 use std::alloc::Global;
 use std::marker::Model;
 use store::Store;
@@ -58,7 +59,7 @@ impl<M: Matcher, S: Store> Desk<M, S> {
     ghost use Rattle.std.specs.FinMap.{len};
     ghost use Rattle.desk.specs.declared.instrument.TheConstants.{INSTRUMENTS};
     ghost use Rattle.desk.specs.View.{Sound, IsOpen, fresh};
-    ghost use Rattle.desk.specs.Steps.{Accepts, Leaves, expired, withdrawn};
+    ghost use Rattle.desk.specs.Steps.{Accepts, Leaves, Replaceable, Silent, expired, noted, replaced_to, withdrawn};
     ghost use Rattle.orders.specs.declared.row.Ending.TheVariants.{Cancelled};
 
     /// A desk of a new day, over a matcher and a store that hold nothing; where memory is short they are given back.
@@ -106,7 +107,7 @@ impl<M: Matcher, S: Store> Desk<M, S> {
         if number > ORDERS as u64 {
             return Err(AcceptRefusal::OrdersFull);
         }
-        let entry = Entry {
+        let request = Request {
             instrument: terms.instrument as u8,
             side: terms.side,
             pricing,
@@ -114,7 +115,7 @@ impl<M: Matcher, S: Store> Desk<M, S> {
             quantity: ask.quantity,
             book: terms.book,
         };
-        match self.matcher.enter(number, entry) {
+        match self.matcher.enter(number, request) {
             Err(_) => Err(AcceptRefusal::MatcherFull),
             Ok(()) => {
                 open(
@@ -163,6 +164,37 @@ impl<M: Matcher, S: Store> Desk<M, S> {
         if let Some(order) = self.table.order(number) {
             self.withdraw(number, Ending::Expired, order.row().client, time);
         }
+    }
+
+    /// Replaces an open order's quantity, price and client order id by a request's.
+    pub fn replace(&mut self, number: u64, ask: Ask, time: Time)
+        requires allowed { Replaceable self.old number ask }
+        requires spare { open_count self.old.rows + 1 ≤ self.old.free }
+        ensures { Leaves 1 (replaced_to time number ask self.old) self.new }
+    {
+        let Some(order) = self.table.order(number) else {
+            unreachable!()
+        };
+        let quantity = ask.quantity - order.row().executed;
+        let _ = self.matcher.amend(number, quantity, ask.price);
+        let replacement = Change::Replace(ask);
+        change(
+            &mut self.table,
+            &mut self.store,
+            &self.instruments,
+            number,
+            &replacement,
+            time,
+        );
+    }
+
+    /// Appends a report that touches no order.
+    pub fn note(&mut self, partition: Partition, entry: Entry)
+        requires silent { Silent entry.report }
+        requires spare { open_count self.old.rows + 1 ≤ self.old.free }
+        ensures { Leaves 1 (noted partition entry self.old) self.new }
+    {
+        append(&mut self.store, partition, entry);
     }
 
     /// What holds of every desk, for callers: they see the value alone.
