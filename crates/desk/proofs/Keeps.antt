@@ -131,6 +131,13 @@ one_open r h = cond-true _ _ _ (lt-ltb 0 r.leaves h)
 pub one_done : (r : Row) → r.leaves ≡ 0 → one_of r ≡ 0
 one_done r h = cond-false _ _ _ (le-ltb 0 r.leaves (omega arith))
 
+pub at_most_one : (r : Row) → one_of r ≤ 1
+at_most_one r = go (is_open r)
+  where
+    go : (b : Bool) → cond b 1 0 ≤ 1
+    go true = omega arith
+    go false = omega arith
+
 pub open-some : (rows : List Row) (n : ℕ) (b : Row) → under rows n ≡ Some b → one_of b ≤ open_count rows
 open-some rows n b e =
     let h = open-put rows n b (record b { leaves = 0 }) e in

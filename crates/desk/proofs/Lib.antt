@@ -1,3 +1,4 @@
 pub mod Recording
 pub mod Rows
 pub mod Keeps
+pub mod Summing

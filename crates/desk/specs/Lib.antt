@@ -1,4 +1,5 @@
 pub mod Ledger
 pub mod View
 pub mod Steps
+pub mod Trading
 pub mod Inside

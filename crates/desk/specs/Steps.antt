@@ -1,5 +1,5 @@
 -- What each call of a desk answers, and what it leaves. Assumes nothing.
-use Rattle.std.specs.Prelude.{◌≡◌, ℕ, ◌+◌, ◌-◌, ◌≤◌, true, length, is_some, Some, None, Ok, Err, Option, Result, nat_le, nat_lt, if◌then◌else◌}
+use Rattle.std.specs.Prelude.{◌≡◌, ℕ, ◌+◌, ◌-◌, ◌≤◌, true, List, length, is_some, Some, None, Ok, Err, Option, Result, nat_le, nat_lt, if◌then◌else◌}
 use Rattle.std.specs.FinMap.{len}
 use Rattle.keyed.specs.Numbers.{under}
 use Rattle.limits.specs.declared.TheConstants.{ORDERS}
@@ -10,7 +10,7 @@ use Rattle.orders.specs.declared.row.Row.{Row}
 use Rattle.orders.specs.declared.row.Terms.{Terms}
 use Rattle.orders.specs.declared.row.Ask.{Ask}
 use Rattle.orders.specs.declared.row.Ending.{Ending}
-use Rattle.orders.specs.declared.row.Ending.TheVariants.{Cancelled, Expired}
+use Rattle.orders.specs.declared.row.Ending.TheVariants.{Expired}
 use Rattle.codes.specs.declared.session.Partition.{Partition}
 use Rattle.partitions.specs.Series.{grown}
 use Rattle.reports.specs.declared.report.Entry.{Entry}
@@ -19,6 +19,7 @@ use Rattle.reports.specs.Fold.{Knowledge, fold}
 use Rattle.reports.specs.Told.{told_of}
 use Rattle.changes.specs.declared.change.Change.TheVariants.{Replace, Withdraw}
 use Rattle.changes.specs.Changes.{after}
+use Rattle.desk.specs.declared.instrument.Instrument.{Instrument}
 use Rattle.desk.specs.declared.refusal.AcceptRefusal.{AcceptRefusal}
 use Rattle.desk.specs.declared.refusal.AcceptRefusal.TheVariants.{OrdersFull, MatcherFull}
 use Rattle.desk.specs.Ledger.{Ledger, ledger, changed, entered, Uses}
@@ -64,17 +65,16 @@ Accepts t s a v (Err e) w = (accept_fault v ≡ Some e) × (w ≡ v)
 abbrev pub withdrawn : Time → ℕ → Ending → FixedText 20 → View → View
 withdrawn t n e c v = record (with_ledger v (changed v.instruments t n (Withdraw e c) (ledger_of v))) { market = closed v.market n }
 
-abbrev pub client_of : Option Row → Option (FixedText 20)
-client_of None = None
-client_of (Some r) = Some r.client
+-- likewise at nobody's request, under the client order id of the order
+abbrev pub expired_as : List Instrument → Time → ℕ → Option Row → Ledger → Ledger
+expired_as is t n None l = l
+expired_as is t n (Some r) l = changed is t n (Withdraw Expired r.client) l
 
--- likewise for an end that nobody asked for, under the client order id of the order
-abbrev pub expired_under : Time → ℕ → Option (FixedText 20) → View → View
-expired_under t n None v = v
-expired_under t n (Some c) v = withdrawn t n Expired c v
+abbrev pub ledger_expired : List Instrument → Time → ℕ → Ledger → Ledger
+ledger_expired is t n l = expired_as is t n (under l.rows n) l
 
 abbrev pub expired : Time → ℕ → View → View
-expired t n v = expired_under t n (client_of (under v.rows n)) v
+expired t n v = record (with_ledger v (ledger_expired v.instruments t n (ledger_of v))) { market = closed v.market n }
 
 -- ---- another quantity and price
 

@@ -3,10 +3,13 @@ ghost use Rattle.std.specs.Prelude.{◌≡◌, ℕ, ◌+◌, ◌-◌, ◌<◌, �
 
 use crate::instrument::Instrument;
 use crate::refusal::AcceptRefusal;
-use crate::telling::{append, change, open};
+use crate::step::Step;
+use crate::telling::{append, change, expire, open};
+use crate::trading::{Deal, trade};
 use changes::change::Change;
 use codes::session::Partition;
 use limits::ORDERS;
+use matching::event::Event;
 use matching::matcher::{Matcher, Terms as Request};
 use orders::order::Order;
 use orders::row::{Ask, Ending, Terms};
@@ -58,6 +61,8 @@ impl<M: Matcher, S: Store> Desk<M, S> {
     ghost use Rattle.texts.specs.Bytes.{said};
     ghost use Rattle.std.specs.FinMap.{len};
     ghost use Rattle.desk.specs.declared.instrument.TheConstants.{INSTRUMENTS};
+    ghost use Rattle.desk.specs.Trading.{Stepped};
+    ghost use Rattle.limits.specs.declared.TheConstants.{TRADES};
     ghost use Rattle.desk.specs.View.{Sound, IsOpen, fresh};
     ghost use Rattle.desk.specs.Steps.{Accepts, Leaves, Replaceable, Silent, expired, noted, replaced_to, withdrawn};
     ghost use Rattle.orders.specs.declared.row.Ending.TheVariants.{Cancelled};
@@ -195,6 +200,57 @@ impl<M: Matcher, S: Store> Desk<M, S> {
         ensures { Leaves 1 (noted partition entry self.old) self.new }
     {
         append(&mut self.store, partition, entry);
+    }
+
+    /// Takes one event of the matcher. Of a trade the order that was at rest is told first.
+    pub fn step(&mut self, time: Time) -> Step
+        requires room { length self.old.trades < TRADES }
+        requires spare { open_count self.old.rows + 2 ≤ self.old.free }
+        ensures { Stepped time self.old result self.new }
+    {
+        match self.matcher.next_event() {
+            Event::Nothing => Step::Nothing,
+            Event::Expired(number) => {
+                expire(
+                    &mut self.table,
+                    &mut self.store,
+                    &self.instruments,
+                    number,
+                    time,
+                );
+                Step::Expired(number)
+            }
+            Event::Trade {
+                passive,
+                aggressive,
+                quantity,
+                price,
+            } => {
+                let number = self.trades.len() + 1;
+                let deal = Deal {
+                    number,
+                    quantity,
+                    price,
+                };
+                let told = trade(
+                    &mut self.table,
+                    &mut self.store,
+                    &self.instruments,
+                    deal,
+                    passive,
+                    aggressive,
+                    time,
+                );
+                let _ = self.trades.add(told);
+                Step::Traded {
+                    number,
+                    passive,
+                    aggressive,
+                    quantity,
+                    price,
+                }
+            }
+        }
     }
 
     /// What holds of every desk, for callers: they see the value alone.

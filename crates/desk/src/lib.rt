@@ -4,4 +4,6 @@
 pub mod desk;
 pub mod instrument;
 pub mod refusal;
+pub mod step;
 mod telling;
+mod trading;

@@ -8,12 +8,14 @@ ghost use Rattle.orders.specs.Kept.{kept_from};
 ghost use Rattle.partitions.specs.PerPartition.{at};
 ghost use Rattle.changes.specs.Changes.{after};
 ghost use Rattle.changes.specs.Laws.{and_also};
-ghost use Rattle.desk.specs.Ledger.{Uses, appended, changed, entered, entries_of, ledger, next_report, report_count};
+ghost use Rattle.desk.specs.Ledger.{Recorded, Uses, appended, changed, entered, entries_of, ledger, next_report, report_count};
+ghost use Rattle.desk.specs.View.{open_of};
+ghost use Rattle.desk.specs.Steps.{ledger_expired};
 
 use crate::instrument::Instrument;
 use changes::change::{Change, Made, Told};
 use codes::session::Partition;
-use orders::row::{Ask, Terms};
+use orders::row::{Ask, Ending, Terms};
 use orders::table::Table;
 use reports::report::{Entry, ExecutionReport, Report};
 use store::Store;
@@ -124,4 +126,25 @@ pub(crate) fn change<S: Store>(
             tell(store, instrument.partition, terms.owner, &made)
         }
     }
+}
+
+// Withdraws what is open of an order at nobody's request, and tells its owner under the order's own client order id.
+pub(crate) fn expire<S: Store>(
+    table: &mut Table,
+    store: &mut S,
+    instruments: &[Instrument],
+    number: u64,
+    time: Time,
+)
+    requires recorded { Recorded instruments.now table.old (S.kept store.old) }
+    requires opened { is_some (open_of (under table.old number)) ≡ true }
+    requires place { 1 ≤ S.free store.old }
+    ensures after { ledger table.new (S.kept store.new) ≡ ledger_expired instruments.now time number (ledger table.old (S.kept store.old)) }
+    ensures free { Uses 1 (S.free store.old) (S.free store.new) }
+{
+    let Some(order) = table.order(number) else {
+        unreachable!()
+    };
+    let expiry = Change::Withdraw(Ending::Expired, order.row().client);
+    change(table, store, instruments, number, &expiry, time);
 }

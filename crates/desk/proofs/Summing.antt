@@ -1,0 +1,228 @@
+-- Trades, as the orders are filled, and as the fills are undone. Assumes nothing.
+use Rattle.std.specs.Prelude.{nat_le, nat_lt}
+use Rattle.std.proofs.Common.{◌≡◌, ℕ, zero, suc, ◌+◌, ◌-◌, ◌<◌, ◌≤◌, ◌⊎◌, Bool, true, false, cond, ◌&&◌, eqb, List, [], ◌∷◌, ◌++◌, length, Some, None, Option, inl, inr, is_some, refl, sym, ap, ◌∙◌, subst, arith, leb-true, ltb-true, lt-ltb, le-leb}
+use Rattle.std.proofs.lemmas.Bool.{and_parts, and_from, cond-true, cond-false, cases_eq, cases_lt, eq-eqb, ne_eqb, le-ltb}
+use Rattle.std.proofs.lemmas.List.Sums.{sum_by-cons, sum_by_push}
+use Rattle.std.specs.FinMap.{get}
+use Rattle.texts.specs.declared.values.Time.{Time}
+use Rattle.keyed.specs.Look.{put}
+use Rattle.keyed.specs.Numbers.{under, put_under}
+use Rattle.keyed.proofs.Keyed.{put-here, put-apart}
+use Rattle.keyed.proofs.Under.{none-some, under-others}
+use Rattle.matching.specs.declared.matcher.Held.{Held}
+use Rattle.matching.specs.Meaning.{Meaning, Orders, closed, Allowed, Parties, open_quantity, quantity_of, left, filled as taken}
+use Rattle.orders.specs.declared.row.Row.{Row}
+use Rattle.orders.specs.declared.trade.Trade.{Trade}
+use Rattle.orders.specs.declared.row.Ending.TheVariants.{Expired}
+use Rattle.orders.specs.Trades.{Notes}
+use Rattle.limits.specs.declared.TheConstants.{TRADES}
+use Rattle.orders.specs.Rows.{filled, undone}
+use Rattle.orders.specs.Orders.{fillable, undoable}
+use Rattle.orders.specs.Tables.{open_count}
+use Rattle.changes.specs.declared.change.Change.TheVariants.{Fill, Undo, Withdraw}
+use Rattle.changes.specs.declared.change.Fill.{Fill as Filled}
+use Rattle.changes.specs.Changes.{after}
+use Rattle.desk.specs.declared.instrument.Instrument.{Instrument}
+use Rattle.desk.specs.Ledger.{Ledger, changed, Recorded}
+use Rattle.desk.specs.View.{View, Sound, Booked, Filling, held_as, open_of, executed_of, side_of, share_of, traded}
+use Rattle.desk.specs.Trading.{SideAllows, filling, passive_filled, both_filled, trade_of, side_filled, side_told}
+use Rattle.desk.specs.declared.trading.Deal.{Deal}
+use Rattle.desk.specs.declared.instrument.TheConstants.{INSTRUMENTS}
+use Rattle.desk.specs.Steps.{ledger_of, ledger_expired, expired_as}
+use Rattle.codes.specs.declared.report.Liquidity.TheVariants.{Added, Removed}
+use Rattle.matching.specs.declared.event.Event.TheVariants as event
+use Rattle.desk.proofs.Rows.{past_none, push_here, push_apart}
+use Rattle.desk.proofs.Keeps.{booked-changed, one_of, one_open, at_most_one, open_row, sound-withdrawn, recorded-changed, changed-here, changed-apart, changed-open}
+
+-- what is open of a side is at least so much
+abbrev pub SideOpen : Orders → ℕ → Option ℕ → Type 0
+SideOpen os q None = Unit {0}
+SideOpen os q (Some n) = q ≤ open_quantity os n
+
+-- an order of which the matcher holds so much has a row with as much open
+pub record Backed (rows : List Row) (os : Orders) (n q : ℕ) : Type 0 where
+  pub row : Row
+  pub was : under rows n ≡ Some row
+  pub some : 0 < row.leaves
+  pub enough : q ≤ row.leaves
+  pub held : get os n ≡ Some (held_as row)
+
+pub backed : (rows : List Row) (m : Meaning) (n q : ℕ) → Booked rows m → 1 ≤ q → q ≤ open_quantity m.orders n → Backed rows m.orders n q
+backed rows m n q s some h = go (under rows n) refl
+  where
+    nothing : get m.orders n ≡ None → Backed rows m.orders n q
+    nothing e = let z : open_quantity m.orders n ≡ 0 = ap quantity_of e in absurd (let no : ⊥ = omega arith in no)
+
+    test : (r : Row) (x : Bool) → under rows n ≡ Some r → nat_lt 0 r.leaves ≡ x → Backed rows m.orders n q
+    test r true e f =
+        let is : get m.orders n ≡ Some (held_as r) = s n ∙ ap open_of e ∙ cond-true _ _ _ f in
+        let z : open_quantity m.orders n ≡ r.leaves = ap quantity_of is in
+        record { row = r; was = e; some = ltb-true 0 r.leaves f; enough = omega arith; held = is }
+    test r false e f = nothing (s n ∙ ap open_of e ∙ cond-false _ _ _ f)
+
+    go : (x : Option Row) → under rows n ≡ x → Backed rows m.orders n q
+    go None e = nothing (s n ∙ ap open_of e)
+    go (Some r) e = test r (nat_lt 0 r.leaves) e refl
+
+fill_made : (n : ℕ) (f : Filled) (r : Row) → 1 ≤ f.quantity → f.quantity ≤ r.leaves → after n (Fill f) (Some r) ≡ Some (filled f.quantity r)
+fill_made n f r some enough = cond-true _ _ _ (and_from (nat_lt 0 f.quantity) (nat_le f.quantity r.leaves) (lt-ltb 0 f.quantity (omega arith)) (le-leb f.quantity r.leaves enough))
+
+less-left : (q l : ℕ) → nat_lt q l ≡ nat_lt 0 (l - q)
+less-left q l = go (cases_lt q l)
+  where
+    go : (q < l) ⊎ (l ≤ q) → nat_lt q l ≡ nat_lt 0 (l - q)
+    go (inl a) = lt-ltb q l a ∙ sym (lt-ltb 0 (l - q) (omega arith))
+    go (inr b) = le-ltb q l b ∙ sym (le-ltb 0 (l - q) (omega arith))
+
+-- the reports and the matcher, with the rows
+pub record Tied (is : List Instrument) (l : Ledger) (m : Meaning) : Type 0 where
+  pub recorded : Recorded is l.rows l.kept
+  pub booked : Booked l.rows m
+
+abbrev pub part_of : ℕ → ℕ → Option ℕ → ℕ
+part_of k q None = 0
+part_of k q (Some n) = cond (eqb n k) q 0
+
+module _ (is : List Instrument) (t : Time) (f : Filled) (l : Ledger) (m : Meaning) (s : Tied is l m) (some : 1 ≤ f.quantity) where
+  -- one side of a trade
+  pub side-tied : (side : Option ℕ) → SideOpen m.orders f.quantity side → Tied is (side_filled is t f side l) (taken m f.quantity side)
+  side-tied None h = s
+  side-tied (Some n) h =
+      let b = backed l.rows m n f.quantity s.booked some h in
+      let made = fill_made n f b.row some b.enough in
+      let now : left f.quantity (get m.orders n) ≡ open_of (Some (filled f.quantity b.row)) =
+      ap (left f.quantity) b.held ∙ ap (λ x. cond x (Some (held_as (filled f.quantity b.row))) None) (less-left f.quantity b.row.leaves) in
+      record {
+        recorded = recorded-changed is t n (Fill f) l b.row (filled f.quantity b.row) s.recorded b.was made;
+        booked = booked-changed l.rows _ m (taken m f.quantity (Some n)) n (filled f.quantity b.row) s.booked (changed-here is t n (Fill f) l b.row (filled f.quantity b.row) s.recorded b.was made)
+            (changed-apart is t n (Fill f) l b.row (filled f.quantity b.row) s.recorded b.was made) (ap (put m.orders n) now);
+      }
+
+  pub side-allows : (side : Option ℕ) → SideOpen m.orders f.quantity side → SideAllows f side l.rows
+  side-allows None h = tt
+  side-allows (Some n) h =
+      let b = backed l.rows m n f.quantity s.booked some h in
+      ap (λ x. is_some (after n (Fill f) x)) b.was ∙ ap is_some (fill_made n f b.row some b.enough)
+
+  -- a fill opens nothing
+  pub side-count : (side : Option ℕ) → SideOpen m.orders f.quantity side → open_count (side_filled is t f side l).rows ≤ open_count l.rows
+  side-count None h = omega arith
+  side-count (Some n) h =
+      let b = backed l.rows m n f.quantity s.booked some h in
+      let c = changed-open is t n (Fill f) l b.row (filled f.quantity b.row) s.recorded b.was (fill_made n f b.row some b.enough) in
+      let y = one_open b.row b.some in
+      let z = at_most_one (filled f.quantity b.row) in
+      omega arith
+
+  pub side-executed : (side : Option ℕ) → SideOpen m.orders f.quantity side → (k : ℕ) → executed_of (under (side_filled is t f side l).rows k) ≡ executed_of (under l.rows k) + part_of k f.quantity side
+  side-executed None h k = omega arith
+  side-executed (Some n) h k =
+      let b = backed l.rows m n f.quantity s.booked some h in
+      let made = fill_made n f b.row some b.enough in
+      side-at n b.row b.was made k (cases_eq k n)
+    where
+      side-at : (n : ℕ) (r : Row) → under l.rows n ≡ Some r → after n (Fill f) (Some r) ≡ Some (filled f.quantity r) → (k : ℕ) → (k ≡ n) ⊎ (k ≡ n → ⊥)
+          → executed_of (under (changed is t n (Fill f) l).rows k) ≡ executed_of (under l.rows k) + cond (eqb n k) f.quantity 0
+      side-at n r was made k (inl e) =
+          let now = ap (λ j. executed_of (under (changed is t n (Fill f) l).rows j)) e ∙ ap executed_of (changed-here is t n (Fill f) l r (filled f.quantity r) s.recorded was made) in
+          let before = ap (λ j. executed_of (under l.rows j)) e ∙ ap executed_of was in
+          let here : cond (eqb n k) f.quantity 0 ≡ f.quantity = cond-true _ _ _ (eq-eqb n k (sym e)) in
+          omega arith
+      side-at n r was made k (inr ne) =
+          let now = ap executed_of (changed-apart is t n (Fill f) l r (filled f.quantity r) s.recorded was made k ne) in
+          let away : cond (eqb n k) f.quantity 0 ≡ 0 = cond-false _ _ _ (ne_eqb n k (λ e. ne (sym e))) in
+          omega arith
+
+filling-push : (ts : List Trade) (tr : Trade) → Filling ts → 0 < tr.quantity → Filling (ts ++ tr ∷ [])
+filling-push ts tr s some n x e = go (cases_eq n (length ts + 1))
+  where
+    go : (n ≡ length ts + 1) ⊎ (n ≡ length ts + 1 → ⊥) → 0 < x.quantity
+    go (inl q) = let same : tr ≡ x = let h = sym (push_here ts n tr q) ∙ e in cc in subst (λ (y : Trade). 0 < y.quantity) same some
+    go (inr ne) = s n x (sym (push_apart ts n tr ne) ∙ e)
+
+-- the parties of a trade have as much open, one after the other
+pub first_open : (os : Orders) (q : ℕ) (p a : Option ℕ) → Parties os q p a → SideOpen os q p
+first_open os q None None h = tt
+first_open os q (Some p) None h = h
+first_open os q None (Some a) h = tt
+first_open os q (Some p) (Some a) h = h.0
+
+pub second_open : (m : Meaning) (q : ℕ) (p a : Option ℕ) → Parties m.orders q p a → SideOpen (taken m q p).orders q a
+second_open m q None None h = tt
+second_open m q (Some p) None h = tt
+second_open m q None (Some a) h = h
+second_open m q (Some p) (Some a) h =
+    let e = ap quantity_of (put-apart m.orders p (left q (get m.orders p)) a (λ x. h.2 (sym x))) in
+    let l = h.1 in
+    omega arith
+
+told_part : (is : List Instrument) (l : Ledger) (k q : ℕ) (side : Option ℕ) → side_of k q (side_told is side l) ≡ part_of k q side
+told_part is l k q None = refl
+told_part is l k q (Some n) = refl
+
+pub sound-traded : (v w : View) (t : Time) (d : Deal) (p a : Option ℕ) → Sound v → Allowed v.market.orders (event.Trade p a d.quantity d.price) → open_count v.rows + 2 ≤ v.free → w.instruments ≡ v.instruments
+    → ledger_of w ≡ both_filled v.instruments t d p a (ledger_of v) → w.trades ≡ v.trades ++ trade_of v.instruments t d p a (ledger_of v) ∷ [] → w.market ≡ taken (taken v.market d.quantity p) d.quantity a
+    → v.free ≤ w.free + 2 → Sound w
+sound-traded v w t d p a s allowed spare instruments after trades market free =
+    let is = v.instruments in
+    let l = ledger_of v in
+    let q = d.quantity in
+    let l' = passive_filled is t d p l in
+    let m' = taken v.market d.quantity p in
+    let tied : Tied is (ledger_of v) v.market = record { recorded = s.recorded; booked = s.booked } in
+    let first = first_open v.market.orders d.quantity p a allowed.1 in
+    let second = second_open v.market d.quantity p a allowed.1 in
+    let between = side-tied is t (filling d Added) (ledger_of v) v.market tied allowed.0 p first in
+    let tr = trade_of is t d p a (ledger_of v) in
+    let done = side-tied is t (filling d Removed) (passive_filled is t d p (ledger_of v)) (taken v.market d.quantity p) between allowed.0 a second in
+    let rows : w.rows ≡ (both_filled is t d p a (ledger_of v)).rows = ap (λ (x : Ledger). x.rows) after in
+    let kept : w.kept ≡ (both_filled is t d p a (ledger_of v)).kept = ap (λ (x : Ledger). x.kept) after in
+    let count = side-count is t (filling d Added) (ledger_of v) v.market tied allowed.0 p first in
+    let count' = side-count is t (filling d Removed) (passive_filled is t d p (ledger_of v)) (taken v.market d.quantity p) between allowed.0 a second in
+    let rows_open = ap open_count rows in
+    record {
+      listed = subst (λ x. length x ≤ INSTRUMENTS) (sym instruments) s.listed;
+      recorded = subst (λ x. Recorded x w.rows w.kept) (sym instruments) (subst (λ x. Recorded is x w.kept) (sym rows) (subst (Recorded is (both_filled is t d p a (ledger_of v)).rows) (sym kept) done.recorded));
+      booked = subst (λ x. Booked x w.market) (sym rows) (subst (Booked (both_filled is t d p a (ledger_of v)).rows) (sym market) done.booked);
+      spare = omega arith;
+      filling = subst Filling (sym trades) (filling-push v.trades (trade_of is t d p a (ledger_of v)) s.filling allowed.0);
+      summed = λ k.
+          let old = s.summed k in
+          let pushed = ap (traded k) trades ∙ sum_by_push (share_of k) v.trades (trade_of is t d p a (ledger_of v)) in
+          let x = told_part is (ledger_of v) k d.quantity p in
+          let y = told_part is (passive_filled is t d p (ledger_of v)) k d.quantity a in
+          let e = side-executed is t (filling d Added) (ledger_of v) v.market tied allowed.0 p first k in
+          let f = side-executed is t (filling d Removed) (passive_filled is t d p (ledger_of v)) (taken v.market d.quantity p) between allowed.0 a second k in
+          let r = ap (λ u. executed_of (under u k)) rows in
+          omega arith;
+    }
+
+-- what the steps of a trade require
+pub trade_first : (v : View) (d : Deal) (p a : Option ℕ) (t : Time) → Sound v → Allowed v.market.orders (event.Trade p a d.quantity d.price) → SideAllows (filling d Added) p v.rows
+trade_first v d p a t s allowed =
+    side-allows v.instruments t (filling d Added) (ledger_of v) v.market (record { recorded = s.recorded; booked = s.booked }) allowed.0 p (first_open v.market.orders d.quantity p a allowed.1)
+
+pub trade_between : (v : View) (d : Deal) (p a : Option ℕ) (t : Time) → Sound v → Allowed v.market.orders (event.Trade p a d.quantity d.price) → Tied v.instruments (passive_filled v.instruments t d p (ledger_of v)) (taken v.market d.quantity p)
+trade_between v d p a t s allowed =
+    side-tied v.instruments t (filling d Added) (ledger_of v) v.market (record { recorded = s.recorded; booked = s.booked }) allowed.0 p (first_open v.market.orders d.quantity p a allowed.1)
+
+pub trade_second : (v : View) (d : Deal) (p a : Option ℕ) (t : Time) → Sound v → Allowed v.market.orders (event.Trade p a d.quantity d.price) → SideAllows (filling d Removed) a (passive_filled v.instruments t d p (ledger_of v)).rows
+trade_second v d p a t s allowed =
+    side-allows v.instruments t (filling d Removed) (passive_filled v.instruments t d p (ledger_of v)) (taken v.market d.quantity p) (trade_between v d p a t s allowed) allowed.0 a (second_open v.market d.quantity p a allowed.1)
+
+pub trade_noted : (ts ts' : List Trade) (tr : Trade) (out : Option ℕ) → length ts < TRADES → Notes ts tr out ts' → ts' ≡ ts ++ tr ∷ []
+trade_noted ts ts' tr None room h = absurd (let l = h.0 in let no : ⊥ = omega arith in no)
+trade_noted ts ts' tr (Some n) room h = h.2
+
+-- an order that ends in the matcher is open
+pub ends_open : (v : View) (n : ℕ) → Sound v → is_some (get v.market.orders n) ≡ true → is_some (open_of (under v.rows n)) ≡ true
+ends_open v n s h = sym (ap is_some (s.booked n)) ∙ h
+
+pub expiry_told : (is : List Instrument) (t : Time) (n : ℕ) (l : Ledger) (r : Row) → under l.rows n ≡ Some r → ledger_expired is t n l ≡ changed is t n (Withdraw Expired r.client) l
+expiry_told is t n l r e = ap (λ x. expired_as is t n x l) e
+
+pub sound-expired : (v w : View) (t : Time) (n : ℕ) → Sound v → is_some (open_of (under v.rows n)) ≡ true → w.instruments ≡ v.instruments
+    → ledger_of w ≡ ledger_expired v.instruments t n (ledger_of v) → w.trades ≡ v.trades → w.market ≡ closed v.market n → v.free ≤ w.free + 1 → Sound w
+sound-expired v w t n s h instruments after trades market free =
+    let (b, was, some) = open_row v.rows n h in
+    sound-withdrawn v w t n Expired b.client s h instruments (after ∙ expiry_told v.instruments t n (ledger_of v) b was) trades market free
