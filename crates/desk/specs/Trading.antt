@@ -1,16 +1,19 @@
 -- What a trade of the matcher does to the orders. Assumes nothing.
-use Rattle.std.specs.Prelude.{◌≡◌, ℕ, ◌+◌, true, List, [], ◌∷◌, ◌++◌, length, is_some, Some, None, Option, false}
+use Rattle.std.specs.Prelude.{◌≡◌, ℕ, ◌+◌, ◌≤◌, slice_get, true, List, [], ◌∷◌, ◌++◌, length, is_some, Some, None, Option, false}
+use Rattle.codes.specs.Session.{partition_code}
 use Rattle.codes.specs.declared.report.Liquidity.{Liquidity}
 use Rattle.codes.specs.declared.report.Liquidity.TheVariants.{Added, Removed}
 use Rattle.texts.specs.declared.values.Price.{Price}
 use Rattle.texts.specs.declared.values.Time.{Time}
-use Rattle.keyed.specs.Numbers.{under}
+use Rattle.keyed.specs.Numbers.{under, put_under}
 use Rattle.matching.specs.Meaning.{Allowed, happened}
 use Rattle.matching.specs.declared.event.Event.TheVariants as event
 use Rattle.orders.specs.declared.row.Row.{Row}
 use Rattle.orders.specs.declared.trade.Fill.{Fill as Side}
 use Rattle.orders.specs.declared.trade.Trade.{Trade}
-use Rattle.changes.specs.declared.change.Change.TheVariants.{Fill}
+use Rattle.orders.specs.Trades.{void}
+use Rattle.changes.specs.declared.change.Change.TheVariants.{Fill, Undo}
+use Rattle.changes.specs.declared.change.Undone.{Undone}
 use Rattle.changes.specs.declared.change.Fill.{Fill as Filling}
 use Rattle.changes.specs.Changes.{after}
 use Rattle.desk.specs.declared.instrument.Instrument.{Instrument}
@@ -18,7 +21,7 @@ use Rattle.desk.specs.declared.trading.Deal.{Deal}
 use Rattle.desk.specs.declared.step.Step.{Step}
 use Rattle.desk.specs.declared.step.Step.TheVariants.{Nothing, Expired, Traded}
 use Rattle.desk.specs.Ledger.{Ledger, changed, next_report}
-use Rattle.desk.specs.View.{View, IsOpen}
+use Rattle.desk.specs.View.{View, IsOpen, executed_of}
 use Rattle.desk.specs.Steps.{Leaves, expired, ledger_of, with_ledger}
 
 abbrev pub filling : Deal → Liquidity → Filling
@@ -71,3 +74,46 @@ Stepped t v Nothing w = w ≡ v
 Stepped t v (Expired n) w = IsOpen v n × Leaves 1 (expired t n v) w
 Stepped t v (Traded n p a q x) w =
     (n ≡ length v.trades + 1) × Allowed v.market.orders (event.Trade p a q x) × Leaves 2 (traded_to t (next_deal v q x) p a v) w
+
+-- ---- a trade is cancelled
+
+-- the number of the partition of an order's instrument
+abbrev pub partition_in : Option Instrument → ℕ
+partition_in None = 0
+partition_in (Some i) = partition_code i.partition
+
+abbrev pub partition_of : List Instrument → Option Row → ℕ
+partition_of is None = 0
+partition_of is (Some r) = partition_in (slice_get is r.terms.instrument)
+
+-- a side's fill, named by the report that told it
+abbrev pub undoing : List Instrument → ℕ → Side → Ledger → Undone
+undoing is q s l = record {
+  quantity = q;
+  report = record { partition = partition_of is (under l.rows s.order); sequence = s.report };
+}
+
+-- one side's fill is undone and told; a side that is not named changes nothing
+abbrev pub side_undone : List Instrument → Time → ℕ → Option Side → Ledger → Ledger
+side_undone is t q None l = l
+side_undone is t q (Some s) l = changed is t s.order (Undo (undoing is q s l)) l
+
+-- an order that has as much executed
+abbrev pub SideExecuted : ℕ → Option Side → List Row → Type 0
+SideExecuted q None rows = Unit {0}
+SideExecuted q (Some s) rows = (1 ≤ q) × (q ≤ executed_of (under rows s.order))
+
+abbrev pub passive_undone : List Instrument → Time → Trade → Ledger → Ledger
+passive_undone is t tr l = side_undone is t tr.quantity tr.passive l
+
+abbrev pub both_undone : List Instrument → Time → Trade → Ledger → Ledger
+both_undone is t tr l = side_undone is t tr.quantity tr.aggressive (passive_undone is t tr l)
+
+abbrev pub trade_undone : Time → ℕ → Option Trade → View → View
+trade_undone t n None v = v
+trade_undone t n (Some tr) v = record (with_ledger v (both_undone v.instruments t tr (ledger_of v))) {
+  trades = put_under v.trades n (void tr);
+}
+
+abbrev pub undone_to : Time → ℕ → View → View
+undone_to t n v = trade_undone t n (under v.trades n) v

@@ -1,11 +1,11 @@
 // The orders, the trades, a matcher and a store of one day, kept in step.
-ghost use Rattle.std.specs.Prelude.{◌≡◌, ℕ, ◌+◌, ◌-◌, ◌<◌, ◌≤◌, true, length, [], MatchResult};
+ghost use Rattle.std.specs.Prelude.{◌≡◌, ℕ, ◌+◌, ◌-◌, ◌<◌, ◌≤◌, true, length, [], None, MatchResult};
 
 use crate::instrument::Instrument;
 use crate::refusal::AcceptRefusal;
 use crate::step::Step;
 use crate::telling::{append, change, expire, open};
-use crate::trading::{Deal, trade};
+use crate::trading::{Deal, trade, undo};
 use changes::change::Change;
 use codes::session::Partition;
 use limits::ORDERS;
@@ -54,6 +54,7 @@ impl<M: Matcher, S: Store> Desk<M, S> {
     ghost use Rattle.keyed.specs.Numbers.{under};
     ghost use Rattle.orders.specs.Orders.{replace_fault};
     ghost use Rattle.orders.specs.Rows.{orderable};
+    ghost use Rattle.orders.specs.Trades.{void_fault};
     ghost use Rattle.orders.specs.Tables.{latest, open_count};
     ghost use Rattle.partitions.specs.PerPartition.{at};
     ghost use Rattle.matching.specs.Meaning.{Meaning};
@@ -61,7 +62,7 @@ impl<M: Matcher, S: Store> Desk<M, S> {
     ghost use Rattle.texts.specs.Bytes.{said};
     ghost use Rattle.std.specs.FinMap.{len};
     ghost use Rattle.desk.specs.declared.instrument.TheConstants.{INSTRUMENTS};
-    ghost use Rattle.desk.specs.Trading.{Stepped};
+    ghost use Rattle.desk.specs.Trading.{Stepped, undone_to};
     ghost use Rattle.limits.specs.declared.TheConstants.{TRADES};
     ghost use Rattle.desk.specs.View.{Sound, IsOpen, fresh};
     ghost use Rattle.desk.specs.Steps.{Accepts, Leaves, Replaceable, Silent, expired, noted, replaced_to, withdrawn};
@@ -250,6 +251,24 @@ impl<M: Matcher, S: Store> Desk<M, S> {
                     price,
                 }
             }
+        }
+    }
+
+    /// Cancels a trade: its fills are undone and told, the passive order's first.
+    pub fn undo(&mut self, number: u64, time: Time)
+        requires stands { void_fault (under self.old.trades number) ≡ None }
+        requires spare { open_count self.old.rows + 4 ≤ self.old.free }
+        ensures { Leaves 4 (undone_to time number self.old) self.new }
+    {
+        match self.trades.cancel(number) {
+            Err(_) => unreachable!(),
+            Ok(trade) => undo(
+                &mut self.table,
+                &mut self.store,
+                &self.instruments,
+                trade,
+                time,
+            ),
         }
     }
 
