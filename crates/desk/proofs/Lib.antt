@@ -2,3 +2,4 @@ pub mod Recording
 pub mod Rows
 pub mod Keeps
 pub mod Summing
+pub mod Withdrawing

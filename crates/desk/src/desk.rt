@@ -3,6 +3,7 @@ ghost use Rattle.std.specs.Prelude.{◌≡◌, ℕ, ◌+◌, ◌-◌, ◌<◌, �
 
 use crate::instrument::Instrument;
 use crate::refusal::AcceptRefusal;
+use crate::selection::{Cause, Selection};
 use crate::step::Step;
 use crate::telling::{append, change, expire, open};
 use crate::trading::{Deal, trade, undo};
@@ -62,6 +63,7 @@ impl<M: Matcher, S: Store> Desk<M, S> {
     ghost use Rattle.texts.specs.Bytes.{said};
     ghost use Rattle.std.specs.FinMap.{len};
     ghost use Rattle.desk.specs.declared.instrument.TheConstants.{INSTRUMENTS};
+    ghost use Rattle.desk.specs.Selection.{Withdraws, withdrawn_all, withdrawn_if};
     ghost use Rattle.desk.specs.Trading.{Stepped, undone_to};
     ghost use Rattle.limits.specs.declared.TheConstants.{TRADES};
     ghost use Rattle.desk.specs.View.{Sound, IsOpen, fresh};
@@ -269,6 +271,31 @@ impl<M: Matcher, S: Store> Desk<M, S> {
                 trade,
                 time,
             ),
+        }
+    }
+
+    // Withdraws the order of a number, if it is meant.
+    fn withdraw_if(&mut self, number: u64, selection: &Selection, cause: Cause, time: Time)
+        ensures { Withdraws self.old (withdrawn_if selection.now cause time number self.old) self.new }
+    {
+        let Some(order) = self.table.order(number) else {
+            return;
+        };
+        if selection.picks(&order.row()) {
+            match cause {
+                Cause::Request(client) => self.cancel(number, client, time),
+                Cause::LineLost => self.expire(number, time),
+            }
+        }
+    }
+
+    /// Withdraws the open orders that are meant, by rising number, each as `cancel` or `expire` does.
+    pub fn withdraw_all(&mut self, selection: &Selection, cause: Cause, time: Time)
+        ensures { Withdraws self.old (withdrawn_all selection.now cause time self.old) self.new }
+    {
+        let count = self.table.len();
+        for i in 0..count {
+            self.withdraw_if(i + 1, selection, cause, time);
         }
     }
 

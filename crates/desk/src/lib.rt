@@ -4,6 +4,7 @@
 pub mod desk;
 pub mod instrument;
 pub mod refusal;
+pub mod selection;
 pub mod step;
 mod telling;
 mod trading;
