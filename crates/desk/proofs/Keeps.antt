@@ -1,7 +1,7 @@
 -- Every call keeps a desk sound. Assumes nothing.
 use Rattle.std.specs.Prelude.{if◌then◌else◌, slice_get, is_none, nat_le, nat_lt}
-use Rattle.std.proofs.Common.{◌≡◌, ℕ, zero, suc, ◌+◌, ◌-◌, ◌<◌, ◌≤◌, ◌⊎◌, Bool, true, false, cond, ◌&&◌, eqb, List, [], ◌∷◌, ◌++◌, length, Some, None, Ok, Err, Option, Result, is_ok, inl, inr, is_some, refl, sym, ap, ◌∙◌, subst, arith, leb-true, ltb-true, lt-ltb}
-use Rattle.std.proofs.lemmas.Bool.{and_parts, cond-true, cond-false, cases_eq, eq-eqb, ne_eqb, le-ltb}
+use Rattle.std.proofs.Common.{◌≡◌, ℕ, zero, suc, ◌+◌, ◌-◌, ◌<◌, ◌≤◌, ◌⊎◌, Bool, true, false, cond, eqb, List, [], ◌∷◌, ◌++◌, length, Some, None, Ok, Err, Option, Result, is_ok, inl, inr, is_some, refl, sym, ap, ◌∙◌, subst, arith, ltb-true, lt-ltb}
+use Rattle.std.proofs.lemmas.Bool.{and_parts, cond-true, cond-false, cases_eq, ne_eqb, le-ltb}
 use Rattle.std.proofs.lemmas.List.Sums.{fold-append, sum_by-cons, sum_by_push}
 use Rattle.std.specs.Option.{option_map}
 use Rattle.std.specs.Result.{result_err}
@@ -24,9 +24,8 @@ use Rattle.orders.specs.declared.row.Row.{Row}
 use Rattle.orders.specs.declared.row.Ask.{Ask}
 use Rattle.orders.specs.declared.row.Terms.{Terms}
 use Rattle.orders.specs.declared.row.Ending.{Ending}
-use Rattle.orders.specs.Rows.{orderly, orderable, accepted, ended, replaced}
+use Rattle.orders.specs.Rows.{orderable, accepted, ended, replaced}
 use Rattle.orders.specs.Orders.{replace_fault}
-use Rattle.orders.specs.Kept.{kept_from}
 use Rattle.orders.specs.Tables.{is_open, open_count}
 use Rattle.orders.proofs.Kept.{kept_at, kept_none}
 use Rattle.partitions.specs.PerPartition.{at}
@@ -38,14 +37,14 @@ use Rattle.reports.specs.Told.{told_of}
 use Rattle.reports.specs.Tally.{tally}
 use Rattle.store.specs.Kept.{Kept, empty}
 use Rattle.changes.specs.declared.change.Change.{Change}
-use Rattle.changes.specs.declared.change.Change.TheVariants.{Accept, Replace, Withdraw, Fill, Undo}
+use Rattle.changes.specs.declared.change.Change.TheVariants.{Accept, Replace, Withdraw}
 use Rattle.changes.specs.Changes.{after}
 use Rattle.changes.specs.Changes.{after as made_of, where_allowed}
 use Rattle.changes.specs.Laws.{reports_of}
-use Rattle.changes.proofs.Orderly.{allowed, replaceable}
+use Rattle.changes.proofs.Orderly.{replaceable}
 use Rattle.desk.specs.declared.instrument.Instrument.{Instrument}
 use Rattle.desk.specs.declared.instrument.TheConstants.{INSTRUMENTS}
-use Rattle.desk.specs.Ledger.{Ledger, ledger, told_at, told_in, appended, entries_of, rewritten, changed, added, entered, is_at, standing, told_one, all_told, Recorded}
+use Rattle.desk.specs.Ledger.{Ledger, told_at, told_in, appended, entries_of, rewritten, changed, entered, is_at, standing, told_one, all_told, Recorded}
 use Rattle.desk.specs.View.{View, Sound, Booked, Filling, Summed, held_as, open_of, executed_of, traded}
 use Rattle.desk.specs.declared.refusal.AcceptRefusal.TheVariants.{MatcherFull}
 use Rattle.desk.specs.Steps.{Silent, ledger_of, accept_fault}

@@ -1,5 +1,5 @@
 -- One order changes, and its owner is told. Assumes nothing.
-use Rattle.std.specs.Prelude.{slice_get, map, IfSome, is_some}
+use Rattle.std.specs.Prelude.{slice_get, IfSome, is_some}
 use Rattle.std.specs.Option.{option_map}
 use Rattle.std.proofs.Common.{◌≡◌, ℕ, ◌+◌, ◌<◌, ◌≤◌, ◌⊎◌, Bool, true, false, cond, ◌&&◌, eqb, List, [], ◌∷◌, ◌++◌, length, Some, None, Ok, Err, Option, Result, inl, inr, refl, sym, ap, ◌∙◌, subst, append_assoc, append-nil, arith}
 use Rattle.std.proofs.lemmas.Bool.{cond-true, cond-false, eq-eqb, ne_eqb, cases_eq}
@@ -18,12 +18,11 @@ use Rattle.orders.specs.declared.row.Terms.{Terms}
 use Rattle.orders.specs.Rows.{orderly}
 use Rattle.orders.specs.Kept.{kept_from}
 use Rattle.orders.proofs.Kept.{kept_at}
-use Rattle.partitions.specs.PerPartition.{at, with_at}
+use Rattle.partitions.specs.PerPartition.{at}
 use Rattle.partitions.specs.Series.{grown}
 use Rattle.reports.specs.declared.report.Entry.{Entry}
 use Rattle.reports.specs.declared.report.ExecutionReport.{ExecutionReport}
 use Rattle.reports.specs.declared.report.Report.TheVariants.{Execution}
-use Rattle.reports.specs.declared.standing.Standing.{Standing}
 use Rattle.reports.specs.declared.standings.FoldRefusal.{FoldRefusal}
 use Rattle.reports.specs.Fold.{Knowledge, nothing_known, fold}
 use Rattle.reports.specs.Told.{told_of}

@@ -1,8 +1,7 @@
 -- What a change does to the rows. Assumes nothing.
 use Rattle.std.specs.Prelude.{is_none, nat_le, nat_lt, slice_get}
-use Rattle.std.proofs.Common.{◌≡◌, ℕ, zero, suc, ◌+◌, ◌-◌, ◌<◌, ◌≤◌, Bool, true, false, cond, ◌&&◌, List, [], ◌∷◌, ◌++◌, length, length-append, set, Some, None, Option, refl, sym, ap, ◌∙◌, subst, arith, get_or, leb-true, ltb-true}
+use Rattle.std.proofs.Common.{◌≡◌, ℕ, zero, suc, ◌+◌, ◌<◌, true, List, [], ◌∷◌, ◌++◌, length, length-append, set, Some, None, Option, refl, sym, ap, ◌∙◌, subst, arith, get_or, leb-true, ltb-true}
 use Rattle.std.proofs.lemmas.Bool.{and_parts, cond-true}
-use Rattle.std.proofs.lemmas.List.Sums.{sum_by-cons, sum_by_push}
 use Rattle.std.proofs.lemmas.Option.{slice_get-get_or}
 use Rattle.texts.specs.declared.values.Time.{Time}
 use Rattle.keyed.specs.Numbers.{under, put_under}
@@ -14,7 +13,6 @@ use Rattle.orders.specs.declared.row.Terms.{Terms}
 use Rattle.orders.specs.Rows.{orderly, orderable, accepted, replaced, ended, filled, undone}
 use Rattle.orders.specs.Orders.{fillable, undoable, replace_fault}
 use Rattle.orders.specs.Kept.{kept_from}
-use Rattle.orders.specs.Tables.{is_open, open_count}
 use Rattle.orders.proofs.Kept.{kept_at, kept_push, kept_set}
 use Rattle.changes.specs.declared.change.Change.{Change}
 use Rattle.changes.specs.declared.change.Change.TheVariants.{Accept, Replace, Withdraw, Fill, Undo}
@@ -22,7 +20,7 @@ use Rattle.changes.specs.Changes.{after}
 use Rattle.changes.specs.Telling.{report_of, restated_of}
 use Rattle.changes.specs.Laws.{and_also}
 use Rattle.reports.specs.declared.report.ExecutionReport.{ExecutionReport}
-use Rattle.changes.proofs.Orderly.{Figures, figures, orderly_from, allowed, replaceable}
+use Rattle.changes.proofs.Orderly.{figures, orderly_from, allowed, replaceable}
 use Rattle.desk.specs.declared.instrument.Instrument.{Instrument}
 use Rattle.desk.specs.Ledger.{Ledger, ledger, told_at, told_in, appended, entries_of, changed, rewritten}
 use Rattle.desk.proofs.Recording.{Rewrites}

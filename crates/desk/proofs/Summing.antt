@@ -1,7 +1,7 @@
 -- Trades, as the orders are filled, and as the fills are undone. Assumes nothing.
 use Rattle.std.specs.Prelude.{nat_le, nat_lt, slice_get}
-use Rattle.std.proofs.Common.{◌≡◌, ℕ, zero, suc, ◌+◌, ◌-◌, ◌<◌, ◌≤◌, ◌⊎◌, Bool, true, false, cond, ◌&&◌, eqb, List, [], ◌∷◌, ◌++◌, length, Some, None, Option, inl, inr, is_some, refl, sym, ap, ◌∙◌, subst, arith, get_or, leb-true, ltb-true, lt-ltb, le-leb}
-use Rattle.std.proofs.lemmas.Bool.{and_parts, and_from, cond-true, cond-false, cases_eq, cases_lt, eq-eqb, ne_eqb, le-ltb}
+use Rattle.std.proofs.Common.{◌≡◌, ℕ, zero, suc, ◌+◌, ◌-◌, ◌<◌, ◌≤◌, ◌⊎◌, Bool, true, false, cond, eqb, List, [], ◌∷◌, ◌++◌, length, Some, None, Option, inl, inr, is_some, refl, sym, ap, ◌∙◌, subst, arith, get_or, ltb-true, lt-ltb, le-leb}
+use Rattle.std.proofs.lemmas.Bool.{and_from, cond-true, cond-false, cases_eq, cases_lt, eq-eqb, ne_eqb, le-ltb}
 use Rattle.std.proofs.lemmas.List.Sums.{sum_by-cons, sum_by_push}
 use Rattle.std.proofs.lemmas.Option.{slice_get-get_or}
 use Rattle.std.specs.FinMap.{get}
@@ -9,9 +9,8 @@ use Rattle.codes.specs.Session.{partition_code}
 use Rattle.texts.specs.declared.values.Time.{Time}
 use Rattle.keyed.specs.Look.{put}
 use Rattle.keyed.specs.Numbers.{under, put_under}
-use Rattle.keyed.proofs.Keyed.{put-here, put-apart}
+use Rattle.keyed.proofs.Keyed.{put-apart}
 use Rattle.keyed.proofs.Under.{none-some, under-others}
-use Rattle.matching.specs.declared.matcher.Held.{Held}
 use Rattle.matching.specs.Meaning.{Meaning, Orders, closed, Allowed, Parties, open_quantity, quantity_of, left, filled as taken}
 use Rattle.orders.specs.declared.row.Row.{Row}
 use Rattle.orders.specs.declared.trade.Trade.{Trade}
@@ -22,7 +21,6 @@ use Rattle.orders.specs.declared.trade.TradeRefusal.TheVariants.{DoneBefore}
 use Rattle.changes.specs.declared.change.Undone.{Undone}
 use Rattle.limits.specs.declared.TheConstants.{TRADES}
 use Rattle.orders.specs.Rows.{filled, undone}
-use Rattle.orders.specs.Orders.{fillable, undoable}
 use Rattle.orders.specs.Tables.{open_count}
 use Rattle.changes.specs.declared.change.Change.TheVariants.{Fill, Undo, Withdraw}
 use Rattle.changes.specs.declared.change.Fill.{Fill as Filled}

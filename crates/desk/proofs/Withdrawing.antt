@@ -1,7 +1,7 @@
 -- Open orders that are withdrawn together. Assumes nothing.
 use Rattle.std.specs.Prelude.{nat_lt}
-use Rattle.std.proofs.Common.{◌≡◌, ℕ, suc, ◌+◌, ◌<◌, ◌≤◌, Bool, true, false, cond, Some, None, Option, is_some, refl, sym, ap, ◌∙◌, arith, lt-ltb, ltb-true}
-use Rattle.std.proofs.lemmas.Bool.{cond-true, cond-false, and_parts}
+use Rattle.std.proofs.Common.{◌≡◌, ℕ, suc, ◌+◌, ◌<◌, Bool, true, false, cond, Some, refl, sym, ap, ◌∙◌, arith, lt-ltb, ltb-true}
+use Rattle.std.proofs.lemmas.Bool.{cond-true, and_parts}
 use Rattle.texts.specs.declared.values.Time.{Time}
 use Rattle.texts.specs.declared.fixed.FixedText.{FixedText}
 use Rattle.keyed.specs.Numbers.{under}
@@ -11,13 +11,12 @@ use Rattle.orders.specs.declared.row.Ending.TheVariants.{Cancelled, Expired}
 use Rattle.orders.specs.Rows.{ended}
 use Rattle.orders.specs.Tables.{open_count}
 use Rattle.changes.specs.declared.change.Change.TheVariants.{Withdraw}
-use Rattle.changes.specs.Changes.{after}
 use Rattle.desk.specs.declared.selection.Cause.{Cause}
 use Rattle.desk.specs.declared.selection.Cause.TheVariants.{Request, LineLost}
 use Rattle.desk.specs.declared.selection.Selection.{Selection}
 use Rattle.desk.specs.Ledger.{Ledger, changed}
 use Rattle.desk.specs.Selection.{picks, picks_at, withdrawn_for, withdrawn_if, withdrawn_to, Withdraws}
-use Rattle.desk.specs.Steps.{Leaves, ledger_of, ledger_expired, expired, withdrawn}
+use Rattle.desk.specs.Steps.{Leaves, ledger_of}
 use Rattle.desk.specs.View.{View, Sound}
 use Rattle.desk.proofs.Keeps.{one_open, one_done, changed-open}
 use Rattle.desk.proofs.Summing.{expiry_told}

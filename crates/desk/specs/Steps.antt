@@ -1,5 +1,5 @@
 -- What each call of a desk answers, and what it leaves. Assumes nothing.
-use Rattle.std.specs.Prelude.{◌≡◌, ℕ, ◌+◌, ◌-◌, ◌≤◌, true, List, length, is_some, Some, None, Ok, Err, Option, Result, nat_le, nat_lt, if◌then◌else◌}
+use Rattle.std.specs.Prelude.{◌≡◌, ℕ, ◌+◌, ◌-◌, true, List, length, is_some, Some, None, Ok, Err, Option, Result, nat_le, nat_lt, if◌then◌else◌}
 use Rattle.std.specs.FinMap.{len}
 use Rattle.keyed.specs.Numbers.{under}
 use Rattle.limits.specs.declared.TheConstants.{ORDERS}

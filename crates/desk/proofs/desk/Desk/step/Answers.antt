@@ -5,7 +5,7 @@ use Rattle.codes.specs.declared.report.Liquidity.TheVariants.{Removed}
 use Rattle.orders.specs.Tables.{open_count}
 use Rattle.orders.specs.declared.trade.Trade.{Trade}
 use Rattle.desk.specs.declared.trading.Deal.{Deal}
-use Rattle.desk.specs.Ledger.{Recorded, ledger}
+use Rattle.desk.specs.Ledger.{Recorded}
 use Rattle.desk.specs.Steps.{ledger_expired, ledger_of}
 use Rattle.desk.specs.Trading.{SideAllows, filling, passive_filled, both_filled, trade_of}
 use Rattle.desk.specs.View.{View}

@@ -1,4 +1,4 @@
-use Rattle.std.specs.Prelude.{◌≡◌, ◌≤◌, ◌+◌, None, refl}
+use Rattle.std.specs.Prelude.{◌≤◌, ◌+◌, refl}
 use Rattle.std.proofs.Common.{sym, ap, ◌∙◌, subst, arith}
 use Rattle.orders.specs.Tables.{open_count}
 use Rattle.orders.specs.Trades.{void_fault}

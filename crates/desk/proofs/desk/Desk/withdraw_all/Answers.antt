@@ -1,5 +1,5 @@
 use Rattle.std.specs.Prelude.{◌≡◌, length}
-use Rattle.std.proofs.Common.{sym, ap, ◌∙◌, subst, add-one, arith}
+use Rattle.std.proofs.Common.{ap, ◌∙◌, subst, add-one, arith}
 use Rattle.desk.specs.Selection.{withdrawn_to, Withdraws}
 use Rattle.desk.specs.View.{View}
 use Rattle.desk.proofs.Withdrawing.{withdraws_none, withdraws_more}

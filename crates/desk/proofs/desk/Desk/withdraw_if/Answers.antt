@@ -1,4 +1,3 @@
-use Rattle.std.specs.Prelude.{◌≡◌}
 use Rattle.std.proofs.Common.{sym, ap, ◌∙◌, subst}
 use Rattle.keyed.specs.Numbers.{under}
 use Rattle.desk.specs.Selection.{picks, withdrawn_for}
