@@ -1,10 +1,9 @@
 -- Every call keeps a desk sound. Assumes nothing.
 use Rattle.std.specs.Prelude.{if◌then◌else◌, slice_get, is_none, nat_le, nat_lt}
-use Rattle.std.proofs.Common.{◌≡◌, ℕ, zero, suc, ◌+◌, ◌-◌, ◌<◌, ◌≤◌, ◌⊎◌, Bool, true, false, cond, eqb, List, [], ◌∷◌, ◌++◌, length, Some, None, Ok, Err, Option, Result, is_ok, inl, inr, is_some, refl, sym, ap, ◌∙◌, subst, arith, ltb-true, lt-ltb}
+use Rattle.std.proofs.Common.{◌≡◌, ℕ, zero, suc, ◌+◌, ◌-◌, ◌<◌, ◌≤◌, ◌⊎◌, Bool, true, false, cond, eqb, List, [], ◌∷◌, ◌++◌, length, Some, None, Ok, Option, inl, inr, is_some, refl, sym, ap, ◌∙◌, subst, arith, ltb-true, lt-ltb}
 use Rattle.std.proofs.lemmas.Bool.{and_parts, cond-true, cond-false, cases_eq, ne_eqb, le-ltb}
 use Rattle.std.proofs.lemmas.List.Sums.{fold-append, sum_by-cons, sum_by_push}
 use Rattle.std.specs.Option.{option_map}
-use Rattle.std.specs.Result.{result_err}
 use Rattle.std.specs.FinMap.{get, len, get-empty, len-empty, empty_of_len}
 use Rattle.std.specs.Ordering.{nat_cmp}
 use Rattle.codes.specs.declared.session.Partition.{Partition}
@@ -16,7 +15,7 @@ use Rattle.keyed.specs.Numbers.{under, put_under}
 use Rattle.keyed.proofs.Keyed.{put-here, put-apart}
 use Rattle.keyed.proofs.Under.{none-some, under-others}
 use Rattle.limits.specs.declared.TheConstants.{ORDERS, SHARES}
-use Rattle.matching.specs.Meaning.{Meaning, opened, closed, resized, amend_refusal, cancel_refusal, enter_refusal}
+use Rattle.matching.specs.Meaning.{Meaning, opened, closed, resized, enter_refusal}
 use Rattle.matching.specs.declared.matcher.Held.{Held}
 use Rattle.matching.specs.declared.matcher.Refusal.{Refusal}
 use Rattle.matching.specs.declared.matcher.Refusal.TheVariants.{Full}
@@ -251,10 +250,6 @@ sound-withdrawn v w t n e i s h instruments after trades market free =
 pub cancel_holds : (v : View) (n : ℕ) → Sound v → is_some (open_of (under v.rows n)) ≡ true → is_some (get v.market.orders n) ≡ true
 cancel_holds v n s h = ap is_some (s.booked n) ∙ h
 
-pub cancelled : (v : View) (m : Meaning) (n : ℕ) (out : Result (Unit {0}) Refusal) → Sound v → is_some (open_of (under v.rows n)) ≡ true → result_err out ≡ cancel_refusal v.market n → m ≡ (if is_ok out then closed v.market n else v.market) → m ≡ closed v.market n
-cancelled v m n (Ok u) s h refused is = is
-cancelled v m n (Err e) s h refused is = let no : ◌≡◌ {A = Option Refusal} (Some e) None = refused ∙ cond-true _ _ _ (cancel_holds v n s h) in absurd (cc)
-
 -- ---- a new order
 
 executed-new : (rows : List Row) (r : Row) → r.executed ≡ 0 → (j : ℕ) → executed_of (under (rows ++ r ∷ []) j) ≡ executed_of (under rows j)
@@ -335,15 +330,11 @@ replace_above rows n a b h e =
     let same : x ≡ b = let q = e ∙ was in cc in
     subst (λ (y : Row). y.executed < a.quantity) same above
 
-pub amended : (v : View) (m : Meaning) (n q q' : ℕ) (a : Ask) (out : Result (Unit {0}) Refusal) → Sound v → is_some (made_of n (Replace a) (under v.rows n)) ≡ true → q' ≡ q → q ≡ a.quantity - executed_of (under v.rows n)
-    → result_err out ≡ amend_refusal v.market n q' → m ≡ (if is_ok out then resized v.market n q' else v.market) → m ≡ resized v.market n q
-amended v m n q q' a (Ok u) s h same amount refused is = is ∙ ap (resized v.market n) same
-amended v m n q q' a (Err e) s h same amount refused is =
+-- the matcher holds it
+pub replace_held : (v : View) (n : ℕ) (a : Ask) → Sound v → is_some (made_of n (Replace a) (under v.rows n)) ≡ true → is_some (get v.market.orders n) ≡ true
+replace_held v n a s h =
     let (b, was, made, some, above) = replace_fits v.rows n a h in
-    let held : is_some (get v.market.orders n) ≡ true = ap is_some (s.booked n ∙ ap open_of was ∙ cond-true _ _ _ (lt-ltb 0 b.leaves some)) in
-    let size : q' ≡ a.quantity - b.executed = same ∙ amount ∙ ap (λ x. a.quantity - executed_of x) was in
-    let no : ◌≡◌ {A = Option Refusal} (Some e) None = refused ∙ cond-true _ _ _ held ∙ cond-false _ _ _ (ne_eqb q' 0 (λ z. absurd (let no : ⊥ = omega arith in no))) in
-    absurd (cc)
+    ap is_some (s.booked n ∙ ap open_of was ∙ cond-true _ _ _ (lt-ltb 0 b.leaves some))
 
 pub sound-replaced : (v w : View) (t : Time) (n q : ℕ) (a : Ask) → Sound v → is_some (made_of n (Replace a) (under v.rows n)) ≡ true → open_count v.rows + 1 ≤ v.free → w.instruments ≡ v.instruments
     → ledger_of w ≡ changed v.instruments t n (Replace a) (ledger_of v) → w.trades ≡ v.trades → q ≡ a.quantity - executed_of (under v.rows n) → w.market ≡ resized v.market n q → v.free ≤ w.free + 1 → Sound w

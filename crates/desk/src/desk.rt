@@ -1,6 +1,7 @@
 // The orders, the trades, a matcher and a store of one day, kept in step.
 ghost use Rattle.std.specs.Prelude.{◌≡◌, ℕ, ◌+◌, ◌-◌, ◌<◌, ◌≤◌, true, length, [], None, MatchResult};
 
+use crate::asking::{resize, take_out};
 use crate::instrument::Instrument;
 use crate::refusal::AcceptRefusal;
 use crate::selection::{Cause, Selection};
@@ -144,7 +145,7 @@ impl<M: Matcher, S: Store> Desk<M, S> {
         requires { IsOpen self.old number }
         ensures { Leaves 1 (withdrawn time number ending client self.old) self.new }
     {
-        let _ = self.matcher.cancel(number);
+        take_out(&mut self.matcher, number);
         let withdrawal = Change::Withdraw(ending, client);
         change(
             &mut self.table,
@@ -184,7 +185,7 @@ impl<M: Matcher, S: Store> Desk<M, S> {
             unreachable!()
         };
         let quantity = ask.quantity - order.row().executed;
-        let _ = self.matcher.amend(number, quantity, ask.price);
+        resize(&mut self.matcher, number, quantity, ask.price);
         let replacement = Change::Replace(ask);
         change(
             &mut self.table,

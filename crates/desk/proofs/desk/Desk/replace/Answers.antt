@@ -7,8 +7,12 @@ use Rattle.desk.specs.Ledger.{changed, ledger}
 use Rattle.desk.specs.Steps.{Replaceable}
 use Rattle.desk.specs.View.{View, executed_of}
 use Rattle.desk.specs.Inside.{view}
-use Rattle.desk.proofs.Keeps.{amended, sound-replaced}
+use Rattle.desk.proofs.Keeps.{replace_held, sound-replaced}
 use Rattle.desk.proofs.desk.Desk.replace.Goals as goal
+
+pub resize-requires-clause-opened : goal.resize-requires-clause-opened
+resize-requires-clause-opened g c =
+    replace_held (view g.M.Matcher g.S.Store c.self.inside) c.args.number c.args.ask c.self.invariant (subst (λ (x : View). Replaceable x c.args.number c.args.ask) (sym c.self.view_is) c.requires.allowed)
 
 pub invariant_of-self : goal.invariant_of-self
 invariant_of-self g c =
@@ -18,4 +22,4 @@ invariant_of-self g c =
     let amount = ap (λ (x : Row). c.args.ask.quantity - x.executed) c.row.ensures.is ∙ ap (λ x. c.args.ask.quantity - executed_of x) c.in-Some.ensures in
     sound-replaced v _ c.args.time c.args.number _ c.args.ask c.self.invariant h spare refl
     (c.change.ensures.after ∙ ap (λ is. changed is c.args.time c.args.number (Replace c.args.ask) (ledger v.rows v.kept)) c.deref.ensures.value) refl
-    amount (amended v _ c.args.number _ _ c.args.ask c.amend.result c.self.invariant h refl amount c.amend.ensures.refusal c.amend.ensures.after) (omega arith)
+    amount c.resize.ensures (omega arith)
