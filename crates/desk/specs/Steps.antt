@@ -41,7 +41,8 @@ pub record Leaves (most : ℕ) (u w : View) : Type 0 where
 -- why no order is accepted, tried in this order
 abbrev pub accept_fault : View → Option AcceptRefusal
 accept_fault v =
-    if nat_lt (length v.rows) ORDERS then (if nat_le v.market.capacity (len v.market.orders) then Some MatcherFull else None)
+    if nat_lt (length v.rows) ORDERS
+    then (if nat_le v.market.capacity (len v.market.orders) then Some MatcherFull else None)
     else Some OrdersFull
 
 -- the number of each refusal
@@ -63,7 +64,8 @@ Accepts t s a v (Err e) w = (accept_fault v ≡ Some e) × (w ≡ v)
 
 -- what is open of an order is withdrawn from the matcher, and reported under a client order id
 abbrev pub withdrawn : Time → ℕ → Ending → FixedText 20 → View → View
-withdrawn t n e c v = record (with_ledger v (changed v.instruments t n (Withdraw e c) (ledger_of v))) { market = closed v.market n }
+withdrawn t n e c v =
+    record (with_ledger v (changed v.instruments t n (Withdraw e c) (ledger_of v))) { market = closed v.market n }
 
 -- likewise at nobody's request, under the client order id of the order
 abbrev pub expired_as : List Instrument → Time → ℕ → Option Row → Ledger → Ledger

@@ -73,7 +73,8 @@ abbrev pub Stepped : Time → View → Step → View → Type 0
 Stepped t v Nothing w = w ≡ v
 Stepped t v (Expired n) w = IsOpen v n × Leaves 1 (expired t n v) w
 Stepped t v (Traded n p a q x) w =
-    (n ≡ length v.trades + 1) × Allowed v.market.orders (event.Trade p a q x) × Leaves 2 (traded_to t (next_deal v q x) p a v) w
+    (n ≡ length v.trades + 1) × Allowed v.market.orders (event.Trade p a q x)
+    × Leaves 2 (traded_to t (next_deal v q x) p a v) w
 
 -- ---- a trade is cancelled
 
