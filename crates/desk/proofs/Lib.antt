@@ -1,0 +1,5 @@
+pub mod Recording
+pub mod Rows
+pub mod Keeps
+pub mod Summing
+pub mod Withdrawing
