@@ -1,4 +1,4 @@
-// Plays a script of calls on a lit book, read from standard input, and prints what each did.
+// Plays a script of calls on a lit book, and prints what each did.
 #![tactic(auto)]
 
 use auction_script::account::Account;
@@ -6,14 +6,30 @@ use auction_script::command::Command;
 use auction_script::ladder::ladder;
 use auction_script::line;
 use auction_script::line::Line;
+use console::{About, Session};
 use lit_book::book::LitBook;
 use matching::event::Event;
 use matching::matcher::{Matcher, Refusal};
 use std::io;
-use std::io::{BufRead, BufReader};
+use std::process::ExitCode;
 
-fn answer(
-    rt: &HostRuntime,
+const ABOUT: About = About {
+    name: "auction",
+    summary: "Plays a script of calls on a lit order book, a line each, and prints what each did; then an account.",
+    words: "  enter NUMBER INSTRUMENT buy|sell market|limit day|ioc PRICE QTY
+                   opens an order; a market order has a price word too, which is not kept
+  cancel NUMBER    ends an order
+  amend NUMBER QTY PRICE
+                   sets the open quantity and the price of an order
+  run              takes events until there is none
+  book             shows the orders at rest, and how many wait
+  # ...            a comment; blank lines are passed over too
+
+All numbers are whole.",
+};
+
+fn answer<R: Print>(
+    rt: &R,
     account: &mut Account,
     done: &str,
     res: Result<(), Refusal>,
@@ -26,7 +42,7 @@ fn answer(
 }
 
 // Every event until there is none.
-fn run(rt: &HostRuntime, account: &mut Account, book: &mut LitBook) -> io::Result<()> {
+fn run<R: Print>(rt: &R, account: &mut Account, book: &mut LitBook) -> io::Result<()> {
     for _ in 0..=book.most_events() {
         let event = book.next_event();
         account.event(event);
@@ -38,7 +54,7 @@ fn run(rt: &HostRuntime, account: &mut Account, book: &mut LitBook) -> io::Resul
     Ok(())
 }
 
-fn show(rt: &HostRuntime, book: &LitBook) -> io::Result<()> {
+fn show<R: Print + AllocGlobal>(rt: &R, book: &LitBook) -> io::Result<()> {
     let shown = ladder(rt.alloc(), book.resting())?;
     for order in shown.iter() {
         rt.println(*order)?;
@@ -47,8 +63,8 @@ fn show(rt: &HostRuntime, book: &LitBook) -> io::Result<()> {
     println!(rt; "waiting: {waiting}")
 }
 
-fn obey(
-    rt: &HostRuntime,
+fn obey<R: Print + AllocGlobal>(
+    rt: &R,
     account: &mut Account,
     book: &mut LitBook,
     order: Command,
@@ -71,8 +87,8 @@ fn obey(
     }
 }
 
-fn answer_line(
-    rt: &HostRuntime,
+fn answer_line<R: Print + AllocGlobal>(
+    rt: &R,
     account: &mut Account,
     book: &mut LitBook,
     line: &[u8],
@@ -84,24 +100,41 @@ fn answer_line(
     }
 }
 
-// Lines are read as bytes, so that one that is no text is answered like any other.
-fn main(rt: HostRuntime) -> io::Result<()> {
-    let mut book = LitBook::new(rt.alloc())?;
-    let mut account = Account::new();
-    let mut input = BufReader::new(rt.alloc(), rt.stdin())?;
-    let mut line = Vec::new(rt.alloc());
-    for _ in 0..u64::MAX {
-        line.clear();
-        if input.read_until(b'\n', &mut line)? == 0 {
-            break;
-        }
-        answer_line(&rt, &mut account, &mut book, line.as_slice())?;
+/// A book, and what has been done on it.
+#[derive(Drop)]
+struct Auction {
+    book: LitBook,
+    account: Account,
+}
+
+impl Session for Auction {
+    fn line<R: Print + AllocGlobal>(&mut self, rt: &R, line: &[u8]) -> io::Result<()> {
+        answer_line(rt, &mut self.account, &mut self.book, line)
     }
-    let accepted = account.accepted;
-    let refused = account.refused;
-    let trades = account.trades;
-    let traded = account.traded;
-    let expired = account.expired;
-    println!(rt; "calls: {accepted} accepted, {refused} refused")?;
-    println!(rt; "events: {trades} trades of {traded}, {expired} expired")
+
+    fn close<R: Print + AllocGlobal>(&mut self, rt: &R) -> io::Result<()> {
+        let accepted = self.account.accepted;
+        let refused = self.account.refused;
+        let trades = self.account.trades;
+        let traded = self.account.traded;
+        let expired = self.account.expired;
+        println!(rt; "calls: {accepted} accepted, {refused} refused")?;
+        println!(rt; "events: {trades} trades of {traded}, {expired} expired")
+    }
+}
+
+fn main(rt: HostRuntime) -> ExitCode {
+    match LitBook::new(rt.alloc()) {
+        Ok(book) => {
+            let mut auction = Auction {
+                book,
+                account: Account::new(),
+            };
+            console::run(&rt, ABOUT, &mut auction)
+        }
+        Err(_) => {
+            let _ = eprintln!(rt; "auction: out of memory");
+            ExitCode::FAILURE
+        }
+    }
 }

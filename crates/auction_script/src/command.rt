@@ -10,21 +10,6 @@ use std::fmt;
 use terms::pricing::Pricing;
 use texts::values::Price;
 
-/// Every call of a script: its words, and what it does.
-pub const CALLS: [(&str, &str); 5] = [
-    (
-        "enter NUMBER INSTRUMENT buy|sell market|limit day|ioc PRICE QUANTITY",
-        "enter an order; a market order's price is not kept",
-    ),
-    ("cancel NUMBER", "end an open order"),
-    (
-        "amend NUMBER QUANTITY PRICE",
-        "give an open order another quantity and price",
-    ),
-    ("run", "take every event until there is none"),
-    ("book", "show the orders at rest, and how many wait"),
-];
-
 /// One call of a script.
 #[derive(Clone, Copy, Debug, PartialEq)]
 pub enum Command {

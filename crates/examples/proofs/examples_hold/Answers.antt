@@ -4,7 +4,6 @@ use Rattle.texts.specs.Identifiers.{base62}
 use Rattle.layout.specs.Layout.{taken, is_order, first_bad}
 use Rattle.orders.specs.Examples.{Examples as OrdersWorked}
 use Rattle.lit_book.proofs.Examples.{last_refused}
-use Rattle.wire.specs.Kinds.{takes, total_of}
 use Rattle.wire.specs.Messages.{opening}
 use Rattle.examples.proofs.examples_hold.Goals as goal
 
@@ -12,5 +11,5 @@ orders-worked : OrdersWorked
 orders-worked t a = record { part = refl; left = refl; cancelled = refl; expired = refl; back_ordered = refl; back_withdrawn = refl; back_executed = refl; back_open = refl; back_status = refl; done = refl; nothing_left = refl; at_executed = refl; above_executed = refl; one_left = refl }
 
 pub returns : goal.returns
-unfolding opening takes total_of first_bad taken is_order is_text named base62
+unfolding opening first_bad taken is_order is_text named base62
 returns c = (refl, refl, refl, refl, refl, refl, refl, refl, refl, (refl, refl, refl), last_refused, orders-worked)
