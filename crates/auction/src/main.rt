@@ -2,11 +2,13 @@
 #![tactic(auto)]
 
 use auction_script::account::Account;
-use auction_script::command;
 use auction_script::command::Command;
 use auction_script::ladder::ladder;
+use auction_script::line;
+use auction_script::line::Line;
 use lit_book::book::LitBook;
-use matching::matcher::{Event, Matcher, Refusal};
+use matching::event::Event;
+use matching::matcher::{Matcher, Refusal};
 use std::io;
 use std::io::{BufRead, BufReader};
 
@@ -69,23 +71,31 @@ fn obey(
     }
 }
 
-fn line(rt: &HostRuntime, account: &mut Account, book: &mut LitBook, text: &str) -> io::Result<()> {
-    let words: Vec<&str> = text.split_whitespace().collect(rt.alloc())?;
-    if words.is_empty() {
-        return Ok(());
-    }
-    match command::read(&words) {
-        Ok(order) => obey(rt, account, book, order),
-        Err(word) => println!(rt; "not read: {word}"),
+fn answer_line(
+    rt: &HostRuntime,
+    account: &mut Account,
+    book: &mut LitBook,
+    line: &[u8],
+) -> io::Result<()> {
+    match line::read(rt.alloc(), line)? {
+        Line::Skipped => Ok(()),
+        Line::Call(order) => obey(rt, account, book, order),
+        Line::Misread(word) => println!(rt; "not read: {word}"),
     }
 }
 
+// Lines are read as bytes, so that one that is no text is answered like any other.
 fn main(rt: HostRuntime) -> io::Result<()> {
     let mut book = LitBook::new(rt.alloc())?;
     let mut account = Account::new();
-    for text in BufReader::new(rt.alloc(), rt.stdin())?.lines(rt.alloc()) {
-        let text = text?;
-        line(&rt, &mut account, &mut book, text.as_str())?;
+    let mut input = BufReader::new(rt.alloc(), rt.stdin())?;
+    let mut line = Vec::new(rt.alloc());
+    for _ in 0..u64::MAX {
+        line.clear();
+        if input.read_until(b'\n', &mut line)? == 0 {
+            break;
+        }
+        answer_line(&rt, &mut account, &mut book, line.as_slice())?;
     }
     let accepted = account.accepted;
     let refused = account.refused;

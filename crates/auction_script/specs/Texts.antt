@@ -1,9 +1,10 @@
--- How the word of a line that cannot be read is named. Assumes nothing.
+-- How what cannot be read of a line is named. Assumes nothing.
 use Rattle.std.specs.Prelude.{ℕ, List, codes}
 use Rattle.auction_script.specs.declared.command.Misread.{Misread}
-use Rattle.auction_script.specs.declared.command.Misread.TheVariants.{Call, Number, Instrument, Side, OrderType, TimeInForce, Price, Quantity}
+use Rattle.auction_script.specs.declared.command.Misread.TheVariants.{Text, Call, Number, Instrument, Side, OrderType, TimeInForce, Price, Quantity}
 
 abbrev pub misread_text : Misread → List ℕ
+misread_text Text = codes "text"
 misread_text Call = codes "call"
 misread_text Number = codes "number"
 misread_text Instrument = codes "instrument"

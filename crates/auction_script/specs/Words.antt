@@ -1,35 +1,55 @@
--- What a single word of a script says: r is what it names, or none where it names nothing. Assumes nothing.
-use Rattle.std.specs.Prelude.{◌≡◌, ℕ, ◌^◌, ◌<◌, List, ℤ, Some, None, codes, Option, FitsSigned, ◌≢◌}
+-- What a single word of a script says, or that it says nothing that is understood. Assumes nothing.
+use Rattle.std.specs.Prelude.{◌≡◌, ◌≢◌, ℕ, ◌^◌, ◌<◌, ◌⊎◌, List, Ok, Err, codes, FitsSigned, Result}
 use Rattle.std.specs.Int.{w64}
 use Rattle.std.specs.Str.Parse.{IsNumeral, without_leading_plus, without_leading_sign, signed_digits_value, digits_value}
-use Rattle.matching.specs.declared.terms.Side.{Side}
-use Rattle.matching.specs.declared.terms.Side.TheVariants.{Buy, Sell}
-use Rattle.matching.specs.declared.terms.TimeInForce.{TimeInForce}
-use Rattle.matching.specs.declared.terms.TimeInForce.TheVariants.{Day, ImmediateOrCancel}
-use Rattle.auction_script.specs.declared.words.Kind.{Kind}
-use Rattle.auction_script.specs.declared.words.Kind.TheVariants.{AtMarket, AtLimit}
+use Rattle.codes.specs.declared.order.OrderType.{OrderType}
+use Rattle.codes.specs.declared.order.OrderType.TheVariants.{Market, Limit}
+use Rattle.codes.specs.declared.order.Side.{Side}
+use Rattle.codes.specs.declared.order.Side.TheVariants.{Buy, Sell}
+use Rattle.codes.specs.declared.order.TimeInForce.{TimeInForce}
+use Rattle.codes.specs.declared.order.TimeInForce.TheVariants.{Day, GoodTillCancel, ImmediateOrCancel, FillOrKill, GoodTillDate, GoodTillTime}
+use Rattle.texts.specs.declared.values.Price.{Price}
+use Rattle.auction_script.specs.declared.command.Misread.{Misread}
+use Rattle.auction_script.specs.declared.command.Misread.TheVariants as misread
 
-abbrev pub SideWord : List ℕ → Option Side → Type 0
-SideWord w (Some Buy) = w ≡ codes "buy"
-SideWord w (Some Sell) = w ≡ codes "sell"
-SideWord w None = (w ≢ codes "buy") × (w ≢ codes "sell")
+-- a word that is one of two
+abbrev pub OneOf : List ℕ → List ℕ → List ℕ → Type 0
+OneOf one other w = (w ≡ one) ⊎ (w ≡ other)
 
-abbrev pub KindWord : List ℕ → Option Kind → Type 0
-KindWord w (Some AtMarket) = w ≡ codes "market"
-KindWord w (Some AtLimit) = w ≡ codes "limit"
-KindWord w None = (w ≢ codes "market") × (w ≢ codes "limit")
+abbrev pub Neither : List ℕ → List ℕ → List ℕ → Type 0
+Neither one other w = (w ≢ one) × (w ≢ other)
 
-abbrev pub ForceWord : List ℕ → Option TimeInForce → Type 0
-ForceWord w (Some Day) = w ≡ codes "day"
-ForceWord w (Some ImmediateOrCancel) = w ≡ codes "ioc"
-ForceWord w None = (w ≢ codes "day") × (w ≢ codes "ioc")
+abbrev pub SideRead : List ℕ → Result Side Misread → Type 0
+SideRead w (Ok Buy) = w ≡ codes "buy"
+SideRead w (Ok Sell) = w ≡ codes "sell"
+SideRead w (Err e) = (e ≡ misread.Side) × Neither (codes "buy") (codes "sell") w
+
+abbrev pub KindRead : List ℕ → Result OrderType Misread → Type 0
+KindRead w (Ok Market) = w ≡ codes "market"
+KindRead w (Ok Limit) = w ≡ codes "limit"
+KindRead w (Err e) = (e ≡ misread.OrderType) × Neither (codes "market") (codes "limit") w
+
+abbrev pub ForceRead : List ℕ → Result TimeInForce Misread → Type 0
+ForceRead w (Ok Day) = w ≡ codes "day"
+ForceRead w (Ok GoodTillCancel) = ⊥
+ForceRead w (Ok ImmediateOrCancel) = w ≡ codes "ioc"
+ForceRead w (Ok FillOrKill) = ⊥
+ForceRead w (Ok GoodTillDate) = ⊥
+ForceRead w (Ok GoodTillTime) = ⊥
+ForceRead w (Err e) = (e ≡ misread.TimeInForce) × Neither (codes "day") (codes "ioc") w
 
 -- a number of k bits in decimal digits
-abbrev pub NumberWord : ℕ → List ℕ → Option ℕ → Type 0
-NumberWord k w (Some n) = (IsNumeral 10 (without_leading_plus w) × (digits_value 10 (without_leading_plus w) < 2 ^ k)) × (n ≡ digits_value 10 (without_leading_plus w))
-NumberWord k w None = (IsNumeral 10 (without_leading_plus w) × (digits_value 10 (without_leading_plus w) < 2 ^ k)) → ⊥
+abbrev pub IsNumber : ℕ → List ℕ → Type 0
+IsNumber k w = IsNumeral 10 (without_leading_plus w) × (digits_value 10 (without_leading_plus w) < 2 ^ k)
+
+abbrev pub NumberRead : ℕ → Misread → List ℕ → Result ℕ Misread → Type 0
+NumberRead k wrong w (Ok n) = IsNumber k w × (n ≡ digits_value 10 (without_leading_plus w))
+NumberRead k wrong w (Err e) = (e ≡ wrong) × (IsNumber k w → ⊥)
 
 -- a price of 64 bits with a sign or none
-abbrev pub PriceWord : List ℕ → Option ℤ → Type 0
-PriceWord w (Some p) = (IsNumeral 10 (without_leading_sign w) × FitsSigned w64 (signed_digits_value 10 w)) × (p ≡ signed_digits_value 10 w)
-PriceWord w None = (IsNumeral 10 (without_leading_sign w) × FitsSigned w64 (signed_digits_value 10 w)) → ⊥
+abbrev pub IsPrice : List ℕ → Type 0
+IsPrice w = IsNumeral 10 (without_leading_sign w) × FitsSigned w64 (signed_digits_value 10 w)
+
+abbrev pub PriceRead : List ℕ → Result Price Misread → Type 0
+PriceRead w (Ok p) = IsPrice w × (p.raw ≡ signed_digits_value 10 w)
+PriceRead w (Err e) = (e ≡ misread.Price) × (IsPrice w → ⊥)

@@ -2,14 +2,16 @@
 ghost use Rattle.std.specs.Prelude.{◌≡◌};
 ghost use Rattle.auction_script.specs.Accounts.{after_call, after_event};
 
-use matching::matcher::{Event, Refusal};
+use matching::event::Event;
+use matching::matcher::Refusal;
 
-#[derive(Clone, Copy)]
+/// What a script's calls and their events came to. A count stays at the largest number that it holds.
+#[derive(Clone, Copy, Debug, PartialEq)]
 pub struct Account {
     pub accepted: u64,
     pub refused: u64,
     pub trades: u64,
-    // the quantity of all trades
+    /// The quantity of all trades, in shares.
     pub traded: u64,
     pub expired: u64,
 }
@@ -27,7 +29,7 @@ impl Account {
         }
     }
 
-    // One more call, accepted or refused.
+    /// One more call, accepted or refused.
     pub fn call(&mut self, answer: Result<(), Refusal>)
         ensures { self.new ≡ after_call self.old answer }
     {
@@ -37,7 +39,7 @@ impl Account {
         }
     }
 
-    // One more event.
+    /// One more event.
     pub fn event(&mut self, event: Event)
         ensures { self.new ≡ after_event self.old event }
     {

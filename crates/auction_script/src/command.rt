@@ -1,28 +1,51 @@
-// One line of a script as a command.
-ghost use Rattle.std.specs.Prelude.{◌≡◌, length, codes, Some};
+// The calls that a script makes, each read from the words of a line.
+ghost use Rattle.std.specs.Prelude.{◌≡◌, Some};
+ghost use Rattle.auction_script.specs.Commands.{AmendRead, CancelRead, EnterRead, WordsRead, pricing_of};
 ghost use Rattle.auction_script.specs.Texts.{misread_text};
-ghost use Rattle.auction_script.specs.Commands.{AmendRead, BareRead, CancelRead, EnterLine, EnterRead, LineRead, Named, word};
 
 use crate::words;
-use crate::words::Kind;
-use matching::terms::{Book, OrderType, Terms};
+use codes::order::{Book, OrderType};
+use matching::matcher::Terms;
 use std::fmt;
+use terms::pricing::Pricing;
+use texts::values::Price;
 
-#[derive(Clone, Copy)]
+/// Every call of a script: its words, and what it does.
+pub const CALLS: [(&str, &str); 5] = [
+    (
+        "enter NUMBER INSTRUMENT buy|sell market|limit day|ioc PRICE QUANTITY",
+        "enter an order; a market order's price is not kept",
+    ),
+    ("cancel NUMBER", "end an open order"),
+    (
+        "amend NUMBER QUANTITY PRICE",
+        "give an open order another quantity and price",
+    ),
+    ("run", "take every event until there is none"),
+    ("book", "show the orders at rest, and how many wait"),
+];
+
+/// One call of a script.
+#[derive(Clone, Copy, Debug, PartialEq)]
 pub enum Command {
+    /// Enter an order under a number.
     Enter(u64, Terms),
+    /// Cancel the order of a number.
     Cancel(u64),
-    Amend(u64, u32, i64),
-    // take every event until there is none
+    /// Give the order of a number another open quantity and price.
+    Amend(u64, u32, Price),
+    /// Take every event until there is none.
     Run,
-    // show the book
+    /// Show the book.
     Show,
 }
 
-// The word that cannot be read.
-#[derive(Clone, Copy)]
+/// What of a line cannot be read.
+#[derive(Clone, Copy, Debug, PartialEq)]
 pub enum Misread {
-    // no call of this name has so many words
+    /// The line is no text.
+    Text,
+    /// No call of this name has so many words.
     Call,
     Number,
     Instrument,
@@ -33,11 +56,13 @@ pub enum Misread {
     Quantity,
 }
 
-impl fmt::Display for Misread {
-    ghost output = { λ word. Some (misread_text word) };
-
-    fn fmt<W: fmt::Write>(&self, f: &mut fmt::Formatter<W>) -> fmt::Result {
-        f.write_str(match self {
+impl Misread {
+    /// The word that a person reads.
+    pub fn text(self) -> &'static str
+        ensures { result.now ≡ misread_text self }
+    {
+        match self {
+            Misread::Text => "text",
             Misread::Call => "call",
             Misread::Number => "number",
             Misread::Instrument => "instrument",
@@ -46,12 +71,29 @@ impl fmt::Display for Misread {
             Misread::TimeInForce => "force",
             Misread::Price => "price",
             Misread::Quantity => "quantity",
-        })
+        }
     }
 }
 
-// The words after `enter`: NUMBER INSTRUMENT buy|sell market|limit day|ioc PRICE QTY. A market order's price is read and
-// not kept.
+impl fmt::Display for Misread {
+    ghost output = { λ word. Some (misread_text word) };
+
+    fn fmt<W: fmt::Write>(&self, f: &mut fmt::Formatter<W>) -> fmt::Result {
+        f.write_str(self.text())
+    }
+}
+
+// An order's price by its type; a market order keeps none.
+fn pricing(kind: OrderType, price: Price) -> Pricing
+    ensures { result ≡ pricing_of kind price }
+{
+    match kind {
+        OrderType::Market => Pricing::Market,
+        OrderType::Limit => Pricing::Limit(price),
+    }
+}
+
+// The words after `enter`. Of several that cannot be read the first is answered.
 fn enter(
     number: &str,
     instrument: &str,
@@ -63,23 +105,19 @@ fn enter(
 ) -> Result<Command, Misread>
     ensures { EnterRead number.now instrument.now side.now kind.now force.now price.now quantity.now result }
 {
-    let number = words::number(number).ok_or(Misread::Number)?;
-    let instrument = words::instrument(instrument).ok_or(Misread::Instrument)?;
-    let side = words::side(side).ok_or(Misread::Side)?;
-    let kind = words::kind_of(kind).ok_or(Misread::OrderType)?;
-    let time_in_force = words::force(force).ok_or(Misread::TimeInForce)?;
-    let price = words::price(price).ok_or(Misread::Price)?;
-    let quantity = words::quantity(quantity).ok_or(Misread::Quantity)?;
-    let order_type = match kind {
-        Kind::AtMarket => OrderType::Market,
-        Kind::AtLimit => OrderType::Limit(price),
-    };
+    let number = words::number(number)?;
+    let instrument = words::instrument(instrument)?;
+    let side = words::side(side)?;
+    let kind = words::kind(kind)?;
+    let time_in_force = words::force(force)?;
+    let price = words::price(price)?;
+    let quantity = words::quantity(quantity)?;
     Ok(Command::Enter(
         number,
         Terms {
             instrument,
             side,
-            order_type,
+            pricing: pricing(kind, price),
             time_in_force,
             quantity,
             book: Book::Integrated,
@@ -87,63 +125,42 @@ fn enter(
     ))
 }
 
-// `cancel NUMBER`.
-fn cancel(name: &str, number: &str) -> Result<Command, Misread>
-    ensures { Named name.now (codes "cancel") (CancelRead number.now result) result }
+// The words after `amend`. Of several that cannot be read the first is answered.
+fn amend(number: &str, quantity: &str, price: &str) -> Result<Command, Misread>
+    ensures { AmendRead number.now quantity.now price.now result }
 {
-    if name != "cancel" {
-        return Err(Misread::Call);
-    }
-    let number = words::number(number).ok_or(Misread::Number)?;
-    Ok(Command::Cancel(number))
+    let number = words::number(number)?;
+    let shares = words::quantity(quantity)?;
+    let limit = words::price(price)?;
+    Ok(Command::Amend(number, shares, limit))
 }
 
-// `amend NUMBER QTY PRICE`.
-fn amend(name: &str, number: &str, quantity: &str, price: &str) -> Result<Command, Misread>
-    ensures { Named name.now (codes "amend") (AmendRead number.now quantity.now price.now result) result }
+// The word after `cancel`.
+fn cancel(number: &str) -> Result<Command, Misread>
+    ensures { CancelRead number.now result }
 {
-    if name != "amend" {
-        return Err(Misread::Call);
-    }
-    let number = words::number(number).ok_or(Misread::Number)?;
-    let quantity = words::quantity(quantity).ok_or(Misread::Quantity)?;
-    let price = words::price(price).ok_or(Misread::Price)?;
-    Ok(Command::Amend(number, quantity, price))
+    Ok(Command::Cancel(words::number(number)?))
 }
 
-// A call of one word: `run` or `book`.
-fn bare(name: &str) -> Result<Command, Misread>
-    ensures { BareRead name.now result }
+/// The call of a line's words. Of several words that cannot be read the first is answered.
+pub fn read(words: &[&str]) -> Result<Command, Misread>
+    ensures { WordsRead words.now result }
 {
-    match name {
-        "run" => Ok(Command::Run),
-        "book" => Ok(Command::Show),
-        _ => Err(Misread::Call),
-    }
-}
-
-// A line of eight words: `enter` and seven more.
-fn entry(line: &[&str]) -> Result<Command, Misread>
-    requires { length line.now ≡ 8 }
-    ensures { Named (word line.now 0) (codes "enter") (EnterLine line.now result) result }
-{
-    if line[0] != "enter" {
-        return Err(Misread::Call);
-    }
-    enter(
-        line[1], line[2], line[3], line[4], line[5], line[6], line[7],
-    )
-}
-
-// The command of a line's words.
-pub fn read(line: &[&str]) -> Result<Command, Misread>
-    ensures { LineRead line.now result }
-{
-    match line.len() {
-        1 => bare(line[0]),
-        2 => cancel(line[0], line[1]),
-        4 => amend(line[0], line[1], line[2], line[3]),
-        8 => entry(line),
+    match *words {
+        [
+            "enter",
+            number,
+            instrument,
+            side,
+            kind,
+            force,
+            price,
+            quantity,
+        ] => { enter(number, instrument, side, kind, force, price, quantity) }
+        ["cancel", number] => cancel(number),
+        ["amend", number, quantity, price] => amend(number, quantity, price),
+        ["run"] => Ok(Command::Run),
+        ["book"] => Ok(Command::Show),
         _ => Err(Misread::Call),
     }
 }

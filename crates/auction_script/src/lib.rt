@@ -4,4 +4,5 @@
 pub mod account;
 pub mod command;
 pub mod ladder;
+pub mod line;
 mod words;

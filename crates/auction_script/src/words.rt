@@ -1,65 +1,73 @@
-// Single words of a script.
-ghost use Rattle.auction_script.specs.Words.{ForceWord, KindWord, NumberWord, PriceWord, SideWord};
+// Single words of a script: each is read whole, or named as the word that cannot be read.
+ghost use Rattle.auction_script.specs.Words.{ForceRead, KindRead, NumberRead, PriceRead, SideRead};
+ghost use Rattle.auction_script.specs.declared.command.Misread.TheVariants as misread;
 
-use matching::terms::{Side, TimeInForce};
+use crate::command::Misread;
+use codes::order::{OrderType, Side, TimeInForce};
+use texts::values::Price;
 
-// An order's type without its price.
-#[derive(Clone, Copy)]
-pub(crate) enum Kind {
-    AtMarket,
-    AtLimit,
-}
-
-pub(crate) fn side(word: &str) -> Option<Side>
-    ensures { SideWord word.now result }
+pub(crate) fn side(word: &str) -> Result<Side, Misread>
+    ensures { SideRead word.now result }
 {
     match word {
-        "buy" => Some(Side::Buy),
-        "sell" => Some(Side::Sell),
-        _ => None,
+        "buy" => Ok(Side::Buy),
+        "sell" => Ok(Side::Sell),
+        _ => Err(Misread::Side),
     }
 }
 
-pub(crate) fn kind_of(word: &str) -> Option<Kind>
-    ensures { KindWord word.now result }
+pub(crate) fn kind(word: &str) -> Result<OrderType, Misread>
+    ensures { KindRead word.now result }
 {
     match word {
-        "market" => Some(Kind::AtMarket),
-        "limit" => Some(Kind::AtLimit),
-        _ => None,
+        "market" => Ok(OrderType::Market),
+        "limit" => Ok(OrderType::Limit),
+        _ => Err(Misread::OrderType),
     }
 }
 
-pub(crate) fn force(word: &str) -> Option<TimeInForce>
-    ensures { ForceWord word.now result }
+pub(crate) fn force(word: &str) -> Result<TimeInForce, Misread>
+    ensures { ForceRead word.now result }
 {
     match word {
-        "day" => Some(TimeInForce::Day),
-        "ioc" => Some(TimeInForce::ImmediateOrCancel),
-        _ => None,
+        "day" => Ok(TimeInForce::Day),
+        "ioc" => Ok(TimeInForce::ImmediateOrCancel),
+        _ => Err(Misread::TimeInForce),
     }
 }
 
-pub(crate) fn number(word: &str) -> Option<u64>
-    ensures { NumberWord 64 word.now result }
+pub(crate) fn number(word: &str) -> Result<u64, Misread>
+    ensures { NumberRead 64 misread.Number word.now result }
 {
-    word.parse().ok()
+    match word.parse() {
+        Ok(number) => Ok(number),
+        Err(_) => Err(Misread::Number),
+    }
 }
 
-pub(crate) fn quantity(word: &str) -> Option<u32>
-    ensures { NumberWord 32 word.now result }
+pub(crate) fn quantity(word: &str) -> Result<u32, Misread>
+    ensures { NumberRead 32 misread.Quantity word.now result }
 {
-    word.parse().ok()
+    match word.parse() {
+        Ok(quantity) => Ok(quantity),
+        Err(_) => Err(Misread::Quantity),
+    }
 }
 
-pub(crate) fn instrument(word: &str) -> Option<u8>
-    ensures { NumberWord 8 word.now result }
+pub(crate) fn instrument(word: &str) -> Result<u8, Misread>
+    ensures { NumberRead 8 misread.Instrument word.now result }
 {
-    word.parse().ok()
+    match word.parse() {
+        Ok(instrument) => Ok(instrument),
+        Err(_) => Err(Misread::Instrument),
+    }
 }
 
-pub(crate) fn price(word: &str) -> Option<i64>
-    ensures { PriceWord word.now result }
+pub(crate) fn price(word: &str) -> Result<Price, Misread>
+    ensures { PriceRead word.now result }
 {
-    word.parse().ok()
+    match word.parse() {
+        Ok(raw) => Ok(Price { raw }),
+        Err(_) => Err(Misread::Price),
+    }
 }

@@ -1,7 +1,7 @@
 -- Worked examples of the definitions. Assumes nothing.
 use Rattle.std.specs.Prelude.{◌≡◌, ℕ, List, [], ◌∷◌, ◌++◌, replicate, Some, None, Ok, codes}
 use Rattle.texts.specs.Identifiers.{order_id_text, execution_id_text}
-use Rattle.lit_book.specs.Laws.{Worked}
+use Rattle.lit_book.specs.Laws.{LastRefused, Worked}
 use Rattle.orders.specs.Examples.{Examples as OrdersWorked}
 use Rattle.wire.specs.declared.kinds.Channel.TheVariants.{RealTime}
 use Rattle.wire.specs.declared.kinds.Kind.TheVariants.{Heartbeat}
@@ -29,5 +29,7 @@ Examples =
     × (verdict RealTime (cancel_of (codes "Ozzzzzzzzzzz")) ≡ Some (5, 44))
     -- in the lit book, sells of 50 at 101 and 50 at 100 meet a buy of 80 at 101
     × Worked
+    -- and of two sells at one price a trade with the second is against the law
+    × LastRefused
     -- an order of 100 with 40 executed: cancelled and its fill undone; replaced by 40, and by 41
     × OrdersWorked

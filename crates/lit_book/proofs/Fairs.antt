@@ -1,59 +1,92 @@
 -- The laws on prices. Assumes nothing.
-use Rattle.std.proofs.Common.{◌≡◌, ℕ, zero, suc, ◌<◌, Bool, true, false, cond, not, ◌&&◌, eqb, List, [], ◌∷◌, ◌++◌, length, get_or, ℤ, Some, None, Option, sym, refl, ap, ◌∙◌, subst, inl, inr, arith, MatchOption}
-use Rattle.std.proofs.lemmas.List.{append_assoc, get_or_at, length-append, take_at}
+use Rattle.std.specs.Prelude.{◌≡◌, ℕ, zero, suc, ◌<◌, Bool, true, false, not, ◌&&◌, List, [], ◌∷◌, ◌++◌, length, get_or, take, Some, None, Option, MatchOption, nat_eq, refl}
+use Rattle.std.proofs.Common.{eqb, sym, ap, ◌∙◌, subst, inl, inr, arith}
+use Rattle.std.proofs.lemmas.List.{append_assoc, get_or_at, length-append, take_at, take-append-drop}
+use Rattle.std.proofs.lemmas.List.Elements.{All-cons, All-nil}
+use Rattle.std.proofs.lemmas.List.Sums.{take_while-cons}
 use Rattle.std.proofs.lemmas.Int.{ints}
 use Rattle.std.proofs.lemmas.Bool.{and_cases, and_left, and_parts, and_right, both_ways, cases_Bool, cond-false, cond-true, eq-eqb, eqb-false, eqb-true, ne_eqb, not-true}
-use Rattle.matching.specs.declared.matcher.Event.{Event}
-use Rattle.matching.specs.declared.terms.OrderType.{OrderType}
-use Rattle.matching.specs.declared.terms.OrderType.TheVariants.{Market, Limit}
-use Rattle.matching.specs.declared.terms.Side.{Side}
-use Rattle.matching.specs.declared.terms.Side.TheVariants.{Buy, Sell}
-use Rattle.matching.specs.declared.terms.TimeInForce.{TimeInForce}
-use Rattle.matching.specs.Look.{look}
-use Rattle.matching.proofs.Looks.{passes}
-use Rattle.matching.specs.RowsFinite.{distinct_from}
+use Rattle.std.specs.List.{All}
+use Rattle.codes.specs.declared.order.Side.{Side}
+use Rattle.codes.specs.declared.order.Side.TheVariants.{Buy, Sell}
+use Rattle.codes.specs.declared.order.TimeInForce.{TimeInForce}
+use Rattle.keyed.specs.Look.{look}
+use Rattle.keyed.proofs.Looks.{passes}
+use Rattle.matching.specs.declared.event.Event.{Event}
+use Rattle.terms.specs.declared.pricing.Pricing.{Pricing}
+use Rattle.terms.specs.declared.pricing.Pricing.TheVariants.{Market, Limit}
+use Rattle.texts.specs.declared.values.Price.{Price}
 use Rattle.lit_book.specs.declared.order.Order.{Order}
-use Rattle.lit_book.specs.Orders.{accepts, better, crosses, lasting, limit, opposes, price, rests, takes}
-use Rattle.lit_book.specs.Laws.{AllWorse, Fair, InLine, NoneBetter, Served, Uncrossed, alike}
-use Rattle.lit_book.specs.Lists.{all_apart, changed, clear_of, order_held, order_in, order_number, remains, settled}
-use Rattle.lit_book.specs.Rules.{Lit, left_of, order_under, size_of}
-use Rattle.lit_book.proofs.Amends.{in-at}
-use Rattle.lit_book.proofs.Bests.{NoBetter, Worse, best-some}
-use Rattle.lit_book.proofs.Changes.{absent}
-use Rattle.lit_book.proofs.Matches.{apart-found}
-use Rattle.lit_book.proofs.Stops.{Ends}
+use Rattle.lit_book.specs.Orders.{accepts, crosses, lasting, limit, opposes, prefers, price, rests, takes}
+use Rattle.lit_book.specs.Laws.{Fair, FirstServed, NoBetter, Served, Uncrossed, Worse, alike, at_rest_for, before}
+use Rattle.lit_book.specs.Lists.{all_apart, best, clear_of, order_held, order_in, order_number, settled}
+use Rattle.lit_book.specs.Rules.{Lit, next, order_under}
+use Rattle.lit_book.proofs.Bests.{NoneBetterCrossed, WorseCrossed, best_some}
+use Rattle.lit_book.proofs.Matches.{own_place}
+use Rattle.lit_book.proofs.Stops.{Ends, Stop, all_same, stop}
+use Rattle.lit_book.proofs.Tables.{lists}
 
 -- ---- orders under their numbers
 
-pub mid-under : (xs ys : List Order) (o : Order) → all_apart (xs ++ o ∷ ys) ≡ true → order_in (xs ++ o ∷ ys) o.number ≡ Some o
-mid-under xs ys o u =
-    let d = distinct_from order_number order_held (xs ++ o ∷ ys) u in
+abbrev Absent : List Order → ℕ → Type 0
+Absent xs n = look order_number order_held xs n ≡ None
+
+-- numbers are apart, so nothing of its number stands before an order
+absent_before : (xs ys : List Order) (o : Order) → all_apart (xs ++ o ∷ ys) ≡ true → Absent xs o.number
+absent_before xs ys o u =
     let l = length-append xs (o ∷ ys) in
-    let r : o ≡ get_or (xs ++ o ∷ ys) (length xs) o = sym (get_or_at xs o ys o (length xs) refl) in
-    in-at (xs ++ o ∷ ys) (length xs) o.number o (apart-found (xs ++ o ∷ ys) (length xs) o d (omega arith) r) r
+    let f = own_place (xs ++ o ∷ ys) (length xs) o u (omega arith) (sym (get_or_at xs o ys o (length xs) refl)) in
+    ap (λ (k : List Order). look order_number order_held k o.number) (sym (take_at xs (o ∷ ys) (length xs) refl)) ∙ f.1
+
+absent_back : (xs ys : List Order) (n : ℕ) → Absent (xs ++ ys) n → Absent ys n
+absent_back [] ys n h = h
+absent_back (x ∷ xs) ys n h = absent_back xs ys n (passes order_number order_held (eqb x.number n) (order_held x) (look order_number order_held (xs ++ ys) n) h).1
+
+mid_in : (xs ys : List Order) (o : Order) → Absent xs o.number → order_in (xs ++ o ∷ ys) o.number ≡ Some o
+mid_in [] ys o h = cond-true (eqb o.number o.number) _ _ (eq-eqb o.number o.number refl)
+mid_in (x ∷ xs) ys o h =
+    let p = passes order_number order_held (eqb x.number o.number) (order_held x) (look order_number order_held xs o.number) h in
+    cond-false (eqb x.number o.number) _ _ p.0 ∙ mid_in xs ys o p.1
+
+mid_before : (xs ys : List Order) (o : Order) → Absent xs o.number → before o.number (xs ++ o ∷ ys) ≡ xs
+mid_before [] ys o h =
+    take_while-cons (λ (x : Order). not (nat_eq x.number o.number)) o ys
+    ∙ cond-false (not (nat_eq o.number o.number)) _ _ (ap not (eq-eqb o.number o.number refl))
+mid_before (x ∷ xs) ys o h =
+    let p = passes order_number order_held (eqb x.number o.number) (order_held x) (look order_number order_held xs o.number) h in
+    take_while-cons (λ (y : Order). not (nat_eq y.number o.number)) x (xs ++ o ∷ ys)
+    ∙ cond-true (not (nat_eq x.number o.number)) _ _ (ap not p.0)
+    ∙ ap (λ (l : List Order). x ∷ l) (mid_before xs ys o p.1)
 
 -- ---- the price of a trade
 
-takes-price : (s : Side) (t u : OrderType) → takes s t u ≡ true → accepts s t (limit u) ≡ true
-takes-price s t Market h = absurd (both_ways false refl h)
-takes-price s t (Limit p) h = h
+takes_price : (s : Side) (t u : Pricing) → takes s t u ≡ true → accepts s t (limit u) ≡ true
+takes_price s t Market h = absurd (both_ways false refl h)
+takes_price s t (Limit p) h = h
 
-crossed-parts : (a o : Order) → crosses a o ≡ true → (a.instrument ≡ o.instrument) × (opposes a.side o.side ≡ true) × (takes a.side a.order_type o.order_type ≡ true)
-crossed-parts a o h =
-    let p = and_parts (eqb a.instrument o.instrument) (opposes a.side o.side && takes a.side a.order_type o.order_type) h in
-    let q = and_parts (opposes a.side o.side) (takes a.side a.order_type o.order_type) p.1 in
+crossed_parts : (a o : Order) → crosses a o ≡ true → (a.instrument ≡ o.instrument) × (opposes a.side o.side ≡ true) × (takes a.side a.pricing o.pricing ≡ true)
+crossed_parts a o h =
+    let p = and_parts (eqb a.instrument o.instrument) (opposes a.side o.side && takes a.side a.pricing o.pricing) h in
+    let q = and_parts (opposes a.side o.side) (takes a.side a.pricing o.pricing) p.1 in
     (eqb-true _ _ p.0, q.0, q.1)
 
-crosses-accepts : (a o : Order) → crosses a o ≡ true → accepts a.side a.order_type (price o) ≡ true
-crosses-accepts a o h = takes-price a.side a.order_type o.order_type (crossed-parts a o h).2
+crosses_accepts : (a o : Order) → crosses a o ≡ true → accepts a.side a.pricing (price o) ≡ true
+crosses_accepts a o h = takes_price a.side a.pricing o.pricing (crossed_parts a o h).2
 
-pub fair-of : (b : Lit) (rs ws : List Order) (p : Event × Lit) → all_apart (rs ++ ws) ≡ true → rs ++ ws ≡ b.resting ++ b.waiting → Ends rs ws p → Fair b p.0
-fair-of b rs [] p u e h = subst (λ (x : Event × Lit). Fair b x.0) (sym h) tt
-fair-of b rs (a ∷ ws) p u e (inl (o, f, h)) =
-    let under : order_under b a.number ≡ Some a = ap (λ (l : List Order). order_in l a.number) (sym e) ∙ mid-under rs ws a u in
+fair_of : (b : Lit) (rs ws : List Order) (p : Event × Lit) → all_apart (rs ++ ws) ≡ true → rs ++ ws ≡ b.resting ++ b.waiting → Ends rs ws p → Fair b p.0
+fair_of b rs [] p u e h = subst (λ (x : Event × Lit). Fair b x.0) (sym h) tt
+fair_of b rs (a ∷ ws) p u e (inl (o, f, h)) =
+    let under : order_under b a.number ≡ Some a = ap (λ (l : List Order). order_in l a.number) (sym e) ∙ mid_in rs ws a (absent_before rs ws a u) in
     subst (λ (x : Event × Lit). Fair b x.0) (sym h)
-    (subst (λ (w : Option Order). MatchOption w ⊥ (λ x. accepts x.side x.order_type (price o) ≡ true)) (sym under) (crosses-accepts a o (best-some a o rs f).crossed))
-fair-of b rs (a ∷ ws) p u e (inr h) = subst (λ (x : Event × Lit). Fair b x.0) (sym h) tt
+    (subst (λ (w : Option Order). MatchOption w ⊥ (λ x. accepts x.side x.pricing (price o) ≡ true)) (sym under) (crosses_accepts a o (best_some a o rs f).crossed))
+fair_of b rs (a ∷ ws) p u e (inr h) = subst (λ (x : Event × Lit). Fair b x.0) (sym h) tt
+
+pub fair : (xs : List Order) (k : ℕ) (e : Event) → all_apart xs ≡ true → e ≡ (next (lists xs k)).0 → Fair (lists xs k) e
+fair xs k e u is =
+    let b = lists xs k in
+    let s = stop b.resting b.waiting in
+    let same = all_same b.resting b.waiting s in
+    subst (Fair b) (sym is) (fair_of b s.at_rest s.in_wait (next b) (ap all_apart (same ∙ take-append-drop k xs) ∙ u) same s.ends)
 
 -- ---- whom a trade passes over
 
@@ -67,24 +100,24 @@ all_rest (x ∷ xs) s =
     let p = and_parts (rests x) (clear_of x xs && settled xs) s in
     (p.0, all_rest xs (and_parts (clear_of x xs) (settled xs) p.1).1)
 
-rest-front : (xs ys : List Order) → AllRest (xs ++ ys) → AllRest xs
-rest-front [] ys r = tt
-rest-front (x ∷ xs) ys r = (r.0, rest-front xs ys r.1)
+rest_front : (xs ys : List Order) → AllRest (xs ++ ys) → AllRest xs
+rest_front [] ys r = tt
+rest_front (x ∷ xs) ys r = (r.0, rest_front xs ys r.1)
 
 rest_back : (xs ys : List Order) → AllRest (xs ++ ys) → AllRest ys
 rest_back [] ys r = r
 rest_back (x ∷ xs) ys r = rest_back xs ys r.1
 
-accepts-better : (s : Side) (t : OrderType) (p q : ℤ) → accepts s t p ≡ true → accepts s t q ≡ false → better s p q ≡ true
-accepts-better s Market p q h k = absurd (both_ways true k refl)
-accepts-better Buy (Limit l) p q h k = grind (arith, ints)
-accepts-better Sell (Limit l) p q h k = grind (arith, ints)
+accepts_better : (s : Side) (t : Pricing) (p q : Price) → accepts s t p ≡ true → accepts s t q ≡ false → prefers s p q ≡ true
+accepts_better s Market p q h k = absurd (both_ways true k refl)
+accepts_better Buy (Limit l) p q h k = grind (arith, ints)
+accepts_better Sell (Limit l) p q h k = grind (arith, ints)
 
-better-one-way : (s : Side) (p q : ℤ) → better s p q ≡ true → better s q p ≡ false
-better-one-way Buy p q h = grind (arith, ints)
-better-one-way Sell p q h = grind (arith, ints)
+better_one_way : (s : Side) (p q : Price) → prefers s p q ≡ true → prefers s q p ≡ false
+better_one_way Buy p q h = grind (arith, ints)
+better_one_way Sell p q h = grind (arith, ints)
 
-refuses : (s : Side) (u t : OrderType) (f : TimeInForce) → lasting t f ≡ true → takes s u t ≡ false → accepts s u (limit t) ≡ false
+refuses : (s : Side) (u t : Pricing) (f : TimeInForce) → lasting t f ≡ true → takes s u t ≡ false → accepts s u (limit t) ≡ false
 refuses s u Market f h k = absurd (both_ways false refl h)
 refuses s u (Limit p) f h k = k
 
@@ -102,102 +135,103 @@ third true false z h k e = absurd (both_ways false refl k)
 third false y z h k e = absurd (both_ways false refl h)
 
 -- an order like o that a does not cross is priced worse
-uncrossed-worse : (a o x : Order) → crosses a o ≡ true → rests x ≡ true → alike o x ≡ true → crosses a x ≡ false → better a.side (price o) (price x) ≡ true
-uncrossed-worse a o x c r l n =
-    let p = crossed-parts a o c in
+uncrossed_worse : (a o x : Order) → crosses a o ≡ true → rests x ≡ true → alike o x ≡ true → crosses a x ≡ false → prefers a.side (price o) (price x) ≡ true
+uncrossed_worse a o x c r l n =
+    let p = crossed_parts a o c in
     let q = and_parts (eqb o.instrument x.instrument) (not (opposes o.side x.side)) l in
     let same = eq-eqb a.instrument x.instrument (p.0 ∙ eqb-true _ _ q.0) in
     let face = facing a.side o.side x.side p.1 q.1 in
-    let k = third (eqb a.instrument x.instrument) (opposes a.side x.side) (takes a.side a.order_type x.order_type) same face n in
-    accepts-better a.side a.order_type (price o) (price x) (crosses-accepts a o c) (refuses a.side a.order_type x.order_type x.time_in_force r k)
+    let k = third (eqb a.instrument x.instrument) (opposes a.side x.side) (takes a.side a.pricing x.pricing) same face n in
+    accepts_better a.side a.pricing (price o) (price x) (crosses_accepts a o c) (refuses a.side a.pricing x.pricing x.time_in_force r k)
 
-all-worse : (a o : Order) (xs : List Order) → crosses a o ≡ true → AllRest xs → Worse a o xs → AllWorse a.side o xs
-all-worse a o [] c r w = tt
-all-worse a o (x ∷ xs) c r w =
-    ((λ l. elim (cases_Bool (crosses a x)) [ inl t ↦ w.0 t | inr n ↦ uncrossed-worse a o x c r.0 l n ]), all-worse a o xs c r.1 w.1)
+-- no price is better than itself
+not_better : (s : Side) (p : Price) → prefers s p p ≡ false
+not_better Buy p = grind (arith, ints)
+not_better Sell p = grind (arith, ints)
 
-none-better : (a o : Order) (xs : List Order) → crosses a o ≡ true → AllRest xs → NoBetter a o xs → NoneBetter a.side o xs
-none-better a o [] c r w = tt
-none-better a o (x ∷ xs) c r w =
-    ((λ l. elim (cases_Bool (crosses a x)) [ inl t ↦ w.0 t | inr n ↦ better-one-way a.side (price o) (price x) (uncrossed-worse a o x c r.0 l n) ]), none-better a o xs c r.1 w.1)
+all_worse : (a o : Order) (xs : List Order) → crosses a o ≡ true → AllRest xs → WorseCrossed a o xs → All (Worse a.side o) xs
+all_worse a o [] c r w = All-nil (Worse a.side o)
+all_worse a o (x ∷ xs) c r w =
+    All-cons (Worse a.side o) x xs
+    (λ l. elim (cases_Bool (crosses a x)) [ inl t ↦ w.0 t | inr n ↦ uncrossed_worse a o x c r.0 l n ])
+    (all_worse a o xs c r.1 w.1)
 
--- the lists after the trade
-mid-changed : (w : Option ℕ) (xs ys : List Order) (o : Order) → look order_number order_held xs o.number ≡ None → changed o.number w (xs ++ o ∷ ys) ≡ xs ++ (remains o w ++ ys)
-mid-changed w [] ys o h = cond-true (eqb o.number o.number) _ _ (eq-eqb o.number o.number refl)
-mid-changed w (x ∷ xs) ys o h =
-    let p = passes order_number order_held (eqb o.number x.number) (order_held x) (look order_number order_held xs o.number) h in
-    cond-false (eqb o.number x.number) _ _ p.0 ∙ ap (λ (l : List Order). x ∷ l) (mid-changed w xs ys o p.1)
+none_after : (a o : Order) (xs : List Order) → crosses a o ≡ true → AllRest xs → NoneBetterCrossed a o xs → All (NoBetter a.side o) xs
+none_after a o [] c r w = All-nil (NoBetter a.side o)
+none_after a o (x ∷ xs) c r w =
+    All-cons (NoBetter a.side o) x xs
+    (λ l. elim (cases_Bool (crosses a x)) [ inl t ↦ w.0 t | inr n ↦ better_one_way a.side (price o) (price x) (uncrossed_worse a o x c r.0 l n) ])
+    (none_after a o xs c r.1 w.1)
 
-stays-absent : (m n : ℕ) (w : Option ℕ) (xs : List Order) → look order_number order_held xs n ≡ None → look order_number order_held (changed m w xs) n ≡ None
-stays-absent m n w [] h = refl
-stays-absent m n w (x ∷ xs) h =
-    let p = passes order_number order_held (eqb n x.number) (order_held x) (look order_number order_held xs n) h in
-    go (eqb m x.number) w p.0 p.1 (stays-absent m n w xs p.1)
-  where
-    go : (b : Bool) (v : Option ℕ) → eqb n x.number ≡ false → look order_number order_held xs n ≡ None → look order_number order_held (changed m w xs) n ≡ None
-        → look order_number order_held (cond b (remains x v ++ xs) (x ∷ changed m w xs)) n ≡ None
-    go true None f g ih = g
-    go true (Some q) f g ih = cond-false (eqb n x.number) _ _ f ∙ g
-    go false v f g ih = cond-false (eqb n x.number) _ _ f ∙ ih
+-- none at all is better
+none_better : (a o : Order) (xs ys : List Order) → crosses a o ≡ true → AllRest (xs ++ o ∷ ys) → WorseCrossed a o xs → NoneBetterCrossed a o ys
+    → All (NoBetter a.side o) (xs ++ o ∷ ys)
+none_better a o [] ys c r w v = All-cons (NoBetter a.side o) o ys (λ l. not_better a.side (price o)) (none_after a o ys c r.1 v)
+none_better a o (x ∷ xs) ys c r w v =
+    All-cons (NoBetter a.side o) x (xs ++ o ∷ ys)
+    (λ l. better_one_way a.side (price o) (price x) (elim (cases_Bool (crosses a x)) [ inl t ↦ w.0 t | inr n ↦ uncrossed_worse a o x c r.0 l n ]))
+    (none_better a o xs ys c r.1 w.1 v)
 
--- nothing of its number before an order
-before-absent : (xs ys : List Order) (o : Order) → all_apart (xs ++ o ∷ ys) ≡ true → look order_number order_held xs o.number ≡ None
-before-absent xs ys o u =
-    let d = distinct_from order_number order_held (xs ++ o ∷ ys) u in
-    let l = length-append xs (o ∷ ys) in
-    let f = apart-found (xs ++ o ∷ ys) (length xs) o d (omega arith) (sym (get_or_at xs o ys o (length xs) refl)) in
-    ap (λ (k : List Order). look order_number order_held k o.number) (sym (take_at xs (o ∷ ys) (length xs) refl)) ∙ f.1
-
-pub served-of : (b : Lit) (rs ws : List Order) (p : Event × Lit) → all_apart (rs ++ ws) ≡ true → settled rs ≡ true → rs ++ ws ≡ b.resting ++ b.waiting → Ends rs ws p → Served b p.0 p.1
-served-of b rs [] p u s e h = subst (λ (x : Event × Lit). Served b x.0 x.1) (sym h) tt
-served-of b rs (a ∷ ws) p u s e (inr h) = subst (λ (x : Event × Lit). Served b x.0 x.1) (sym h) tt
-served-of b rs (a ∷ ws) p u s e (inl (o, f, h)) =
-    let t = best-some a o rs f in
-    let w = left_of (size_of a o) o.quantity in
-    let v = left_of (size_of a o) a.quantity in
+first_served : (a o : Order) (rs ws : List Order) → all_apart (rs ++ a ∷ ws) ≡ true → settled rs ≡ true → best a rs ≡ Some o → FirstServed a o.number rs
+first_served a o rs ws u s f =
+    let t = best_some a o rs f in
     let whole : rs ++ a ∷ ws ≡ t.before ++ o ∷ (t.after ++ a ∷ ws) = ap (λ (l : List Order). l ++ a ∷ ws) t.split ∙ append_assoc t.before (o ∷ t.after) (a ∷ ws) in
-    let u' : all_apart (t.before ++ o ∷ (t.after ++ a ∷ ws)) ≡ true = ap all_apart (sym whole) ∙ u in
-    let under-o : order_under b o.number ≡ Some o = ap (λ (l : List Order). order_in l o.number) (sym e ∙ whole) ∙ mid-under t.before (t.after ++ a ∷ ws) o u' in
-    let under-a : order_under b a.number ≡ Some a = ap (λ (l : List Order). order_in l a.number) (sym e) ∙ mid-under rs ws a u in
+    let n = absent_before t.before (t.after ++ a ∷ ws) o (ap all_apart (sym whole) ∙ u) in
     let r = subst AllRest t.split (all_rest rs s) in
-    let line : changed a.number v (changed o.number w rs) ≡ t.before ++ (remains o w ++ t.after) =
-    absent a.number v (changed o.number w rs) (stays-absent o.number a.number w rs (before-absent rs ws a u))
-    ∙ ap (changed o.number w) t.split
-    ∙ mid-changed w t.before t.after o (before-absent t.before (t.after ++ a ∷ ws) o u') in
-    let l : InLine a o (changed a.number v (changed o.number w rs)) = record {
-      earlier = t.before;
-      later = t.after;
-      left = w;
-      line = line;
-      worse = all-worse a o t.before t.crossed (rest-front t.before (o ∷ t.after) r) t.earlier;
-      no-better = none-better a o t.after t.crossed (rest_back t.before (o ∷ t.after) r).1 t.later;
-    } in
-    subst (λ (x : Event × Lit). Served b x.0 x.1) (sym h)
-    (subst (λ (y : Option Order). MatchOption y ⊥ (λ o'. MatchOption (order_under b a.number) ⊥ (λ a'. InLine a' o' (changed a.number v (changed o.number w rs))))) (sym under-o)
-    (subst (λ (y : Option Order). MatchOption y ⊥ (λ a'. InLine a' o (changed a.number v (changed o.number w rs)))) (sym under-a) l))
+    let in_line : All (Worse a.side o) (before o.number (t.before ++ o ∷ t.after)) × All (NoBetter a.side o) (t.before ++ o ∷ t.after) = (
+      subst (All (Worse a.side o)) (sym (mid_before t.before t.after o n)) (all_worse a o t.before t.crossed (rest_front t.before (o ∷ t.after) r) t.earlier),
+      none_better a o t.before t.after t.crossed r t.earlier t.later,
+    ) in
+    subst (FirstServed a o.number) (sym t.split)
+    (subst (λ (w : Option Order). MatchOption w ⊥ (λ y. All (Worse a.side y) (before o.number (t.before ++ o ∷ t.after)) × All (NoBetter a.side y) (t.before ++ o ∷ t.after)))
+    (sym (mid_in t.before t.after o n)) in_line)
+
+served_of : (b : Lit) (s : Stop b.resting b.waiting (next b)) (rs ws : List Order) → rs ≡ s.at_rest → ws ≡ s.in_wait → all_apart (rs ++ ws) ≡ true → settled rs ≡ true
+    → Ends rs ws (next b) → Served b (next b).0
+served_of b s rs [] p q u t h = subst (λ (x : Event × Lit). Served b x.0) (sym h) tt
+served_of b s rs (a ∷ ws) p q u t (inr h) = subst (λ (x : Event × Lit). Served b x.0) (sym h) tt
+served_of b s rs (a ∷ ws) p q u t (inl (o, f, h)) =
+    let n = absent_before rs ws a u in
+    let all : b.resting ++ b.waiting ≡ rs ++ a ∷ ws = sym (all_same b.resting b.waiting s) ∙ ap (λ (l : List Order). l ++ s.in_wait) (sym p) ∙ ap (λ (l : List Order). rs ++ l) (sym q) in
+    let under : order_under b a.number ≡ Some a = ap (λ (l : List Order). order_in l a.number) all ∙ mid_in rs ws a n in
+    let came : Absent s.came a.number = absent_back b.resting s.came a.number (ap (λ (l : List Order). look order_number order_held l a.number) (sym s.rested ∙ sym p) ∙ n) in
+    let there : at_rest_for a.number b ≡ rs =
+    ap (λ (l : List Order). b.resting ++ before a.number l) (s.waited ∙ ap (λ (l : List Order). s.came ++ l) (sym q))
+    ∙ ap (λ (l : List Order). b.resting ++ l) (mid_before s.came ws a came)
+    ∙ sym s.rested ∙ sym p in
+    subst (λ (x : Event × Lit). Served b x.0) (sym h)
+    (subst (λ (w : Option Order). MatchOption w ⊥ (λ y. FirstServed y o.number (at_rest_for a.number b))) (sym under)
+    (subst (FirstServed a o.number) (sym there) (first_served a o rs ws u t f)))
+
+pub served : (xs : List Order) (k : ℕ) (e : Event) → all_apart xs ≡ true → settled (take k xs) ≡ true → e ≡ (next (lists xs k)).0 → Served (lists xs k) e
+served xs k e u q is =
+    let b = lists xs k in
+    let s = stop b.resting b.waiting in
+    subst (Served b) (sym is)
+    (served_of b s s.at_rest s.in_wait refl refl (ap all_apart (all_same b.resting b.waiting s ∙ take-append-drop k xs) ∙ u) (s.quiet q) s.ends)
 
 -- ---- no two at rest cross
 
-self-uncrossed : (x : Order) → crosses x x ≡ false
-self-uncrossed x = and_right (eqb x.instrument x.instrument) _ (and_left (opposes x.side x.side) _ (same x.side))
+self_uncrossed : (x : Order) → crosses x x ≡ false
+self_uncrossed x = and_right (eqb x.instrument x.instrument) _ (and_left (opposes x.side x.side) _ (same x.side))
   where
     same : (s : Side) → opposes s s ≡ false
     same Buy = refl
     same Sell = refl
 
-both-limits : (s s' : Side) (t t' : OrderType) (f f' : TimeInForce) → lasting t f ≡ true → lasting t' f' ≡ true → (opposes s s' && takes s t t') ≡ false → (opposes s' s && takes s' t' t) ≡ false
-both-limits s s' Market t' f f' h k e = absurd (both_ways false refl h)
-both-limits s s' (Limit l) Market f f' h k e = absurd (both_ways false refl k)
-both-limits Buy Buy (Limit l) (Limit m) f f' h k e = refl
-both-limits Buy Sell (Limit l) (Limit m) f f' h k e = e
-both-limits Sell Buy (Limit l) (Limit m) f f' h k e = e
-both-limits Sell Sell (Limit l) (Limit m) f f' h k e = refl
+both_limits : (s s' : Side) (t t' : Pricing) (f f' : TimeInForce) → lasting t f ≡ true → lasting t' f' ≡ true → (opposes s s' && takes s t t') ≡ false → (opposes s' s && takes s' t' t) ≡ false
+both_limits s s' Market t' f f' h k e = absurd (both_ways false refl h)
+both_limits s s' (Limit l) Market f f' h k e = absurd (both_ways false refl k)
+both_limits Buy Buy (Limit l) (Limit m) f f' h k e = refl
+both_limits Buy Sell (Limit l) (Limit m) f f' h k e = e
+both_limits Sell Buy (Limit l) (Limit m) f f' h k e = e
+both_limits Sell Sell (Limit l) (Limit m) f f' h k e = refl
 
 either_way : (x y : Order) → rests x ≡ true → rests y ≡ true → crosses x y ≡ false → crosses y x ≡ false
 either_way x y r q e =
-    elim (and_cases (eqb x.instrument y.instrument) (opposes x.side y.side && takes x.side x.order_type y.order_type) e) [
+    elim (and_cases (eqb x.instrument y.instrument) (opposes x.side y.side && takes x.side x.pricing y.pricing) e) [
       | inl n ↦ and_left (eqb y.instrument x.instrument) _ (ne_eqb _ _ (λ i. eqb-false x.instrument y.instrument n (sym i)))
-      | inr n ↦ and_right (eqb y.instrument x.instrument) _ (both-limits x.side y.side x.order_type y.order_type x.time_in_force y.time_in_force r q n)
+      | inr n ↦ and_right (eqb y.instrument x.instrument) _ (both_limits x.side y.side x.pricing y.pricing x.time_in_force y.time_in_force r q n)
     ]
 
 clear_at : (x : Order) (xs : List Order) (i : ℕ) (d : Order) → i < length xs → clear_of x xs ≡ true → crosses (get_or xs i d) x ≡ false
@@ -212,7 +246,7 @@ rest_at (x ∷ xs) (suc i) d lt h = rest_at xs i d (omega arith) (and_parts (cle
 
 pub uncrossed : (xs : List Order) → settled xs ≡ true → Uncrossed xs
 uncrossed [] h i j d li lj = absurd (let z : ⊥ = omega arith in z)
-uncrossed (x ∷ xs) h zero zero d li lj = self-uncrossed x
+uncrossed (x ∷ xs) h zero zero d li lj = self_uncrossed x
 uncrossed (x ∷ xs) h zero (suc j) d li lj =
     let p = and_parts (rests x) (clear_of x xs && settled xs) h in
     let q = and_parts (clear_of x xs) (settled xs) p.1 in

@@ -1,12 +1,12 @@
-mod Amends
-mod Bests
-mod Changes
-mod Ends
-mod Fairs
-mod Matches
-mod Nexts
-mod Queues
-mod Searches
-mod Settles
-mod Stops
-mod Tables
+pub mod Changes
+pub mod Settles
+pub mod Bests
+pub mod Nexts
+pub mod Stops
+pub mod Places
+pub mod Tables
+pub mod Examples
+pub mod Matches
+pub mod Amends
+pub mod Ends
+pub mod Fairs

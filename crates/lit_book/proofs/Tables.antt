@@ -1,52 +1,70 @@
 -- What a change of the table does to the two lists of the book and to the queue. Assumes nothing.
-use Rattle.std.proofs.Common.{◌≡◌, ℕ, zero, suc, ◌+◌, ◌-◌, ◌<◌, ◌≤◌, true, cond, ltb, List, [], ◌∷◌, ◌++◌, map, length, get_or, take, drop, set, Some, None, Option, sym, refl, ap, ◌∙◌, inl, inr, arith}
+use Rattle.std.specs.Prelude.{◌≡◌, ℕ, zero, suc, ◌+◌, ◌-◌, ◌<◌, ◌≤◌, true, cond, List, [], ◌∷◌, ◌++◌, map, length, get_or, take, drop, slice_set, is_some, Some, None, Option, nat_eq, nat_lt, slice_index_or, refl}
+use Rattle.std.proofs.Common.{sym, ap, ◌∙◌, inl, inr, arith}
 use Rattle.std.proofs.lemmas.List.{drop-append-le, drop_at, drop-drop, drop_more, length-drop, length-map, length-take-le, map_push, drop-map, take-append-le, take_at, take_more}
-use Rattle.std.proofs.lemmas.Bool.{and_from, and_parts, cases_lt, cond-true, lt-ltb}
-use Rattle.std.specs.List.{slice_get, remove}
-use Rattle.matching.specs.RowsFinite.{distinct_from}
+use Rattle.std.proofs.lemmas.List.Elements.{All-push, All-set, All-cons}
+use Rattle.std.proofs.lemmas.Bool.{cases_lt, cond-true, lt-ltb}
+use Rattle.std.specs.FinMap.{get, len}
+use Rattle.std.specs.List.{All, slice_get, position, remove}
+use Rattle.keyed.proofs.Keyed.{position-found}
+use Rattle.keyed.proofs.Looks.{distinct_from}
+use Rattle.keyed.proofs.Tables as tables
+use Rattle.std.specs.Option.{option_map}
+use Rattle.keyed.specs.Look.{put}
+use Rattle.matching.specs.declared.matcher.Held.{Held}
+use Rattle.matching.specs.Meaning.{closed, opened, resized}
+use Rattle.lit_book.specs.declared.book.TheConstants.{CAPACITY}
 use Rattle.lit_book.specs.declared.order.Order.{Order}
-use Rattle.lit_book.specs.Orders.{rests, sized}
-use Rattle.lit_book.specs.Lists.{FoundOrder, all_apart, all_open, best, changed, in_turn, order_held, order_number, settled}
-use Rattle.lit_book.specs.Rules.{Lit}
-use Rattle.lit_book.proofs.Changes.{absent, as_long, behind, fewer-numbers, front-absent, in-front, removed-is, rest-absent, same_numbers, set_is, shorter}
-use Rattle.lit_book.proofs.Queues.{turn-from, turn-to}
-use Rattle.lit_book.proofs.Settles.{best_none, settled-changed, settled-push}
+use Rattle.lit_book.specs.Books.{lit_up}
+use Rattle.lit_book.specs.Orders.{rests, with_quantity}
+use Rattle.lit_book.specs.Lists.{FoundOrder, all_apart, best, changed, order_held, order_number, orders_of, settled}
+use Rattle.lit_book.specs.Rules.{Lit, altered}
+use Rattle.lit_book.proofs.Changes.{absent, as_long, behind, fewer_numbers, front_absent, in_front, removed_is, rest_absent, same_numbers, set_is, shorter}
+use Rattle.lit_book.proofs.Settles.{best_none, settled_changed, settled_push}
 
-pub same-lit : (r r' w w' : List Order) → r ≡ r' → w ≡ w' → ◌≡◌ {A = Lit} (record { resting = r; waiting = w }) (record { resting = r'; waiting = w' })
-same-lit r r' w w' e f = cc
+abbrev Open : Order → Type 0
+Open o = 0 < o.quantity
+
+-- the two lists of a table of which the first k rest
+abbrev pub lists : List Order → ℕ → Lit
+lists xs k = record { resting = take k xs; waiting = drop k xs }
+
+pub count : (xs : List Order) → all_apart xs ≡ true → len (orders_of xs) ≡ length xs
+count xs u = tables.count order_number order_held xs u
+
+pub found : (xs : List Order) (n : ℕ) (r : Option ℕ) → r ≡ position (λ o. nat_eq o.number n) xs → FoundOrder xs n r
+found xs n r e = position-found order_number order_held xs n r e
+
+pub found_known : (xs : List Order) (n : ℕ) (r : Option ℕ) → r ≡ position (λ o. nat_eq o.number n) xs → is_some r ≡ is_some (get (orders_of xs) n)
+found_known xs n r e = tables.known order_number order_held xs n r (found xs n r e)
+
+pub held : (xs : List Order) (i n : ℕ) (o : Order) → FoundOrder xs n (Some i) → o ≡ slice_index_or xs i o → get (orders_of xs) n ≡ Some (order_held o)
+held xs i n o f read = tables.stands_at order_number order_held xs i n o f ∙ ap (λ (x : Order). Some (order_held x)) (sym read)
 
 -- ---- one more at the end
 
-pub joined : (ns : List ℕ) (n m : ℕ) (os : List Order) → in_turn ns os ≡ true → length os ≤ m → m < 256 → cond (ltb (length ns) 256) (ns ++ n ∷ []) ns ≡ ns ++ n ∷ []
-joined ns n m os t le lt =
-    let e = ap length (turn-from ns os t) ∙ length-map os order_number in
-    cond-true (ltb (length ns) 256) _ _ (lt-ltb _ _ (omega arith))
+pub add_means : (xs : List Order) (o : Order) → get (orders_of xs) o.number ≡ None
+    → lit_up (orders_of (xs ++ o ∷ [])) ≡ opened (lit_up (orders_of xs)) o.number (order_held o)
+add_means xs o new = ap lit_up (tables.pushed order_number order_held xs o new)
 
-pub add_turn : (xs : List Order) (k : ℕ) (ns : List ℕ) (o : Order) → k ≤ length xs → in_turn ns (drop k xs) ≡ true → in_turn (ns ++ o.number ∷ []) (drop k (xs ++ o ∷ [])) ≡ true
-add_turn xs k ns o le t =
-    turn-to _ _
-    (ap (λ (l : List ℕ). l ++ o.number ∷ []) (turn-from ns (drop k xs) t)
+pub add_apart : (xs : List Order) (o : Order) → all_apart xs ≡ true → get (orders_of xs) o.number ≡ None → all_apart (xs ++ o ∷ []) ≡ true
+add_apart xs o u new = tables.pushed_apart order_number order_held xs o u new
+
+pub add_open : (xs : List Order) (o : Order) → All Open xs → 0 < o.quantity → All Open (xs ++ o ∷ [])
+add_open xs o h lt = All-push Open xs o h lt
+
+pub add_turn : (xs : List Order) (k : ℕ) (ns : List ℕ) (o : Order) → ns ≡ map order_number (drop k xs) → k ≤ length xs → length xs < CAPACITY
+    → cond (nat_lt (length ns) CAPACITY) (ns ++ o.number ∷ []) ns ≡ map order_number (drop k (xs ++ o ∷ []))
+add_turn xs k ns o t le room =
+    let e = ap length t ∙ length-map (drop k xs) order_number in
+    let d = length-drop k xs in
+    cond-true (nat_lt (length ns) CAPACITY) _ _ (lt-ltb _ _ (omega arith))
+    ∙ ap (λ (l : List ℕ). l ++ o.number ∷ []) t
     ∙ sym (map_push order_number (drop k xs) o)
-    ∙ ap (map order_number) (sym (drop-append-le k xs (o ∷ []) le)))
+    ∙ ap (map order_number) (sym (drop-append-le k xs (o ∷ []) le))
 
-pub add-settled : (xs : List Order) (k : ℕ) (o : Order) → k ≤ length xs → settled (take k xs) ≡ true → settled (take k (xs ++ o ∷ [])) ≡ true
-add-settled xs k o le s = ap settled (take-append-le k xs (o ∷ []) le) ∙ s
-
--- every order has some quantity open
-pub add_open : (xs : List Order) (o : Order) → all_open xs ≡ true → 0 < o.quantity → all_open (xs ++ o ∷ []) ≡ true
-add_open [] o h lt = and_from _ _ (lt-ltb _ _ lt) refl
-add_open (x ∷ xs) o h lt = let p = and_parts (ltb 0 x.quantity) (all_open xs) h in and_from _ _ p.0 (add_open xs o p.1 lt)
-
-pub removed-open : (xs : List Order) (i : ℕ) → all_open xs ≡ true → all_open (remove xs i) ≡ true
-removed-open [] zero h = refl
-removed-open [] (suc i) h = refl
-removed-open (x ∷ xs) zero h = (and_parts (ltb 0 x.quantity) (all_open xs) h).1
-removed-open (x ∷ xs) (suc i) h = let p = and_parts (ltb 0 x.quantity) (all_open xs) h in and_from _ _ p.0 (removed-open xs i p.1)
-
-pub set-open : (xs : List Order) (i : ℕ) (o : Order) → all_open xs ≡ true → 0 < o.quantity → all_open (set xs i o) ≡ true
-set-open [] i o h lt = refl
-set-open (x ∷ xs) zero o h lt = and_from _ _ (lt-ltb _ _ lt) (and_parts (ltb 0 x.quantity) (all_open xs) h).1
-set-open (x ∷ xs) (suc i) o h lt = let p = and_parts (ltb 0 x.quantity) (all_open xs) h in and_from _ _ p.0 (set-open xs i o p.1 lt)
+pub add_settled : (xs : List Order) (k : ℕ) (o : Order) → k ≤ length xs → settled (take k xs) ≡ true → settled (take k (xs ++ o ∷ [])) ≡ true
+add_settled xs k o le s = ap settled (take-append-le k xs (o ∷ []) le) ∙ s
 
 -- ---- one order changed
 
@@ -55,84 +73,150 @@ pub record Parts (xs ys : List Order) (k k' n : ℕ) (w : Option ℕ) : Type 0 w
   pub front : take k' ys ≡ changed n w (take k xs)
   pub back : drop k' ys ≡ changed n w (drop k xs)
 
-cut : (xs ys f g : List Order) (k k' n : ℕ) (w : Option ℕ) → ys ≡ f ++ g → length f ≡ k' → f ≡ changed n w (take k xs) → g ≡ changed n w (drop k xs) → Parts xs ys k k' n w
+cut : (xs ys f g : List Order) (k k' n : ℕ) (w : Option ℕ) → ys ≡ f ++ g → length f ≡ k' → f ≡ changed n w (take k xs) → g ≡ changed n w (drop k xs)
+    → Parts xs ys k k' n w
 cut xs ys f g k k' n w e long p q = record {
   front = ap (take k') e ∙ take_at f g k' long ∙ p;
   back = ap (drop k') e ∙ drop_at f g k' long ∙ q;
 }
 
-pub removed-front : (xs : List Order) (i k n : ℕ) → all_apart xs ≡ true → FoundOrder xs n (Some i) → i < k → k ≤ length xs → Parts xs (remove xs i) k (k - 1) n None
-removed-front xs i k n u f lt le =
+removed_front : (xs : List Order) (i k n : ℕ) → all_apart xs ≡ true → FoundOrder xs n (Some i) → i < k → k ≤ length xs → Parts xs (remove xs i) k (k - 1) n None
+removed_front xs i k n u f lt le =
     let e = shorter xs i k n f lt in
     let t = length-take-le k xs le in
     cut xs (remove xs i) (changed n None (take k xs)) (drop k xs) k (k - 1) n None
-    (removed-is xs i n f ∙ sym (in-front None xs i k n f lt)) (omega arith) refl
-    (sym (absent n None (drop k xs) (rest-absent xs i k n (distinct_from order_number order_held xs u) f lt)))
+    (removed_is xs i n f ∙ sym (in_front None xs i k n f lt)) (omega arith) refl
+    (sym (absent n None (drop k xs) (rest_absent xs i k n (distinct_from order_number order_held xs u) f lt)))
 
-pub removed-back : (xs : List Order) (i k n : ℕ) → FoundOrder xs n (Some i) → k ≤ i → k ≤ length xs → Parts xs (remove xs i) k k n None
-removed-back xs i k n f ge le =
+removed_back : (xs : List Order) (i k n : ℕ) → FoundOrder xs n (Some i) → k ≤ i → k ≤ length xs → Parts xs (remove xs i) k k n None
+removed_back xs i k n f ge le =
     cut xs (remove xs i) (take k xs) (changed n None (drop k xs)) k k n None
-    (removed-is xs i n f ∙ sym (behind None xs i k n f ge)) (length-take-le k xs le)
-    (sym (absent n None (take k xs) (front-absent xs i k n f ge))) refl
+    (removed_is xs i n f ∙ sym (behind None xs i k n f ge)) (length-take-le k xs le)
+    (sym (absent n None (take k xs) (front_absent xs i k n f ge))) refl
 
-pub set-parts : (xs : List Order) (i k n q : ℕ) (x : Order) → all_apart xs ≡ true → FoundOrder xs n (Some i) → x ≡ get_or xs i x → k ≤ length xs → Parts xs (set xs i (sized x q)) k k n (Some q)
-set-parts xs i k n q x u f read le =
+set_parts : (xs : List Order) (i k n q : ℕ) (x : Order) → all_apart xs ≡ true → FoundOrder xs n (Some i) → x ≡ get_or xs i x → k ≤ length xs
+    → Parts xs (slice_set xs i (with_quantity x q)) k k n (Some q)
+set_parts xs i k n q x u f read le =
     elim (cases_lt i k) [
       | inl lt ↦
-          cut xs (set xs i (sized x q)) (changed n (Some q) (take k xs)) (drop k xs) k k n (Some q)
-          (set_is xs i n q x f read ∙ sym (in-front (Some q) xs i k n f lt)) (as_long n q (take k xs) ∙ length-take-le k xs le) refl
-          (sym (absent n (Some q) (drop k xs) (rest-absent xs i k n (distinct_from order_number order_held xs u) f lt)))
+          cut xs (slice_set xs i (with_quantity x q)) (changed n (Some q) (take k xs)) (drop k xs) k k n (Some q)
+          (set_is xs i n q x f read ∙ sym (in_front (Some q) xs i k n f lt)) (as_long n q (take k xs) ∙ length-take-le k xs le) refl
+          (sym (absent n (Some q) (drop k xs) (rest_absent xs i k n (distinct_from order_number order_held xs u) f lt)))
       | inr ge ↦
-          cut xs (set xs i (sized x q)) (take k xs) (changed n (Some q) (drop k xs)) k k n (Some q)
+          cut xs (slice_set xs i (with_quantity x q)) (take k xs) (changed n (Some q) (drop k xs)) k k n (Some q)
           (set_is xs i n q x f read ∙ sym (behind (Some q) xs i k n f ge)) (length-take-le k xs le)
-          (sym (absent n (Some q) (take k xs) (front-absent xs i k n f ge))) refl
+          (sym (absent n (Some q) (take k xs) (front_absent xs i k n f ge))) refl
     ]
 
-pub parts-settled : (xs ys : List Order) (k k' n : ℕ) (w : Option ℕ) → Parts xs ys k k' n w → settled (take k xs) ≡ true → settled (take k' ys) ≡ true
-parts-settled xs ys k k' n w p s = ap settled p.front ∙ settled-changed n w (take k xs) s
+parts_settled : (xs ys : List Order) (k k' n : ℕ) (w : Option ℕ) → Parts xs ys k k' n w → settled (take k xs) ≡ true → settled (take k' ys) ≡ true
+parts_settled xs ys k k' n w p s = ap settled p.front ∙ settled_changed n w (take k xs) s
 
-pub parts-lit : (xs ys : List Order) (k k' n : ℕ) (w : Option ℕ) → Parts xs ys k k' n w
-    → ◌≡◌ {A = Lit} (record { resting = take k' ys; waiting = drop k' ys }) (record { resting = changed n w (take k xs); waiting = changed n w (drop k xs) })
-parts-lit xs ys k k' n w p = same-lit _ _ _ _ p.front p.back
+parts_lit : (xs ys : List Order) (k k' n : ℕ) (w : Option ℕ) → Parts xs ys k k' n w → lists ys k' ≡ altered (lists xs k) n w
+parts_lit xs ys k k' n w p = let e = p.front in let f = p.back in cc
 
-pub front-turn : (xs ys : List Order) (i k k' n : ℕ) (ns : List ℕ) → all_apart xs ≡ true → FoundOrder xs n (Some i) → i < k → Parts xs ys k k' n None → in_turn ns (drop k xs) ≡ true → in_turn ns (drop k' ys) ≡ true
-front-turn xs ys i k k' n ns u f lt p t =
-    ap (in_turn ns) (p.back ∙ absent n None (drop k xs) (rest-absent xs i k n (distinct_from order_number order_held xs u) f lt)) ∙ t
+-- an order gone
 
-pub back-turn : (xs ys : List Order) (i k n : ℕ) (ns : List ℕ) → FoundOrder xs n (Some i) → k ≤ i → Parts xs ys k k n None → in_turn ns (drop k xs) ≡ true → in_turn (remove ns (i - k)) (drop k ys) ≡ true
-back-turn xs ys i k n ns f ge p t =
-    turn-to _ _ (ap (λ (l : List ℕ). remove l (i - k)) (turn-from ns (drop k xs) t) ∙ fewer-numbers xs i k n f ge ∙ ap (map order_number) (sym p.back))
+pub remove_means : (xs : List Order) (i n : ℕ) → all_apart xs ≡ true → FoundOrder xs n (Some i)
+    → lit_up (orders_of (remove xs i)) ≡ closed (lit_up (orders_of xs)) n
+remove_means xs i n u f = ap lit_up (tables.removed order_number order_held xs i n u f)
 
-pub set-turn : (xs ys : List Order) (k n q : ℕ) (ns : List ℕ) → Parts xs ys k k n (Some q) → in_turn ns (drop k xs) ≡ true → in_turn ns (drop k ys) ≡ true
-set-turn xs ys k n q ns p t = turn-to _ _ (turn-from ns (drop k xs) t ∙ sym (same_numbers n q (drop k xs)) ∙ ap (map order_number) (sym p.back))
+pub remove_apart : (xs : List Order) (i : ℕ) → all_apart xs ≡ true → all_apart (remove xs i) ≡ true
+remove_apart xs i u = tables.removed_apart order_number order_held xs i u
+
+pub remove_open : (xs : List Order) (i : ℕ) → All Open xs → All Open (remove xs i)
+remove_open [] zero h = λ k d lt. absurd (omega arith)
+remove_open [] (suc i) h = λ k d lt. absurd (omega arith)
+remove_open (x ∷ xs) zero h = λ k d lt. h (suc k) d (omega arith)
+remove_open (x ∷ xs) (suc i) h =
+    All-cons Open x (remove xs i) (h 0 x (omega arith)) (remove_open xs i (λ k d lt. h (suc k) d (omega arith)))
+
+pub front_lit : (xs : List Order) (i k n : ℕ) → all_apart xs ≡ true → FoundOrder xs n (Some i) → i < k → k ≤ length xs
+    → lists (remove xs i) (k - 1) ≡ altered (lists xs k) n None
+front_lit xs i k n u f lt le = parts_lit xs (remove xs i) k (k - 1) n None (removed_front xs i k n u f lt le)
+
+pub front_settled : (xs : List Order) (i k n : ℕ) → all_apart xs ≡ true → FoundOrder xs n (Some i) → i < k → k ≤ length xs → settled (take k xs) ≡ true
+    → settled (take (k - 1) (remove xs i)) ≡ true
+front_settled xs i k n u f lt le s = parts_settled xs (remove xs i) k (k - 1) n None (removed_front xs i k n u f lt le) s
+
+pub front_turn : (xs : List Order) (i k n : ℕ) (ns : List ℕ) → all_apart xs ≡ true → FoundOrder xs n (Some i) → i < k → k ≤ length xs
+    → ns ≡ map order_number (drop k xs) → ns ≡ map order_number (drop (k - 1) (remove xs i))
+front_turn xs i k n ns u f lt le t =
+    t
+    ∙ ap (map order_number)
+    (sym ((removed_front xs i k n u f lt le).back ∙ absent n None (drop k xs) (rest_absent xs i k n (distinct_from order_number order_held xs u) f lt)))
+
+pub back_lit : (xs : List Order) (i k n : ℕ) → FoundOrder xs n (Some i) → k ≤ i → k ≤ length xs → lists (remove xs i) k ≡ altered (lists xs k) n None
+back_lit xs i k n f ge le = parts_lit xs (remove xs i) k k n None (removed_back xs i k n f ge le)
+
+pub back_settled : (xs : List Order) (i k n : ℕ) → FoundOrder xs n (Some i) → k ≤ i → k ≤ length xs → settled (take k xs) ≡ true
+    → settled (take k (remove xs i)) ≡ true
+back_settled xs i k n f ge le s = parts_settled xs (remove xs i) k k n None (removed_back xs i k n f ge le) s
+
+pub back_turn : (xs : List Order) (i k n : ℕ) (ns : List ℕ) → FoundOrder xs n (Some i) → k ≤ i → k ≤ length xs → ns ≡ map order_number (drop k xs)
+    → remove ns (i - k) ≡ map order_number (drop k (remove xs i))
+back_turn xs i k n ns f ge le t =
+    ap (λ (l : List ℕ). remove l (i - k)) t ∙ fewer_numbers xs i k n f ge ∙ ap (map order_number) (sym (removed_back xs i k n f ge le).back)
+
+-- an order with another quantity
+
+own : (xs : List Order) (i n : ℕ) (x : Order) → FoundOrder xs n (Some i) → x ≡ slice_index_or xs i x → x.number ≡ n
+own xs i n x f read = ap order_number read ∙ f.2 x
+
+pub set_means : (xs : List Order) (i n q : ℕ) (x : Order) → FoundOrder xs n (Some i) → x ≡ slice_index_or xs i x
+    → lit_up (orders_of (slice_set xs i (with_quantity x q))) ≡ resized (lit_up (orders_of xs)) n q
+set_means xs i n q x f read =
+    ap lit_up
+    (tables.rewritten order_number order_held xs i n (with_quantity x q) f (own xs i n x f read)
+    ∙ ap (λ (w : Option Held). put (orders_of xs) n (option_map (λ (h : Held). record h { quantity = q }) w)) (sym (held xs i n x f read)))
+
+pub set_apart : (xs : List Order) (i n q : ℕ) (x : Order) → all_apart xs ≡ true → FoundOrder xs n (Some i) → x ≡ slice_index_or xs i x
+    → all_apart (slice_set xs i (with_quantity x q)) ≡ true
+set_apart xs i n q x u f read = tables.rewritten_apart order_number order_held xs i n (with_quantity x q) u f (own xs i n x f read)
+
+pub set_open : (xs : List Order) (i q : ℕ) (x : Order) → All Open xs → 0 < q → All Open (slice_set xs i (with_quantity x q))
+set_open xs i q x h lt = All-set Open xs i (with_quantity x q) lt h
+
+pub set_lit : (xs : List Order) (i k n q : ℕ) (x : Order) → all_apart xs ≡ true → FoundOrder xs n (Some i) → x ≡ slice_index_or xs i x → k ≤ length xs
+    → lists (slice_set xs i (with_quantity x q)) k ≡ altered (lists xs k) n (Some q)
+set_lit xs i k n q x u f read le = parts_lit xs (slice_set xs i (with_quantity x q)) k k n (Some q) (set_parts xs i k n q x u f read le)
+
+pub set_settled : (xs : List Order) (i k n q : ℕ) (x : Order) → all_apart xs ≡ true → FoundOrder xs n (Some i) → x ≡ slice_index_or xs i x → k ≤ length xs
+    → settled (take k xs) ≡ true → settled (take k (slice_set xs i (with_quantity x q))) ≡ true
+set_settled xs i k n q x u f read le s =
+    parts_settled xs (slice_set xs i (with_quantity x q)) k k n (Some q) (set_parts xs i k n q x u f read le) s
+
+pub set_turn : (xs : List Order) (i k n q : ℕ) (x : Order) (ns : List ℕ) → all_apart xs ≡ true → FoundOrder xs n (Some i) → x ≡ slice_index_or xs i x
+    → k ≤ length xs → ns ≡ map order_number (drop k xs) → ns ≡ map order_number (drop k (slice_set xs i (with_quantity x q)))
+set_turn xs i k n q x ns u f read le t =
+    t ∙ sym (ap (map order_number) (set_parts xs i k n q x u f read le).back ∙ same_numbers n q (drop k xs))
 
 -- ---- the oldest waiting order comes to rest
 
-some-less : (xs : List Order) (o : Order) → slice_get xs 0 ≡ Some o → 0 < length xs
-some-less [] o e = absurd (let z : ◌≡◌ {A = ℕ} 0 1 = cc in let no : ⊥ = omega arith in no)
-some-less (x ∷ xs) o e = omega arith
+pub head_is : (xs : List Order) (o : Order) → slice_get xs 0 ≡ Some o → xs ≡ o ∷ drop 1 xs
+head_is [] o e = absurd (let z : ◌≡◌ {A = ℕ} 0 1 = cc in let no : ⊥ = omega arith in no)
+head_is (x ∷ xs) o e = cc
 
-head-is : (xs : List Order) (o : Order) → slice_get xs 0 ≡ Some o → xs ≡ o ∷ drop 1 xs
-head-is [] o e = absurd (let z : ◌≡◌ {A = ℕ} 0 1 = cc in let no : ⊥ = omega arith in no)
-head-is (x ∷ xs) o e = cc
-
-pub rest-less : (xs : List Order) (k : ℕ) (o : Order) → slice_get (drop k xs) 0 ≡ Some o → k < length xs
-rest-less xs k o e = let l = some-less (drop k xs) o e in let d = length-drop k xs in omega arith
+pub rest_less : (xs : List Order) (k : ℕ) (o : Order) → slice_get (drop k xs) 0 ≡ Some o → k + 1 ≤ length xs
+rest_less xs k o e =
+    let l = ap length (head_is (drop k xs) o e) in
+    let d = length-drop k xs in
+    omega arith
 
 pub rest_back : (xs : List Order) (k : ℕ) → drop (k + 1) xs ≡ drop 1 (drop k xs)
 rest_back xs k = sym (drop-drop 1 k xs)
 
-pub rest-front : (xs : List Order) (k : ℕ) (o : Order) → slice_get (drop k xs) 0 ≡ Some o → take (k + 1) xs ≡ take k xs ++ o ∷ []
-rest-front xs k o e =
-    let lt = rest-less xs k o e in
-    let h : drop k xs ≡ o ∷ drop 1 (drop k xs) = head-is (drop k xs) o e in
+pub rest_front : (xs : List Order) (k : ℕ) (o : Order) → slice_get (drop k xs) 0 ≡ Some o → take (k + 1) xs ≡ take k xs ++ o ∷ []
+rest_front xs k o e =
+    let l = rest_less xs k o e in
+    let lt : k < length xs = omega arith in
+    let h : drop k xs ≡ o ∷ drop 1 (drop k xs) = head_is (drop k xs) o e in
     let g : get_or xs k o ∷ drop (k + 1) xs ≡ o ∷ drop 1 (drop k xs) = sym (drop_more xs k o lt) ∙ h in
     let s : get_or xs k o ≡ o = cc in
     take_more xs k o lt ∙ ap (λ (y : Order). take k xs ++ y ∷ []) s
 
-pub rest-turn : (xs : List Order) (k : ℕ) (ns : List ℕ) → in_turn ns (drop k xs) ≡ true → in_turn (remove ns 0) (drop (k + 1) xs) ≡ true
-rest-turn xs k ns t =
-    turn-to _ _ (ap (drop 1) (turn-from ns (drop k xs) t) ∙ drop-map order_number 1 (drop k xs) ∙ ap (map order_number) (sym (rest_back xs k)))
+pub rest_turn : (xs : List Order) (k : ℕ) (ns : List ℕ) → ns ≡ map order_number (drop k xs) → drop 1 ns ≡ map order_number (drop (k + 1) xs)
+rest_turn xs k ns t = ap (drop 1) t ∙ drop-map order_number 1 (drop k xs) ∙ ap (map order_number) (sym (rest_back xs k))
 
-pub rest-settled : (xs : List Order) (k : ℕ) (o : Order) → slice_get (drop k xs) 0 ≡ Some o → rests o ≡ true → best o (take k xs) ≡ None → settled (take k xs) ≡ true → settled (take (k + 1) xs) ≡ true
-rest-settled xs k o e r b s = ap settled (rest-front xs k o e) ∙ settled-push o (take k xs) s r (best_none o (take k xs) b)
+pub rest_settled : (xs : List Order) (k : ℕ) (o : Order) → slice_get (drop k xs) 0 ≡ Some o → rests o ≡ true → best o (take k xs) ≡ None
+    → settled (take k xs) ≡ true → settled (take (k + 1) xs) ≡ true
+rest_settled xs k o e r b s = ap settled (rest_front xs k o e) ∙ settled_push o (take k xs) s r (best_none o (take k xs) b)

@@ -1,12 +1,13 @@
 -- What a lit book means. Assumes nothing.
-use Rattle.std.specs.Prelude.{Bool, true, false, List, take, drop, vec_items}
-use Rattle.matching.specs.Meaning.{Meaning}
-use Rattle.matching.specs.Rows.{meant}
-use Rattle.matching.specs.declared.terms.Book.{Book}
-use Rattle.matching.specs.declared.terms.Book.TheVariants.{DarkMidpoint, Integrated}
+use Rattle.std.specs.Prelude.{◌≤◌, true, false, List, take, drop, vec_items}
+use Rattle.std.proofs.Common.{arith}
+use Rattle.std.specs.FinMap.{len}
+use Rattle.keyed.proofs.Tables.{count}
+use Rattle.matching.specs.Meaning.{Meaning, Orders}
 use Rattle.lit_book.specs.declared.book.LitBook.{LitBook}
+use Rattle.lit_book.specs.declared.book.TheConstants.{CAPACITY}
 use Rattle.lit_book.specs.declared.order.Order.{Order}
-use Rattle.lit_book.specs.Lists.{order_held, order_number}
+use Rattle.lit_book.specs.Lists.{order_held, order_number, orders_of}
 use Rattle.lit_book.specs.Rules.{Lit}
 
 -- all its open orders
@@ -16,14 +17,16 @@ table b = vec_items b.orders
 abbrev pub lit : LitBook → Lit
 lit b = record { resting = take b.resting (table b); waiting = drop b.resting (table b) }
 
--- it serves the integrated book
-abbrev pub lit_serves : Book → Bool
-lit_serves DarkMidpoint = false
-lit_serves Integrated = true
-
--- and takes 256 orders at a time
-abbrev pub lit_means : List Order → Meaning
-lit_means os = meant order_number order_held 256 lit_serves os
+-- such orders, of the integrated book
+abbrev pub lit_up : Orders → Meaning
+lit_up os = record { orders = os; capacity = CAPACITY; dark_midpoint = false; integrated = true }
 
 abbrev pub lit_meaning : LitBook → Meaning
-lit_meaning b = lit_means (table b)
+lit_meaning b = lit_up (orders_of (table b))
+
+-- no more orders are open than it takes
+pub lit_bounded : (b : LitBook) → len (lit_meaning b).orders ≤ (lit_meaning b).capacity
+lit_bounded b =
+    let e = count order_number order_held (table b) b.apart in
+    let l = b.limited in
+    omega arith

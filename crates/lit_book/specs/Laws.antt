@@ -1,14 +1,16 @@
 -- Laws of the book, in the words of a trader. Assumes nothing.
-use Rattle.std.specs.Prelude.{◌≡◌, ℕ, zero, suc, ◌+◌, ◌<◌, Bool, true, false, not, ◌&&◌, List, [], ◌∷◌, ◌++◌, length, pos, Some, None, Option, MatchOption, ◌==◌, slice_index_or}
-use Rattle.matching.specs.declared.matcher.Event.{Event}
-use Rattle.matching.specs.declared.matcher.Event.TheVariants.{Nothing, Expired, Trade}
-use Rattle.matching.specs.declared.terms.OrderType.TheVariants.{Limit}
-use Rattle.matching.specs.declared.terms.Side.{Side}
-use Rattle.matching.specs.declared.terms.Side.TheVariants.{Buy, Sell}
-use Rattle.matching.specs.declared.terms.TimeInForce.TheVariants.{Day}
+use Rattle.std.specs.Prelude.{◌≡◌, ℕ, zero, suc, ◌+◌, ◌<◌, Bool, true, false, not, ◌&&◌, List, [], ◌∷◌, ◌++◌, length, pos, Some, None, MatchOption, ◌==◌, slice_index_or}
+use Rattle.std.specs.List.{All, take_while}
+use Rattle.codes.specs.declared.order.Side.{Side}
+use Rattle.codes.specs.declared.order.Side.TheVariants.{Buy, Sell}
+use Rattle.codes.specs.declared.order.TimeInForce.TheVariants.{Day}
+use Rattle.matching.specs.declared.event.Event.{Event}
+use Rattle.matching.specs.declared.event.Event.TheVariants.{Nothing, Expired, Trade}
+use Rattle.terms.specs.declared.pricing.Pricing.TheVariants.{Limit}
+use Rattle.texts.specs.declared.values.Price.{Price}
 use Rattle.lit_book.specs.declared.order.Order.{Order}
-use Rattle.lit_book.specs.Orders.{accepts, better, crosses, opposes, price}
-use Rattle.lit_book.specs.Lists.{remains}
+use Rattle.lit_book.specs.Orders.{accepts, crosses, opposes, prefers, price}
+use Rattle.lit_book.specs.Lists.{order_in}
 use Rattle.lit_book.specs.Rules.{Lit, next, order_under}
 
 -- ---- the price of a trade is never worse than the aggressive order's limit
@@ -17,7 +19,7 @@ abbrev pub Fair : Lit → Event → Type 0
 Fair b Nothing = Unit {0}
 Fair b (Expired n) = Unit {0}
 Fair b (Trade p None q z) = Unit {0}
-Fair b (Trade p (Some n) q z) = MatchOption (order_under b n) ⊥ (λ a. accepts a.side a.order_type z ≡ true)
+Fair b (Trade p (Some n) q z) = MatchOption (order_under b n) ⊥ (λ a. accepts a.side a.pricing z ≡ true)
 
 -- ---- no order at rest that is better priced, or as good and earlier, is passed over
 
@@ -25,32 +27,33 @@ Fair b (Trade p (Some n) q z) = MatchOption (order_under b n) ⊥ (λ a. accepts
 abbrev pub alike : Order → Order → Bool
 alike o x = o.instrument == x.instrument && not (opposes o.side x.side)
 
--- every order of the list that is like o is priced worse for the side s
-abbrev pub AllWorse : Side → Order → List Order → Type 0
-AllWorse s o [] = Unit {0}
-AllWorse s o (x ∷ xs) = (alike o x ≡ true → better s (price o) (price x) ≡ true) × AllWorse s o xs
+-- x is priced worse than o for the side s, or is no order like it
+abbrev pub Worse : Side → Order → Order → Type 0
+Worse s o x = alike o x ≡ true → prefers s (price o) (price x) ≡ true
 
--- none is priced better
-abbrev pub NoneBetter : Side → Order → List Order → Type 0
-NoneBetter s o [] = Unit {0}
-NoneBetter s o (x ∷ xs) = (alike o x ≡ true → better s (price x) (price o) ≡ false) × NoneBetter s o xs
+-- x is priced no better than o
+abbrev pub NoBetter : Side → Order → Order → Type 0
+NoBetter s o x = alike o x ≡ true → prefers s (price x) (price o) ≡ false
 
--- a trades with o: of the orders now at rest, those that came to rest before o are priced worse, those after it no better
-pub record InLine (a o : Order) (now-resting : List Order) : Type 0 where
-  pub earlier : List Order
-  pub later : List Order
-  -- what is left of o itself
-  pub left : Option ℕ
-  pub line : now-resting ≡ earlier ++ (remains o left ++ later)
-  pub worse : AllWorse a.side o earlier
-  pub no-better : NoneBetter a.side o later
+-- the orders of a list that stand before the one of a number
+abbrev pub before : ℕ → List Order → List Order
+before n os = take_while (λ o. not (o.number == n)) os
 
-abbrev pub Served : Lit → Event → Lit → Type 0
-Served b Nothing b' = Unit {0}
-Served b (Expired n) b' = Unit {0}
-Served b (Trade (Some p) (Some n) q z) b' = MatchOption (order_under b p) ⊥ (λ o. MatchOption (order_under b n) ⊥ (λ a. InLine a o b'.resting))
-Served b (Trade (Some p) None q z) b' = ⊥
-Served b (Trade None n q z) b' = ⊥
+-- those at rest when the waiting order of the number n trades: those at rest before the call, and behind them those that
+-- waited before it and came to rest in this very call
+abbrev pub at_rest_for : ℕ → Lit → List Order
+at_rest_for n b = b.resting ++ before n b.waiting
+
+-- a trades with the order of the number p among those at rest: each before it is priced worse, and none at all better
+abbrev pub FirstServed : Order → ℕ → List Order → Type 0
+FirstServed a p os = MatchOption (order_in os p) ⊥ (λ o. All (Worse a.side o) (before p os) × All (NoBetter a.side o) os)
+
+abbrev pub Served : Lit → Event → Type 0
+Served b Nothing = Unit {0}
+Served b (Expired n) = Unit {0}
+Served b (Trade (Some p) (Some n) q z) = MatchOption (order_under b n) ⊥ (λ a. FirstServed a p (at_rest_for n b))
+Served b (Trade (Some p) None q z) = ⊥
+Served b (Trade None n q z) = ⊥
 
 -- ---- no two orders at rest cross, and with no event nothing waits
 
@@ -76,16 +79,27 @@ after_events (suc n) b = after_events n (next b).1
 abbrev pub Enough : ℕ → Lit → Type 0
 Enough n b = (next (after_events n b)).0 ≡ Nothing
 
--- ---- a worked example: sells of 50 at 101 and 50 at 100, then a buy of 80 at 101, trade 50 at 100 and 30 at 101
+-- ---- worked examples
+
+abbrev pub at_price : ℕ → Price
+at_price p = record { raw = pos p }
 
 abbrev pub day_order : ℕ → Side → ℕ → ℕ → Order
-day_order n s p q = record { number = n; instrument = 0; side = s; order_type = Limit (pos p); time_in_force = Day; quantity = q }
+day_order n s p q = record { number = n; instrument = 0; side = s; pricing = Limit (at_price p); time_in_force = Day; quantity = q }
 
+-- sells of 50 at 101 and 50 at 100, then a buy of 80 at 101, trade 50 at 100 and 30 at 101
 abbrev pub example : Lit
 example = record { resting = []; waiting = day_order 1 Sell 101 50 ∷ day_order 2 Sell 100 50 ∷ day_order 3 Buy 101 80 ∷ [] }
 
 abbrev pub Worked : Type 0
 Worked =
-    ((next example).0 ≡ Trade (Some 2) (Some 3) 50 (pos 100))
-    × ((next (next example).1).0 ≡ Trade (Some 1) (Some 3) 30 (pos 101))
+    ((next example).0 ≡ Trade (Some 2) (Some 3) 50 (at_price 100))
+    × ((next (next example).1).0 ≡ Trade (Some 1) (Some 3) 30 (at_price 101))
     × (next (next (next example).1).1 ≡ (Nothing, record { resting = day_order 1 Sell 101 20 ∷ []; waiting = [] }))
+
+-- of two sells at one price, a trade with the second to rest is against the law
+abbrev pub equals : Lit
+equals = record { resting = day_order 1 Sell 100 50 ∷ day_order 2 Sell 100 50 ∷ []; waiting = day_order 3 Buy 100 50 ∷ [] }
+
+abbrev pub LastRefused : Type 0
+LastRefused = Served equals (Trade (Some 2) (Some 3) 50 (at_price 100)) → ⊥

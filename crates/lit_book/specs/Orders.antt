@@ -1,18 +1,19 @@
 -- When an order trades with another, and which it prefers. Assumes nothing.
-use Rattle.std.specs.Prelude.{ℕ, Bool, true, false, ◌&&◌, ◌||◌, ℤ, pos, ◌==◌, int_le, int_lt}
-use Rattle.matching.specs.declared.terms.OrderType.{OrderType}
-use Rattle.matching.specs.declared.terms.OrderType.TheVariants.{Market, Limit}
-use Rattle.matching.specs.declared.terms.Side.{Side}
-use Rattle.matching.specs.declared.terms.Side.TheVariants.{Buy, Sell}
-use Rattle.matching.specs.declared.terms.TimeInForce.{TimeInForce}
-use Rattle.matching.specs.declared.terms.TimeInForce.TheVariants.{Day, ImmediateOrCancel}
+use Rattle.std.specs.Prelude.{ℕ, Bool, true, false, if◌then◌else◌, ◌&&◌, ◌||◌, pos, Some, None, Option, ◌==◌, nat_lt, int_le, int_lt}
+use Rattle.codes.specs.declared.order.Side.{Side}
+use Rattle.codes.specs.declared.order.Side.TheVariants.{Buy, Sell}
+use Rattle.codes.specs.declared.order.TimeInForce.{TimeInForce}
+use Rattle.codes.specs.declared.order.TimeInForce.TheVariants.{Day, GoodTillCancel, ImmediateOrCancel, FillOrKill, GoodTillDate, GoodTillTime}
+use Rattle.terms.specs.declared.pricing.Pricing.{Pricing}
+use Rattle.terms.specs.declared.pricing.Pricing.TheVariants.{Market, Limit}
+use Rattle.texts.specs.declared.values.Price.{Price}
 use Rattle.lit_book.specs.declared.order.Order.{Order}
 
 -- whether an order takes a price: a buy at its limit or below, a sell at its limit or above, a market order any
-abbrev pub accepts : Side → OrderType → ℤ → Bool
+abbrev pub accepts : Side → Pricing → Price → Bool
 accepts s Market p = true
-accepts Buy (Limit l) p = int_le p l
-accepts Sell (Limit l) p = int_le l p
+accepts Buy (Limit l) p = int_le p.raw l.raw
+accepts Sell (Limit l) p = int_le l.raw p.raw
 
 abbrev pub opposes : Side → Side → Bool
 opposes Buy Buy = false
@@ -21,48 +22,70 @@ opposes Sell Buy = true
 opposes Sell Sell = false
 
 -- whether it takes the price of an order at rest, which is a limit order
-abbrev pub takes : Side → OrderType → OrderType → Bool
+abbrev pub takes : Side → Pricing → Pricing → Bool
 takes s t Market = false
 takes s t (Limit p) = accepts s t p
 
 -- whether a trades with o, which is at rest
 abbrev pub crosses : Order → Order → Bool
-crosses a o = a.instrument == o.instrument && (opposes a.side o.side && takes a.side a.order_type o.order_type)
+crosses a o = a.instrument == o.instrument && (opposes a.side o.side && takes a.side a.pricing o.pricing)
 
 -- the limit; a market order has none, and never rests
-abbrev pub limit : OrderType → ℤ
-limit Market = pos 0
+abbrev pub limit : Pricing → Price
+limit Market = record { raw = pos 0 }
 limit (Limit p) = p
 
-abbrev pub price : Order → ℤ
-price o = limit o.order_type
+abbrev pub price : Order → Price
+price o = limit o.pricing
 
--- whether the price p is better than q for a side
-abbrev pub better : Side → ℤ → ℤ → Bool
-better Buy p q = int_lt p q
-better Sell p q = int_lt q p
+-- whether a side would rather trade at the price p than at q
+abbrev pub prefers : Side → Price → Price → Bool
+prefers Buy p q = int_lt p.raw q.raw
+prefers Sell p q = int_lt q.raw p.raw
 
--- what does not trade comes to rest where it is a Day limit order
-abbrev pub lasting : OrderType → TimeInForce → Bool
+-- whether p is better than the price of the best so far, which stands at some place
+abbrev pub betters : Side → Price → Option (ℕ × Price) → Bool
+betters s p None = true
+betters s p (Some (i, q)) = prefers s p q
+
+-- the better of the best so far and o, which stands at i
+abbrev pub better_at : Order → Option (ℕ × Price) → ℕ → Order → Option (ℕ × Price)
+better_at a found i o = if crosses a o && betters a.side (price o) found then Some (i, price o) else found
+
+-- of what does not trade, only a Day limit order comes to rest
+abbrev pub is_day : TimeInForce → Bool
+is_day Day = true
+is_day GoodTillCancel = false
+is_day ImmediateOrCancel = false
+is_day FillOrKill = false
+is_day GoodTillDate = false
+is_day GoodTillTime = false
+
+abbrev pub lasting : Pricing → TimeInForce → Bool
 lasting Market t = false
-lasting (Limit p) Day = true
-lasting (Limit p) ImmediateOrCancel = false
+lasting (Limit p) t = is_day t
 
 abbrev pub rests : Order → Bool
-rests o = lasting o.order_type o.time_in_force
+rests o = lasting o.pricing o.time_in_force
 
 -- ---- the same order with another quantity or limit
 
-abbrev pub sized : Order → ℕ → Order
-sized o q = record { number = o.number; instrument = o.instrument; side = o.side; order_type = o.order_type; time_in_force = o.time_in_force; quantity = q }
+abbrev pub with_quantity : Order → ℕ → Order
+with_quantity o q = record o { quantity = q }
 
-abbrev pub reprices : OrderType → ℤ → Bool
-reprices Market p = false
-reprices (Limit l) p = int_lt l p || int_lt p l
-
-abbrev pub relimited : OrderType → ℤ → OrderType
+-- a market order stays one
+abbrev pub relimited : Pricing → Price → Pricing
 relimited Market p = Market
 relimited (Limit l) p = Limit p
 
-abbrev pub repriced : Order → ℤ → Order
-repriced o p = record { number = o.number; instrument = o.instrument; side = o.side; order_type = relimited o.order_type p; time_in_force = o.time_in_force; quantity = o.quantity }
+abbrev pub with_limit : Order → Price → Order
+with_limit o p = record o { pricing = relimited o.pricing p }
+
+-- whether p is another than its limit
+abbrev pub reprices : Pricing → Price → Bool
+reprices Market p = false
+reprices (Limit l) p = int_lt l.raw p.raw || int_lt p.raw l.raw
+
+-- a limit order's new price, or a larger quantity of any order, sends it to the back of the waiting
+abbrev pub goes_back : Order → ℕ → Price → Bool
+goes_back o q p = nat_lt o.quantity q || reprices o.pricing p

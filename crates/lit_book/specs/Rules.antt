@@ -1,10 +1,11 @@
 -- The rules of the book: what each call does to the orders that rest and the orders that wait. Assumes nothing.
-use Rattle.std.specs.Prelude.{ℕ, ◌-◌, min, Bool, cond, ◌||◌, List, [], ◌∷◌, ◌++◌, ℤ, Some, None, Option, nat_lt}
-use Rattle.matching.specs.declared.matcher.Event.{Event}
-use Rattle.matching.specs.declared.matcher.Event.TheVariants.{Nothing, Expired, Trade}
-use Rattle.matching.specs.declared.terms.Terms.{Terms}
+use Rattle.std.specs.Prelude.{ℕ, ◌-◌, min, if◌then◌else◌, List, [], ◌∷◌, ◌++◌, Some, None, Option, nat_lt}
+use Rattle.matching.specs.declared.event.Event.{Event}
+use Rattle.matching.specs.declared.event.Event.TheVariants.{Nothing, Expired, Trade}
+use Rattle.matching.specs.declared.matcher.Terms.{Terms}
+use Rattle.texts.specs.declared.values.Price.{Price}
 use Rattle.lit_book.specs.declared.order.Order.{Order}
-use Rattle.lit_book.specs.Orders.{price, repriced, reprices, rests, sized}
+use Rattle.lit_book.specs.Orders.{goes_back, price, rests, with_limit, with_quantity}
 use Rattle.lit_book.specs.Lists.{best, changed, order_in}
 
 -- the orders at rest, the first to rest first, and the waiting ones, the oldest first
@@ -18,29 +19,35 @@ order_under b n = order_in (b.resting ++ b.waiting) n
 
 -- an order of these terms under a number
 abbrev pub order_of : ℕ → Terms → Order
-order_of n t = record { number = n; instrument = t.instrument; side = t.side; order_type = t.order_type; time_in_force = t.time_in_force; quantity = t.quantity }
+order_of n t = record {
+  number = n;
+  instrument = t.instrument;
+  side = t.side;
+  pricing = t.pricing;
+  time_in_force = t.time_in_force;
+  quantity = t.quantity;
+}
 
 -- an entered order waits behind all others
 abbrev pub entered : Lit → Order → Lit
-entered b o = record { resting = b.resting; waiting = b.waiting ++ o ∷ [] }
+entered b o = record b { waiting = b.waiting ++ o ∷ [] }
 
 -- the order of a number with another open quantity, or gone; it keeps its place
 abbrev pub altered : Lit → ℕ → Option ℕ → Lit
 altered b n w = record { resting = changed n w b.resting; waiting = changed n w b.waiting }
 
--- a limit order's new price, or a larger quantity of any order, sends it to the back of the waiting
-abbrev pub goes_back : Order → ℕ → ℤ → Bool
-goes_back o q p = nat_lt o.quantity q || reprices o.order_type p
-
-abbrev pub amended : Lit → Option Order → ℕ → ℤ → Lit
+-- an order with another quantity and price keeps its place, or waits again behind all others
+abbrev pub amended : Lit → Option Order → ℕ → Price → Lit
 amended b None q p = b
-amended b (Some o) q p = cond (goes_back o q p) (entered (altered b o.number None) (repriced (sized o q) p)) (altered b o.number (Some q))
+amended b (Some o) q p =
+    if goes_back o q p then entered (altered b o.number None) (with_limit (with_quantity o q) p)
+    else altered b o.number (Some q)
 
 -- ---- events
 
 -- what is left of an open quantity when q is traded
 abbrev pub left_of : ℕ → ℕ → Option ℕ
-left_of q open-now = cond (nat_lt q open-now) (Some (open-now - q)) None
+left_of q open-now = if nat_lt q open-now then Some (open-now - q) else None
 
 -- a trades with o at rest, for the smaller quantity at the resting price
 abbrev pub size_of : Order → Order → ℕ
@@ -56,7 +63,7 @@ traded b a o = altered (altered b o.number (left_of (size_of a o) o.quantity)) a
 -- what comes, or expires
 abbrev pub outcome : Lit → Order → Option Order → Event × Lit → Event × Lit
 outcome b a (Some o) later = (trade_of a o, traded b a o)
-outcome b a None later = cond (rests a) later (Expired a.number, altered b a.number None)
+outcome b a None later = if rests a then later else (Expired a.number, altered b a.number None)
 
 -- the next event, and the book after it
 abbrev pub next_of : List Order → List Order → Event × Lit

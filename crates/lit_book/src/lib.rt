@@ -2,8 +2,5 @@
 #![tactic(auto)]
 
 pub mod book;
-mod calls;
 pub mod order;
-mod rules;
-mod table;
 mod turns;

@@ -1,21 +1,26 @@
 // An order of the book, and the questions that matching asks of it.
-ghost use Rattle.std.specs.Prelude.{◌≡◌, Some};
-ghost use Rattle.lit_book.specs.Lists.{chosen, order_number};
-ghost use Rattle.lit_book.specs.Texts.{order_text};
-ghost use Rattle.lit_book.specs.Rules.{goes_back};
-ghost use Rattle.lit_book.specs.Orders.{accepts, better, crosses, opposes, price, repriced, reprices, rests, sized};
+ghost use Rattle.std.specs.Prelude.{◌≡◌, ◌&&◌, Some};
+ghost use Rattle.lit_book.specs.Lists.{BestAt, BestSoFar, order_number};
+ghost use Rattle.lit_book.specs.Orders.{accepts, better_at, crosses, goes_back, opposes, prefers, price, reprices, rests, with_limit};
+ghost use Rattle.lit_book.specs.Rules.{order_of};
+ghost use Rattle.lit_book.specs.Texts.{order_text, pricing_text};
 
-use matching::numbered::Numbered;
-use matching::terms::{OrderType, Side, TimeInForce};
+use codes::order::{Side, TimeInForce};
+use keyed::Numbered;
+use matching::matcher::Terms;
 use std::fmt;
+use terms::pricing::Pricing;
+use texts::values::Price;
 
-#[derive(Clone, Copy)]
+/// An open order of the book.
+#[derive(Clone, Copy, Debug, PartialEq)]
 pub struct Order {
     pub number: u64,
     pub instrument: u8,
     pub side: Side,
-    pub order_type: OrderType,
+    pub pricing: Pricing,
     pub time_in_force: TimeInForce,
+    /// The open quantity, in shares.
     pub quantity: u32,
 }
 
@@ -35,26 +40,58 @@ impl fmt::Display for Order {
         let instrument = self.instrument;
         let side = self.side;
         let quantity = self.quantity;
-        let price = self.order_type;
+        let price = Asked(self.pricing);
         let number = self.number;
         write!(f, "{instrument} {side} {quantity} at {price}: {number}")
     }
 }
 
+// The price that an order asks for.
+#[derive(Clone, Copy)]
+struct Asked(Pricing);
+
+impl fmt::Display for Asked {
+    ghost output = { λ asked. Some (pricing_text asked.0) };
+
+    fn fmt<W: fmt::Write>(&self, f: &mut fmt::Formatter<W>) -> fmt::Result {
+        match self.0 {
+            Pricing::Market => f.write_str("market"),
+            Pricing::Limit(price) => {
+                let price = price.raw;
+                write!(f, "{price}")
+            }
+        }
+    }
+}
+
 impl Order {
-    // Whether the order takes a price: a buy at its limit or below, a sell at its limit or above, a market order any.
-    pub(crate) fn accepts(self, at: i64) -> bool
-        ensures { result ≡ accepts self.side self.order_type at }
+    pub(crate) fn new(number: u64, terms: Terms) -> Order
+        ensures { result ≡ order_of number terms }
     {
-        match (self.side, self.order_type) {
-            (_, OrderType::Market) => true,
-            (Side::Buy, OrderType::Limit(limit)) => at <= limit,
-            (Side::Sell, OrderType::Limit(limit)) => limit <= at,
+        Order {
+            number,
+            instrument: terms.instrument,
+            side: terms.side,
+            pricing: terms.pricing,
+            time_in_force: terms.time_in_force,
+            quantity: terms.quantity,
         }
     }
 
-    pub(crate) fn opposes(self, other: Order) -> bool
-        ensures { result ≡ opposes self.side other.side }
+    // Whether it takes a price: a buy at its limit or below, a sell at its limit or above, a market order any.
+    fn accepts(&self, at: Price) -> bool
+        ensures { result ≡ accepts self.now.side self.now.pricing at }
+    {
+        match (self.side, self.pricing) {
+            (_, Pricing::Market) => true,
+            (Side::Buy, Pricing::Limit(limit)) => at.raw <= limit.raw,
+            (Side::Sell, Pricing::Limit(limit)) => limit.raw <= at.raw,
+        }
+    }
+
+    // Whether the other is of the other side.
+    fn opposes(&self, other: &Order) -> bool
+        ensures { result ≡ opposes self.now.side other.now.side }
     {
         match (self.side, other.side) {
             (Side::Buy, Side::Sell) => true,
@@ -63,113 +100,106 @@ impl Order {
         }
     }
 
-    // Whether the order trades with another that is at rest.
-    pub(crate) fn crosses(self, other: Order) -> bool
-        ensures { result ≡ crosses self other }
+    // Whether it trades with another that is at rest.
+    fn crosses(&self, other: &Order) -> bool
+        ensures { result ≡ crosses self.now other.now }
     {
         if self.instrument != other.instrument || !self.opposes(other) {
             return false;
         }
-        match other.order_type {
-            OrderType::Market => false,
-            OrderType::Limit(at) => self.accepts(at),
+        match other.pricing {
+            Pricing::Market => false,
+            Pricing::Limit(at) => self.accepts(at),
         }
     }
 
-    // The limit; a market order has none, and never rests.
-    pub(crate) fn price(self) -> i64
-        ensures { result ≡ price self }
+    /// The limit; 0 of a market order, which has none and never rests.
+    pub fn price(&self) -> Price
+        ensures { result ≡ price self.now }
     {
-        match self.order_type {
-            OrderType::Market => 0,
-            OrderType::Limit(at) => at,
+        match self.pricing {
+            Pricing::Market => Price { raw: 0 },
+            Pricing::Limit(at) => at,
         }
     }
 
-    // Whether one price is better for the order than another.
-    pub(crate) fn prefers(self, one: i64, other: i64) -> bool
-        ensures { result ≡ better self.side one other }
+    // Whether it would rather trade at one price than at another.
+    fn prefers(&self, one: Price, other: Price) -> bool
+        ensures { result ≡ prefers self.now.side one other }
     {
         match self.side {
-            Side::Buy => one < other,
-            Side::Sell => other < one,
+            Side::Buy => one.raw < other.raw,
+            Side::Sell => other.raw < one.raw,
         }
     }
 
-    // Whether what does not trade comes to rest.
-    pub(crate) fn rests(self) -> bool
-        ensures { result ≡ rests self }
-    {
-        match (self.order_type, self.time_in_force) {
-            (OrderType::Limit(_), TimeInForce::Day) => true,
-            _ => false,
-        }
-    }
-
-    // The order with another open quantity.
-    pub(crate) fn sized(self, quantity: u32) -> Order
-        ensures { result ≡ sized self quantity }
-    {
-        Order {
-            number: self.number,
-            instrument: self.instrument,
-            side: self.side,
-            order_type: self.order_type,
-            time_in_force: self.time_in_force,
-            quantity,
-        }
-    }
-
-    // Whether a price is another than the order's limit.
-    pub(crate) fn reprices(self, at: i64) -> bool
-        ensures { result ≡ reprices self.order_type at }
-    {
-        match self.order_type {
-            OrderType::Market => false,
-            OrderType::Limit(limit) => limit < at || at < limit,
-        }
-    }
-
-    // Whether such a change sends the order to the back of the waiting.
-    pub(crate) fn goes_back(self, quantity: u32, at: i64) -> bool
-        ensures { result ≡ goes_back self quantity at }
-    {
-        self.quantity < quantity || self.reprices(at)
-    }
-
-    // The order with another limit; a market order stays one.
-    pub(crate) fn repriced(self, at: i64) -> Order
-        ensures { result ≡ repriced self at }
-    {
-        match self.order_type {
-            OrderType::Market => self,
-            OrderType::Limit(_) => Order {
-                number: self.number,
-                instrument: self.instrument,
-                side: self.side,
-                order_type: OrderType::Limit(at),
-                time_in_force: self.time_in_force,
-                quantity: self.quantity,
-            },
-        }
-    }
-
-    // The better of the best so far and the next order at rest; of equals the first stays.
-    pub(crate) fn chosen(self, other: Order, best: Option<Order>) -> Option<Order>
-        ensures { result ≡ chosen self other best }
+    // The place and the price of the better of the best so far and the next order at rest; of equals the first stays.
+    fn better_of(
+        &self,
+        best: Option<(usize, Price)>,
+        place: usize,
+        other: &Order,
+    ) -> Option<(usize, Price)>
+        ensures { result ≡ better_at self.now best place other.now }
     {
         if !self.crosses(other) {
             return best;
         }
         match best {
-            Some(first) => {
-                if self.prefers(other.price(), first.price()) {
-                    Some(other)
-                } else {
-                    best
-                }
-            }
-            None => Some(other),
+            Some((_, price)) if !self.prefers(other.price(), price) => best,
+            _ => Some((place, other.price())),
+        }
+    }
+
+    // The place of the order at rest that is best for it: the best priced that it crosses, and the first of equals.
+    #[tactic(auto, using(crate::proofs::Places::looked_at, crate::proofs::Places::best_at))]
+    pub(crate) fn best_of(&self, resting: &[Order]) -> Option<usize>
+        ensures { BestAt self.now resting.now result }
+    {
+        let mut best = None;
+        for (place, other) in resting.iter().enumerate() {
+            best = self.better_of(best, place, other);
+        }
+        best.map(|(place, _)| place)
+    }
+
+    // Whether what does not trade comes to rest.
+    pub(crate) fn rests(&self) -> bool
+        ensures { result ≡ rests self.now }
+    {
+        match (self.pricing, self.time_in_force) {
+            (Pricing::Limit(_), TimeInForce::Day) => true,
+            _ => false,
+        }
+    }
+
+    // Whether a price is another than its limit.
+    fn reprices(&self, at: Price) -> bool
+        ensures { result ≡ reprices self.now.pricing at }
+    {
+        match self.pricing {
+            Pricing::Market => false,
+            Pricing::Limit(limit) => limit.raw < at.raw || at.raw < limit.raw,
+        }
+    }
+
+    // Whether such a change sends it to the back of the waiting.
+    pub(crate) fn goes_back(&self, quantity: u32, at: Price) -> bool
+        ensures { result ≡ goes_back self.now quantity at }
+    {
+        self.quantity < quantity || self.reprices(at)
+    }
+
+    // The order with another limit; a market order stays one.
+    pub(crate) fn with_limit(self, at: Price) -> Order
+        ensures { result ≡ with_limit self at }
+    {
+        match self.pricing {
+            Pricing::Market => self,
+            Pricing::Limit(_) => Order {
+                pricing: Pricing::Limit(at),
+                ..self
+            },
         }
     }
 }

@@ -1,58 +1,74 @@
 // The numbers of the waiting orders in turn, in a queue over memory of the book's own.
-ghost use Rattle.std.specs.Prelude.{◌≡◌, [], ◌∷◌, ◌++◌, length, if◌then◌else◌, nat_lt};
+ghost use Rattle.std.specs.Prelude.{◌≡◌, [], ◌∷◌, ◌++◌, length, drop, if◌then◌else◌, nat_lt};
 ghost use Rattle.std.specs.List.{slice_get, remove};
-ghost use Rattle.lit_book.specs.Turns.{queued};
+ghost use Rattle.lit_book.specs.declared.book.TheConstants as limit;
 
+use crate::book::CAPACITY;
 use queue::{Marks, Queue};
+use std::marker::Model;
 
 #[derive(Drop)]
 pub(crate) struct Turns {
-    slots: [u64; 256],
+    slots: [u64; CAPACITY],
     marks: Marks,
+}
+
+// In clauses it is the list of the numbers, the oldest first.
+impl Model for Turns {
+    ghost use Rattle.std.specs.Prelude.{List, ℕ};
+
+    ghost Value = { List ℕ };
+
+    ghost use Rattle.lit_book.specs.Turns.{queued};
+
+    ghost view = { queued };
 }
 
 impl Turns {
     pub(crate) fn new() -> Turns
-        ensures { queued result ≡ [] }
+        ensures { result ≡ [] }
     {
         Turns {
-            slots: [0; 256],
+            slots: [0; CAPACITY],
             marks: Marks { head: 0, len: 0 },
         }
     }
 
     // The number of the order whose turn it is.
     pub(crate) fn front(&mut self) -> Option<u64>
-        ensures value { result ≡ slice_get (queued self.old) 0 }
-        ensures same { queued self.new ≡ queued self.old }
+        ensures value { result ≡ slice_get self.old 0 }
+        ensures same { self.new ≡ self.old }
     {
-        let marks = self.marks;
-        let queue = Queue::resume(&mut self.slots, marks);
+        let queue = Queue::resume(&mut self.slots, self.marks);
         let front = queue.front();
-        let marks = queue.marks();
-        self.marks = marks;
+        self.marks = queue.marks();
         front
     }
 
     // One more at the back, where there is room.
     pub(crate) fn join(&mut self, number: u64)
-        ensures { queued self.new ≡ (if nat_lt (length (queued self.old)) 256 then queued self.old ++ number ∷ [] else queued self.old) }
+        ensures { self.new ≡ (if nat_lt (length self.old) limit.CAPACITY then self.old ++ number ∷ [] else self.old) }
     {
-        let marks = self.marks;
-        let mut queue = Queue::resume(&mut self.slots, marks);
+        let mut queue = Queue::resume(&mut self.slots, self.marks);
         let _ = queue.push(number);
-        let marks = queue.marks();
-        self.marks = marks;
+        self.marks = queue.marks();
+    }
+
+    // Takes the oldest out.
+    pub(crate) fn advance(&mut self)
+        ensures { self.new ≡ drop 1 self.old }
+    {
+        let mut queue = Queue::resume(&mut self.slots, self.marks);
+        let _ = queue.pop();
+        self.marks = queue.marks();
     }
 
     // Takes one out, wherever it stands; the others keep their turn.
     pub(crate) fn leave(&mut self, place: usize)
-        ensures { queued self.new ≡ remove (queued self.old) place }
+        ensures { self.new ≡ remove self.old place }
     {
-        let marks = self.marks;
-        let mut queue = Queue::resume(&mut self.slots, marks);
+        let mut queue = Queue::resume(&mut self.slots, self.marks);
         let _ = queue.remove(place);
-        let marks = queue.marks();
-        self.marks = marks;
+        self.marks = queue.marks();
     }
 }

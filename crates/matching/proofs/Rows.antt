@@ -1,56 +1,74 @@
--- What a change of the rows does to the meaning. Assumes nothing.
-use Rattle.std.specs.Prelude.{◌≡◌, ℕ, ◌<◌, Bool, true, false, List, [], ◌∷◌, ◌++◌, length, is_some, Some, None, Option, slice_index_or, slice_set, refl}
-use Rattle.std.proofs.Common.{sym, ap, ◌∙◌, arith}
-use Rattle.std.proofs.Math.Path.{fun_ext}
-use Rattle.std.proofs.lemmas.List.{length_push, length-set}
-use Rattle.std.proofs.lemmas.List.Edits.{length-remove}
-use Rattle.std.specs.List.{remove}
+-- The tape's rows and what is open, after each change of one row. Assumes nothing.
+use Rattle.std.specs.Prelude.{◌≡◌, ℕ, ◌-◌, ◌<◌, ◌≤◌, true, List, [], ◌∷◌, ◌++◌, length, is_some, Some, None, Option, nat_eq, nat_lt, slice_index_or, slice_set}
+use Rattle.std.proofs.Common.{sym, ap, ◌∙◌}
+use Rattle.std.proofs.lemmas.Bool.{cond-true, cond-false, lt-ltb, le-ltb}
+use Rattle.std.specs.List.{position, remove}
+use Rattle.std.specs.FinMap.{get, len}
+use Rattle.keyed.specs.Look.{put}
+use Rattle.keyed.proofs.Keyed.{position-found}
+use Rattle.keyed.proofs.Tables as tables
+use Rattle.std.specs.Option.{option_map}
 use Rattle.matching.specs.declared.matcher.Held.{Held}
-use Rattle.matching.specs.declared.terms.Book.{Book}
-use Rattle.matching.specs.Look.{look, distinct, Found}
-use Rattle.matching.specs.Meaning.{Meaning, Orders, put, opened, closed, resized, sized}
-use Rattle.matching.specs.Rows.{meant}
-use Rattle.matching.specs.RowsFinite.{distinct_from}
-use Rattle.matching.proofs.Looks as looks
+use Rattle.matching.specs.declared.tape.Row.{Row}
+use Rattle.matching.specs.Meaning.{Orders, closed, filled, left, opened, resized, with_order}
+use Rattle.matching.specs.TapeRows.{FoundRow, all_apart, orders_of, row_held, row_number}
+use Rattle.matching.specs.Tapes.{taped}
 
-module _ {X : Type 0} (key : X → ℕ) (val : X → Held) (limit : ℕ) (books : Book → Bool) where
-  abbrev means : List X → Meaning
-  means xs = meant key val limit books xs
+pub found : (rows : List Row) (n : ℕ) (r : Option ℕ) → r ≡ position (λ row. nat_eq row.number n) rows → FoundRow rows n r
+found rows n r e = position-found row_number row_held rows n r e
 
-  -- two meanings of the same capacity and books are one where the orders and the count are
-  same : (os os' : Orders) (c c' : ℕ) → os ≡ os' → c ≡ c'
-      → ◌≡◌ {A = Meaning} (record { orders = os; count = c; capacity = limit; serves = books }) (record { orders = os'; count = c'; capacity = limit; serves = books })
-  same os os' c c' e f = cc
+pub found_known : (rows : List Row) (n : ℕ) (r : Option ℕ) → r ≡ position (λ row. nat_eq row.number n) rows
+    → is_some r ≡ is_some (get (orders_of rows) n)
+found_known rows n r e = tables.known row_number row_held rows n r (found rows n r e)
 
-  none_is : (o : Option Held) → is_some o ≡ false → o ≡ None
-  none_is None h = refl
-  none_is (Some x) h = absurd (let z : ◌≡◌ {A = ℕ} 0 1 = cc in let no : ⊥ = omega arith in no)
+pub pushed : (rows : List Row) (row : Row) → get (orders_of rows) row.number ≡ None
+    → taped (orders_of (rows ++ row ∷ [])) ≡ opened (taped (orders_of rows)) row.number (row_held row)
+pushed rows row new = ap taped (tables.pushed row_number row_held rows row new)
 
-  pub pushed-means : (xs : List X) (y : X) → is_some (look key val xs (key y)) ≡ false → means (xs ++ y ∷ []) ≡ opened (means xs) (key y) (val y)
-  pushed-means xs y h = same _ _ _ _ (fun_ext (looks.look-push key val xs y (none_is _ h)) ∙ looks.written-update key val _ _ _) (length_push xs y)
+pub pushed_apart : (rows : List Row) (row : Row) → all_apart rows ≡ true → get (orders_of rows) row.number ≡ None → all_apart (rows ++ row ∷ []) ≡ true
+pushed_apart rows row u new = tables.pushed_apart row_number row_held rows row u new
 
-  pub pushed-apart : (xs : List X) (y : X) → distinct key val xs ≡ true → is_some (look key val xs (key y)) ≡ false → distinct key val (xs ++ y ∷ []) ≡ true
-  pushed-apart xs y u h = looks.distinct-to key val _ (looks.distinct_push key val xs y (distinct_from key val xs u) (none_is _ h))
+pub removed : (rows : List Row) (i n : ℕ) → all_apart rows ≡ true → FoundRow rows n (Some i)
+    → taped (orders_of (remove rows i)) ≡ closed (taped (orders_of rows)) n
+removed rows i n u f = ap taped (tables.removed row_number row_held rows i n u f)
 
-  pub removed-means : (xs : List X) (i n : ℕ) → distinct key val xs ≡ true → Found key val xs n (Some i) → means (remove xs i) ≡ closed (means xs) n
-  removed-means xs i n u (l, k, at) =
-      let e = length-remove xs i l in
-      same _ _ _ _ (fun_ext (looks.look-without key val xs i n (distinct_from key val xs u) l k at) ∙ looks.written-update key val _ _ _) (omega arith)
+pub removed_apart : (rows : List Row) (i : ℕ) → all_apart rows ≡ true → all_apart (remove rows i) ≡ true
+removed_apart rows i u = tables.removed_apart row_number row_held rows i u
 
-  pub removed-apart : (xs : List X) (i : ℕ) → distinct key val xs ≡ true → distinct key val (remove xs i) ≡ true
-  removed-apart xs i u = looks.distinct-to key val _ (looks.distinct_without key val xs i (distinct_from key val xs u))
+pub held : (rows : List Row) (i n : ℕ) (row : Row) → FoundRow rows n (Some i) → row ≡ slice_index_or rows i row → get (orders_of rows) n ≡ Some (row_held row)
+held rows i n row f read = tables.stands_at row_number row_held rows i n row f ∙ ap (λ (x : Row). Some (row_held x)) (sym read)
 
-  -- what is held under the number of the row at a place
-  pub found-held : (xs : List X) (i n : ℕ) (d : X) → Found key val xs n (Some i) → look key val xs n ≡ Some (val (slice_index_or xs i d))
-  found-held xs i n d (l, k, at) = looks.look_at key val xs i n d l k at
+-- the row at a place with another quantity
+abbrev pub with_quantity : Row → ℕ → Row
+with_quantity row q = record { number = row.number; instrument = row.instrument; quantity = q }
 
-  pub set-means : (xs : List X) (i n q : ℕ) (x y : X) → Found key val xs n (Some i) → x ≡ slice_index_or xs i x → key y ≡ n → Some (val y) ≡ sized q (Some (val x)) → means (slice_set xs i y) ≡ resized (means xs) n q
-  set-means xs i n q x y f read same_key new =
-      same _ _ _ _
-      (fun_ext (looks.look-set key val xs i n y f.0 f.1 f.2 same_key)
-      ∙ looks.written-update key val _ _ _
-      ∙ ap (put (look key val xs) n) (new ∙ ap (sized q) (sym (found-held xs i n x f ∙ ap (λ (z : X). Some (val z)) (sym read)))))
-      (length-set xs i y)
+own : (rows : List Row) (i n : ℕ) (row : Row) → FoundRow rows n (Some i) → row ≡ slice_index_or rows i row → row.number ≡ n
+own rows i n row f read = ap row_number read ∙ f.2 row
 
-  pub set_apart : (xs : List X) (i : ℕ) (y : X) → ((d : X) → i < length xs → key (slice_index_or xs i d) ≡ key y) → distinct key val xs ≡ true → distinct key val (slice_set xs i y) ≡ true
-  set_apart xs i y h u = looks.distinct-to key val _ (looks.distinct-set key val xs i y h (distinct_from key val xs u))
+pub requantified : (rows : List Row) (i n q : ℕ) (row : Row) → FoundRow rows n (Some i) → row ≡ slice_index_or rows i row
+    → taped (orders_of (slice_set rows i (with_quantity row q))) ≡ resized (taped (orders_of rows)) n q
+requantified rows i n q row f read =
+    ap taped
+    (tables.rewritten row_number row_held rows i n (with_quantity row q) f (own rows i n row f read)
+    ∙ ap (λ (w : Option Held). put (orders_of rows) n (option_map (λ (h : Held). record h { quantity = q }) w)) (sym (held rows i n row f read)))
+
+pub requantified_apart : (rows : List Row) (i n q : ℕ) (row : Row) → all_apart rows ≡ true → FoundRow rows n (Some i) → row ≡ slice_index_or rows i row
+    → all_apart (slice_set rows i (with_quantity row q)) ≡ true
+requantified_apart rows i n q row u f read =
+    tables.rewritten_apart row_number row_held rows i n (with_quantity row q) u f (own rows i n row f read)
+
+pub count : (rows : List Row) → all_apart rows ≡ true → len (orders_of rows) ≡ length rows
+count rows u = tables.count row_number row_held rows u
+
+-- what is left of an order of which a quantity is traded
+pub filled_part : (os : Orders) (n q : ℕ) (h : Held) → get os n ≡ Some h → q < h.quantity
+    → resized (taped os) n (h.quantity - q) ≡ filled (taped os) q (Some n)
+filled_part os n q h is lt =
+    let f = λ (w : Option Held). with_order (taped os) n (option_map (λ (x : Held). record x { quantity = h.quantity - q }) w) in
+    let g = λ (w : Option Held). with_order (taped os) n (left q w) in
+    ap f is ∙ sym (ap g is ∙ ap (with_order (taped os) n) (cond-true (nat_lt q h.quantity) _ _ (lt-ltb _ _ lt)))
+
+pub filled_whole : (os : Orders) (n q : ℕ) (h : Held) → get os n ≡ Some h → h.quantity ≤ q → closed (taped os) n ≡ filled (taped os) q (Some n)
+filled_whole os n q h is le =
+    let g = λ (w : Option Held). with_order (taped os) n (left q w) in
+    sym (ap g is ∙ ap (with_order (taped os) n) (cond-false (nat_lt q h.quantity) _ _ (le-ltb _ _ le)))

@@ -4,157 +4,133 @@
 // Every contract gives the whole meaning after the call, so what it does not name stays. Which event comes next is left
 // open: code above is proved for every engine.
 ghost use Rattle.std.specs.Prelude.{◌≡◌, ◌≤◌, Some, is_some, is_ok, if◌then◌else◌, ◌==◌};
+ghost use Rattle.std.specs.FinMap.{get, len};
 ghost use Rattle.std.specs.Result.{result_err};
-ghost use Rattle.matching.specs.Texts.{event_text, party_text, refusal_text};
-ghost use Rattle.matching.specs.Meaning.{Meaning, Finite, open_quantity, opened, closed, resized, enter_refusal, cancel_refusal, amend_refusal, Allowed, happened};
+ghost use Rattle.matching.specs.Meaning.{Allowed, Meaning, amend_refusal, cancel_refusal, closed, enter_refusal, happened, held_of, open_quantity, opened, resized, serves};
+ghost use Rattle.matching.specs.Texts.{refusal_text};
 
-use crate::terms::{Book, Terms};
+use crate::event::Event;
+use codes::order::{Book, Side, TimeInForce};
 use std::fmt;
+use terms::pricing::Pricing;
+use texts::values::Price;
 
-// An open order as every engine knows it.
-#[derive(Clone, Copy, PartialEq, Eq, Debug)]
+/// What an order asks for.
+#[derive(Clone, Copy, Debug, PartialEq)]
+pub struct Terms {
+    pub instrument: u8,
+    pub side: Side,
+    pub pricing: Pricing,
+    pub time_in_force: TimeInForce,
+    /// The open quantity, in shares.
+    pub quantity: u32,
+    pub book: Book,
+}
+
+/// An open order as every engine knows it.
+#[derive(Clone, Copy, Debug, PartialEq)]
 pub struct Held {
     pub instrument: u8,
+    /// The open quantity, in shares.
     pub quantity: u32,
 }
 
-#[derive(Clone, Copy, PartialEq, Eq, Debug)]
+/// Why an engine did not do what it was asked; the engine is then as it was.
+#[derive(Clone, Copy, Debug, PartialEq)]
 pub enum Refusal {
-    // a quantity of 0
+    /// A quantity of 0.
     NoQuantity,
-    // an order of this number is open already
+    /// An order of this number is open already.
     NumberOpen,
-    // as many orders are open as the engine takes
+    /// As many orders are open as the engine takes.
     Full,
-    // no order of this number is open
+    /// No order of this number is open.
     NotOpen,
 }
 
-impl fmt::Display for Refusal {
-    ghost output = { λ reason. Some (refusal_text reason) };
-
-    fn fmt<W: fmt::Write>(&self, f: &mut fmt::Formatter<W>) -> fmt::Result {
-        f.write_str(match self {
+impl Refusal {
+    /// The words that a person reads.
+    pub fn text(self) -> &'static str
+        ensures { result.now ≡ refusal_text self }
+    {
+        match self {
             Refusal::NoQuantity => "no quantity",
             Refusal::NumberOpen => "number open",
             Refusal::Full => "full",
             Refusal::NotOpen => "not open",
-        })
-    }
-}
-
-#[derive(Clone, Copy, PartialEq, Eq, Debug)]
-pub enum Event {
-    Nothing,
-    // the order of this number ends
-    Expired(u64),
-    // a quantity comes off the orders named, and an order with none left ends
-    Trade {
-        passive: Option<u64>,
-        aggressive: Option<u64>,
-        quantity: u32,
-        price: i64,
-    },
-}
-
-impl fmt::Display for Event {
-    ghost output = { λ event. Some (event_text event) };
-
-    fn fmt<W: fmt::Write>(&self, f: &mut fmt::Formatter<W>) -> fmt::Result {
-        match self {
-            Event::Nothing => f.write_str("nothing"),
-            Event::Expired(number) => write!(f, "expired {number}"),
-            Event::Trade {
-                passive,
-                aggressive,
-                quantity,
-                price,
-            } => {
-                let maker = Party(*passive);
-                let taker = Party(*aggressive);
-                write!(f, "trade {quantity} at {price}: {taker} with {maker}")
-            }
         }
     }
 }
 
-// One side of a trade; a dash where it is not named.
-#[derive(Clone, Copy)]
-struct Party(Option<u64>);
-
-impl fmt::Display for Party {
-    ghost output = { λ party. Some (party_text party.0) };
+impl fmt::Display for Refusal {
+    ghost output = { λ refusal. Some (refusal_text refusal) };
 
     fn fmt<W: fmt::Write>(&self, f: &mut fmt::Formatter<W>) -> fmt::Result {
-        match self.0 {
-            Some(number) => write!(f, "{number}"),
-            None => f.write_str("-"),
-        }
+        f.write_str(self.text())
     }
 }
 
+/// A matching engine. Whoever calls it knows it by its meaning alone.
 pub trait Matcher {
     ghost meaning: { Self → Meaning };
 
-    // Opens an order under a number. Refused exactly at quantity 0, an open number or a full engine, tried in this order.
+    /// Opens an order under a number. Refused exactly at quantity 0, an open number or a full engine, tried in this
+    /// order.
     fn enter(&mut self, number: u64, terms: Terms) -> Result<(), Refusal>
         ensures refusal { result_err result ≡ enter_refusal (meaning self.old) number terms.quantity }
-        ensures after { meaning self.new ≡ (if is_ok result then opened (meaning self.old) number (record { instrument = terms.instrument; quantity = terms.quantity }) else meaning self.old) };
+        ensures after { meaning self.new ≡ (if is_ok result then opened (meaning self.old) number (held_of terms) else meaning self.old) };
 
-    // Ends an open order. Refused exactly where it is not open.
+    /// Ends an open order. Refused exactly where it is not open.
     fn cancel(&mut self, number: u64) -> Result<(), Refusal>
         ensures refusal { result_err result ≡ cancel_refusal (meaning self.old) number }
         ensures after { meaning self.new ≡ (if is_ok result then closed (meaning self.old) number else meaning self.old) };
 
-    // Sets the open quantity and the price of an open order. Refused exactly where it is not open or the quantity is 0.
-    fn amend(&mut self, number: u64, quantity: u32, price: i64) -> Result<(), Refusal>
+    /// Sets the open quantity and the price of an open order. Refused exactly where it is not open, or the quantity is
+    /// 0, tried in this order.
+    fn amend(&mut self, number: u64, quantity: u32, price: Price) -> Result<(), Refusal>
         ensures refusal { result_err result ≡ amend_refusal (meaning self.old) number quantity }
         ensures after { meaning self.new ≡ (if is_ok result then resized (meaning self.old) number quantity else meaning self.old) };
 
-    // The next event, and what it changes.
+    /// The next event, and what it changes.
     fn next_event(&mut self) -> Event
         ensures allowed { Allowed (meaning self.old).orders result }
         ensures after { meaning self.new ≡ happened (meaning self.old) result };
 
-    // The order that is open under a number.
+    /// The order that is open under a number.
     fn open_order(&self, number: u64) -> Option<Held>
-        ensures { result ≡ (meaning self.now).orders number };
+        ensures { result ≡ get (meaning self.now).orders number };
 
-    // How many orders are open.
+    /// How many orders are open.
     fn open_count(&self) -> usize
-        ensures { result ≡ (meaning self.now).count };
+        ensures { result ≡ len (meaning self.now).orders };
 
-    // How many orders can be open at a time.
+    /// How many orders can be open at a time.
     fn capacity(&self) -> usize
         ensures { result ≡ (meaning self.now).capacity };
 
+    /// Whether it takes orders for a book.
     fn serves(&self, book: Book) -> bool
-        ensures { result ≡ (meaning self.now).serves book };
+        ensures { result ≡ serves (meaning self.now) book };
 
     fn is_open(&self, number: u64) -> bool
-        ensures { result ≡ is_some ((meaning self.now).orders number) }
+        ensures { result ≡ is_some (get (meaning self.now).orders number) }
     {
         self.open_order(number).is_some()
     }
 
-    // The open quantity under a number, 0 where none is open.
+    /// The open quantity under a number, 0 where none is open.
     fn open_quantity(&self, number: u64) -> u32
         ensures { result ≡ open_quantity (meaning self.now).orders number }
     {
-        match self.open_order(number) {
-            Some(order) => order.quantity,
-            None => 0,
-        }
+        self.open_order(number).map_or(0, |order| order.quantity)
     }
 
     fn is_empty(&self) -> bool
-        ensures { result ≡ ((meaning self.now).count == 0) }
+        ensures { result ≡ (len (meaning self.now).orders == 0) }
     {
         self.open_count() == 0
     }
 
-    // The open numbers are finitely many, and counted.
-    ghost finite: { (m : Self) → Finite (meaning m) };
-
-    ghost bounded: { (m : Self) → (meaning m).count ≤ (meaning m).capacity };
+    // No more orders are open than the engine takes.
+    ghost bounded: { (m : Self) → len (meaning m).orders ≤ (meaning m).capacity };
 }

@@ -3,18 +3,21 @@
 
 #[cfg(test)]
 mod tests {
+    use codes::order::{Book, Side, TimeInForce};
     use lit_book::book::LitBook;
-    use matching::matcher::{Event, Matcher, Refusal};
+    use matching::event::Event;
+    use matching::matcher::{Matcher, Refusal, Terms};
     use matching::tape::{Line, Tape};
-    use matching::terms::{Book, OrderType, Side, Terms, TimeInForce};
     use queue::Queue;
     use std::test::Fail;
+    use terms::pricing::Pricing;
+    use texts::values::Price;
 
     fn limit(side: Side, price: i64, quantity: u32) -> Terms {
         Terms {
             instrument: 0,
             side,
-            order_type: OrderType::Limit(price),
+            pricing: Pricing::Limit(Price { raw: price }),
             time_in_force: TimeInForce::Day,
             quantity,
             book: Book::Integrated,
@@ -26,7 +29,15 @@ mod tests {
             passive: Some(passive),
             aggressive: Some(aggressive),
             quantity,
-            price,
+            price: Price { raw: price },
+        }
+    }
+
+    fn line(number: u64, quantity: u32, price: i64) -> Line {
+        Line {
+            number,
+            quantity,
+            price: Price { raw: price },
         }
     }
 
@@ -51,31 +62,11 @@ mod tests {
     #[test]
     fn tape_passes_over(rt: HostRuntime) -> Result<(), Fail> {
         let mut lines = Vec::new(rt.alloc());
-        lines.push(Line {
-            number: 9,
-            quantity: 5,
-            price: 100,
-        })?;
-        lines.push(Line {
-            number: 1,
-            quantity: 60,
-            price: 100,
-        })?;
-        lines.push(Line {
-            number: 1,
-            quantity: 0,
-            price: 100,
-        })?;
-        lines.push(Line {
-            number: 1,
-            quantity: 20,
-            price: 101,
-        })?;
-        lines.push(Line {
-            number: 1,
-            quantity: 30,
-            price: 102,
-        })?;
+        lines.push(line(9, 5, 100))?;
+        lines.push(line(1, 60, 100))?;
+        lines.push(line(1, 0, 100))?;
+        lines.push(line(1, 20, 101))?;
+        lines.push(line(1, 30, 102))?;
         let mut tape = Tape::new(rt.alloc(), lines)?;
         assert_eq!(rt;
             tape.enter(1, limit(Side::Buy, 100, 0)),
@@ -92,7 +83,7 @@ mod tests {
                 passive: Some(1),
                 aggressive: None,
                 quantity: 20,
-                price: 101,
+                price: Price { raw: 101 },
             }
         );
         assert_eq!(rt; tape.open_quantity(1), 30);
@@ -102,7 +93,7 @@ mod tests {
                 passive: Some(1),
                 aggressive: None,
                 quantity: 30,
-                price: 102,
+                price: Price { raw: 102 },
             }
         );
         assert!(rt; tape.is_empty());
@@ -117,11 +108,11 @@ mod tests {
         assert_eq!(rt; book.enter(1, limit(Side::Sell, 100, 10)), Ok(()));
         assert_eq!(rt; book.enter(2, limit(Side::Sell, 100, 10)), Ok(()));
         assert_eq!(rt; book.next_event(), Event::Nothing);
-        assert_eq!(rt; book.amend(1, 5, 100), Ok(()));
+        assert_eq!(rt; book.amend(1, 5, Price { raw: 100 }), Ok(()));
         assert_eq!(rt; book.enter(3, limit(Side::Buy, 100, 5)), Ok(()));
         assert_eq!(rt; book.next_event(), traded(1, 3, 5, 100));
         assert_eq!(rt; book.enter(4, limit(Side::Sell, 100, 10)), Ok(()));
-        assert_eq!(rt; book.amend(2, 11, 100), Ok(()));
+        assert_eq!(rt; book.amend(2, 11, Price { raw: 100 }), Ok(()));
         assert_eq!(rt; book.enter(5, limit(Side::Buy, 101, 12)), Ok(()));
         assert_eq!(rt; book.next_event(), traded(4, 5, 10, 100));
         assert_eq!(rt; book.next_event(), traded(2, 5, 2, 100));
@@ -138,7 +129,7 @@ mod tests {
         let terms = Terms {
             instrument: 0,
             side: Side::Sell,
-            order_type: OrderType::Market,
+            pricing: Pricing::Market,
             time_in_force: TimeInForce::ImmediateOrCancel,
             quantity: 15,
             book: Book::Integrated,

@@ -3,6 +3,7 @@ use Rattle.texts.specs.Bytes.{is_text, named}
 use Rattle.texts.specs.Identifiers.{base62}
 use Rattle.layout.specs.Layout.{taken, is_order, first_bad}
 use Rattle.orders.specs.Examples.{Examples as OrdersWorked}
+use Rattle.lit_book.proofs.Examples.{last_refused}
 use Rattle.wire.specs.Kinds.{takes, total_of}
 use Rattle.wire.specs.Messages.{opening}
 use Rattle.examples.proofs.examples_hold.Goals as goal
@@ -12,4 +13,4 @@ orders-worked t a = record { part = refl; left = refl; cancelled = refl; expired
 
 pub returns : goal.returns
 unfolding opening takes total_of first_bad taken is_order is_text named base62
-returns c = (refl, refl, refl, refl, refl, refl, refl, refl, refl, (refl, refl, refl), orders-worked)
+returns c = (refl, refl, refl, refl, refl, refl, refl, refl, refl, (refl, refl, refl), last_refused, orders-worked)

@@ -1,10 +1,9 @@
 use Rattle.std.proofs.Common.{rules}
-use Rattle.matching.proofs.Looks.{position-found, position-tells}
-use Rattle.lit_book.specs.Lists.{FoundOrder, order_number, order_held}
+use Rattle.lit_book.proofs.Tables.{found, found_known}
 use Rattle.lit_book.proofs.book.LitBook.find.Goals as goal
 
-pub returns : goal.returns
-returns c =
-    let xs = c.args.self.now.orders.items in
-    let f : FoundOrder xs c.args.number c.place_of.result = position-found order_number order_held xs c.args.number _ (search rules) in
-    record { found = f; test = position-tells order_number order_held xs c.args.number _ f }
+pub returns-clause-found : goal.returns-clause-found
+returns-clause-found c = found c.args.self.now.orders.items c.args.number _ (search rules)
+
+pub returns-clause-test : goal.returns-clause-test
+returns-clause-test c = found_known c.args.self.now.orders.items c.args.number _ (search rules)

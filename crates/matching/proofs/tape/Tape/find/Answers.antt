@@ -1,10 +1,9 @@
 use Rattle.std.proofs.Common.{rules}
-use Rattle.matching.specs.TapeRows.{row_number, row_held, FoundRow}
-use Rattle.matching.proofs.Looks.{position-found, position-tells}
+use Rattle.matching.proofs.Rows.{found, found_known}
 use Rattle.matching.proofs.tape.Tape.find.Goals as goal
 
-pub returns : goal.returns
-returns c =
-    let xs = c.args.self.now.rows.items in
-    let f : FoundRow xs c.args.number c.place_of.result = position-found row_number row_held xs c.args.number _ (search rules) in
-    record { found = f; test = position-tells row_number row_held xs c.args.number _ f }
+pub returns-clause-found : goal.returns-clause-found
+returns-clause-found c = found c.args.self.now.rows.items c.args.number _ (search rules)
+
+pub returns-clause-test : goal.returns-clause-test
+returns-clause-test c = found_known c.args.self.now.rows.items c.args.number _ (search rules)
