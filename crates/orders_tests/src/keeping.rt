@@ -1,4 +1,5 @@
 // A store that fills up.
+use byte_store::codec::LONGEST;
 use codes::session::Partition;
 use reports::report::{CancelReject, Entry, Report};
 use std::test::Fail;
@@ -22,18 +23,48 @@ fn entry(owner: usize, reason: i32) -> Entry {
     }
 }
 
-#[test]
-fn numbers_and_owners(rt: HostRuntime) -> Result<(), Fail> {
-    let mut store = Records::new(rt.alloc(), 3)?;
-    assert_eq!(rt; store.append(Partition::Two, entry(0, 25)), Some(1));
-    assert_eq!(rt; store.append(Partition::Two, entry(1, 26)), Some(2));
-    assert_eq!(rt; store.append(Partition::One, entry(1, 27)), Some(1));
-    assert_eq!(rt; store.append(Partition::Three, entry(1, 28)), None);
-    assert_eq!(rt; store.last(Partition::Two), 2);
-    assert_eq!(rt; store.next(Partition::Two, 1, 0), Some(2));
-    assert_eq!(rt; store.next(Partition::Two, 1, 2), None);
-    assert_eq!(rt; store.places(), 0);
+fn same<T: PartialEq + Drop>(got: T, wanted: T) -> Result<(), Fail> {
+    if got == wanted {
+        Ok(())
+    } else {
+        Err(Fail::new("not what was wanted"))
+    }
+}
+
+// A store of three places, empty.
+fn numbers_and_owners<S: Store>(store: &mut S) -> Result<(), Fail> {
+    same(store.append(Partition::Two, entry(0, 25)), Some(1))?;
+    same(store.append(Partition::Two, entry(1, 26)), Some(2))?;
+    same(store.append(Partition::One, entry(1, 27)), Some(1))?;
+    same(store.last(Partition::Two), 2)?;
+    same(store.next(Partition::Two, 1, 0), Some(2))?;
+    same(store.next(Partition::Two, 1, 2), None)?;
+    same(store.read(Partition::Three, 1).is_none(), true)?;
     let read = store.read(Partition::Two, 2).ok_or("not read")?;
-    assert_eq!(rt; read.owner, 1);
+    same(read.owner, 1)?;
+    let Report::CancelReject(reject) = read.report else {
+        return Err(Fail::new("read as another report"));
+    };
+    same(reject.reason, 26)?;
+    Ok(())
+}
+
+#[test]
+fn records_keep(rt: HostRuntime) -> Result<(), Fail> {
+    let mut store = Records::new(rt.alloc(), 3)?;
+    numbers_and_owners(&mut store)?;
+    assert_eq!(rt; store.places(), 0);
+    assert_eq!(rt; store.append(Partition::Three, entry(1, 28)), None);
+    Ok(())
+}
+
+#[test]
+fn wire_bytes_keep(rt: HostRuntime) -> Result<(), Fail> {
+    let mut store = wire_store::new(rt.alloc(), 3 * LONGEST)?;
+    assert_eq!(rt; store.places(), 3);
+    numbers_and_owners(&mut store)?;
+    assert_eq!(rt; store.places(), 1);
+    assert_eq!(rt; store.append(Partition::Three, entry(1, 28)), Some(1));
+    assert_eq!(rt; store.places(), 1);
     Ok(())
 }

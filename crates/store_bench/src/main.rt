@@ -1,4 +1,4 @@
-// Fills a store with a day's reports of eight CompIDs, reads them all back, and says how long each step took.
+// Fills both stores with a day's reports of eight CompIDs, reads them all back, and says how long each step took.
 #![tactic(auto)]
 
 mod day;
@@ -6,6 +6,7 @@ mod walk;
 
 use crate::day::OWNERS;
 use crate::walk::{fill, read_all, read_owner, walk_all};
+use byte_store::codec::LONGEST;
 use limits::REPORTS;
 use std::time::{Duration, Instant};
 use store::Store;
@@ -50,5 +51,7 @@ fn run<S: Store>(rt: &HostRuntime, name: &str, store: &mut S) -> anyhow::Result<
 
 fn main(rt: HostRuntime) -> anyhow::Result<()> {
     let mut records = Records::new(rt.alloc(), REPORTS)?;
-    run(&rt, "records", &mut records)
+    run(&rt, "records", &mut records)?;
+    let mut bytes = wire_store::new(rt.alloc(), REPORTS * LONGEST)?;
+    run(&rt, "wire bytes", &mut bytes)
 }

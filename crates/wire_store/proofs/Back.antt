@@ -1,0 +1,220 @@
+-- What is told from a message's contents is what the message tells. Assumes nothing.
+use Rattle.std.proofs.Common.{◌≡◌, ℕ, ◌≤◌, true, cond, List, [], ◌∷◌, ◌++◌, map, length, take, drop, replicate, pos, Some, None, Ok, Option, refl, sym, ap, ◌∙◌, subst, arith, le-leb}
+use Rattle.std.specs.Option.{unwrap_or, is_some, option_map}
+use Rattle.std.proofs.Math.Bool.{Bool-set}
+use Rattle.std.proofs.Math.Nat.{ℕ_set}
+use Rattle.std.proofs.lemmas.Bool.{and_from, cond-true}
+use Rattle.std.proofs.lemmas.List.{length-take-le, take_at}
+use Rattle.std.proofs.lemmas.List.Sums.{prefix_len-le-length}
+use Rattle.std.specs.List.{prefix_len}
+use Rattle.codes.specs.Order.{sides, side_code, books, book_code}
+use Rattle.codes.specs.Report.{exec_type_code, statuses, status_code, liquidities, liquidity_code, trade_types, trade_type_code, capacities, capacity_code, mass_responses, mass_response_code}
+use Rattle.codes.specs.declared.order.Book.{Book}
+use Rattle.codes.specs.declared.order.Book.TheVariants as book
+use Rattle.codes.specs.declared.order.Side.{Side}
+use Rattle.codes.specs.declared.order.Side.TheVariants as side
+use Rattle.codes.specs.declared.report.Status.{Status}
+use Rattle.codes.specs.declared.report.Status.TheVariants as status
+use Rattle.codes.specs.declared.report.Liquidity.{Liquidity}
+use Rattle.codes.specs.declared.report.Liquidity.TheVariants as liquidity
+use Rattle.codes.specs.declared.report.TradeType.{TradeType}
+use Rattle.codes.specs.declared.report.TradeType.TheVariants as trade_type
+use Rattle.codes.specs.declared.report.Capacity.{Capacity}
+use Rattle.codes.specs.declared.report.Capacity.TheVariants as capacity
+use Rattle.codes.specs.declared.report.MassResponse.{MassResponse}
+use Rattle.codes.specs.declared.report.MassResponse.TheVariants as mass_response
+use Rattle.codes.specs.declared.session.Partition.{Partition}
+use Rattle.terms.specs.Execution.{kind_of as exec_of}
+use Rattle.terms.specs.declared.execution.Execution.{Execution}
+use Rattle.terms.specs.declared.execution.Execution.TheVariants as execution
+use Rattle.texts.specs.Bytes.{printable, is_text, padded}
+use Rattle.texts.specs.Texts.{fitting}
+use Rattle.texts.specs.Says.{says}
+use Rattle.texts.specs.declared.fixed.FixedText.{FixedText}
+use Rattle.texts.specs.declared.text.Text.{Text}
+use Rattle.texts.proofs.Padding.{padded-said, printable-said}
+use Rattle.layout.specs.declared.fault.Fault.{Fault}
+use Rattle.layout.specs.declared.fault.Fault.TheVariants as fault
+use Rattle.layout.specs.declared.field.Field.{Field}
+use Rattle.layout.specs.Layout.{Content, got, Says}
+use Rattle.layout.specs.Writing.{header, encode}
+use Rattle.messages.specs.Terms.{execution_reject, execution_liquidity, execution_trade}
+use Rattle.wire.specs.declared.kinds.Channel.TheVariants.{Follower}
+use Rattle.wire.specs.declared.kinds.Kind.{Kind}
+use Rattle.wire.specs.declared.message.Message.{Message}
+use Rattle.wire.specs.declared.message.Message.TheVariants as message
+use Rattle.wire.specs.Kinds.{letter_of, total_of, table_of, takes}
+use Rattle.wire.specs.Messages.{kind_of, contents_of, opening, after_opening, verdict, written, Holdable, Reads}
+use Rattle.wire.proofs.Headers.{opened}
+use Rattle.wire.proofs.Sound.{sound}
+use Rattle.wire.proofs.Trips.{trip}
+use Rattle.reports.specs.declared.report.Report.{Report}
+use Rattle.reports.specs.declared.report.Report.TheVariants as report
+use Rattle.report_messages.specs.Back.{kept, report_in}
+use Rattle.report_messages.specs.Telling.{told_as, kind_told}
+use Rattle.wire_store.specs.Fitted.{fit, fitted}
+use Rattle.wire_store.specs.Told.{coded, decoded, value_of, execution_from, nothing_told, told_from, told_in}
+
+-- texts of the same bytes are the same
+abbrev made : (N : ℕ) (f : List ℕ) → length f ≡ N → is_text f ≡ true → FixedText N
+made N f w t = record { bytes = f; wide = w; text = t }
+
+made_same : (N : ℕ) (f g : List ℕ) → f ≡ g → (w : length f ≡ N) (t : is_text f ≡ true) (w' : length g ≡ N) (t' : is_text g ≡ true) → ◌≡◌ {A = FixedText N} (record { bytes = f; wide = w; text = t }) (record { bytes = g; wide = w'; text = t' })
+made_same N f g e w t w' t' =
+    let P : List ℕ → Type 0 = λ h. (v : length h ≡ N) (u : is_text h ≡ true) → ◌≡◌ {A = FixedText N} (record { bytes = f; wide = w; text = t }) (record { bytes = h; wide = v; text = u }) in
+    subst P e (λ v u. ap (λ x. made N f x t) (ℕ_set (length f) N w v) ∙ ap (λ x. made N f v x) (Bool-set (is_text f) true t u)) w' t'
+
+blank_same : (x : FixedText 20) → x.bytes ≡ padded 20 [] → x ≡ fitted 20 []
+blank_same x e = made_same 20 x.bytes (padded 20 []) e x.wide x.text (fitted 20 []).wide (fitted 20 []).text
+
+pub blank_told : (x : FixedText 20) → x.bytes ≡ replicate 20 0 → report.CancelReject (record { client = x; reason = pos 0; time = record { seconds = 0; microseconds = 0 } }) ≡ nothing_told
+blank_told x e = ap (λ t. report.CancelReject (record { client = t; reason = pos 0; time = record { seconds = 0; microseconds = 0 } })) (blank_same x e)
+
+-- a text by what it says
+says_fits : {N : ℕ} (t : Text N) → fit N (says t) ≡ says t
+says_fits {N} t =
+    let f = t.field.now in
+    let n = prefix_len printable f in
+    let le = prefix_len-le-length printable f in
+    let l = length-take-le n f le in
+    let w = t.wide in
+    cond-true (fitting N (says t)) (says t) [] (and_from _ _ (le-leb (length (says t)) N (omega arith)) (printable-said f))
+
+text_back : {N : ℕ} (t : Text N) → fitted N (says t) ≡ kept t
+text_back {N} t =
+    let same : padded N (fit N (says t)) ≡ t.field.now = ap (padded N) (says_fits t) ∙ ap (λ n. padded n (says t)) (sym t.wide) ∙ padded-said t.field.now t.text in
+    made_same N (padded N (fit N (says t))) t.field.now same (fitted N (says t)).wide (fitted N (says t)).text t.wide t.text
+
+-- a value by its byte
+side_back : (x : Side) → value_of side_code sides side.Buy (side_code x) ≡ x
+side_back side.Buy = refl
+side_back side.Sell = refl
+
+book_back : (x : Book) → value_of book_code books book.Integrated (book_code x) ≡ x
+book_back book.DarkMidpoint = refl
+book_back book.Integrated = refl
+
+status_back : (x : Status) → value_of status_code statuses status.New (status_code x) ≡ x
+status_back status.New = refl
+status_back status.PartiallyFilled = refl
+status_back status.Filled = refl
+status_back status.Cancelled = refl
+status_back status.Expired = refl
+status_back status.Rejected = refl
+
+liquidity_back : (x : Liquidity) → value_of liquidity_code liquidities liquidity.Unspecified (liquidity_code x) ≡ x
+liquidity_back liquidity.Unspecified = refl
+liquidity_back liquidity.Added = refl
+liquidity_back liquidity.Uncrossing = refl
+liquidity_back liquidity.Removed = refl
+
+trade_type_back : (x : TradeType) → value_of trade_type_code trade_types trade_type.Visible (trade_type_code x) ≡ x
+trade_type_back trade_type.Visible = refl
+trade_type_back trade_type.Hidden = refl
+
+capacity_back : (x : Capacity) → value_of capacity_code capacities capacity.Principal (capacity_code x) ≡ x
+capacity_back capacity.RisklessPrincipal = refl
+capacity_back capacity.Principal = refl
+capacity_back capacity.Agency = refl
+
+mass_response_back : (x : MassResponse) → value_of mass_response_code mass_responses mass_response.Rejected (mass_response_code x) ≡ x
+mass_response_back mass_response.Rejected = refl
+mass_response_back mass_response.Accepted = refl
+
+execution_back : (e : Execution) → execution_from (exec_type_code (exec_of e)) (execution_reject e) (execution_liquidity e) (execution_trade e) ≡ e
+execution_back execution.Unspecified = refl
+execution_back execution.New = refl
+execution_back execution.Cancelled = refl
+execution_back execution.Replaced = refl
+execution_back (execution.Rejected n) = refl
+execution_back execution.Expired = refl
+execution_back execution.Restated = refl
+execution_back (execution.Trade l t) = ap (λ x. execution.Trade x (value_of trade_type_code trade_types trade_type.Visible (trade_type_code t))) (liquidity_back l) ∙ ap (execution.Trade l) (trade_type_back t)
+execution_back (execution.TradeCancel l) = ap execution.TradeCancel (liquidity_back l)
+
+-- a message's report, by its contents
+contents_tell : (m : Message) → told_from (kind_of m) (contents_of m) ≡ unwrap_or (report_in m) nothing_told
+contents_tell (message.ExecutionReport m) =
+    let a = text_back m.client_order_id in
+    let b = execution_back m.execution in
+    let c = status_back m.status in
+    let d = text_back m.symbol in
+    let e = side_back m.side in
+    let f = book_back m.book in
+    let g = capacity_back m.capacity in
+    let price : record { raw = m.executed_price.raw } ≡ m.executed_price = refl in
+    let time : record { seconds = m.transact_time.seconds; microseconds = m.transact_time.microseconds } ≡ m.transact_time = refl in
+    cc
+contents_tell (message.OrderCancelReject m) = let a = text_back m.client_order_id in let time : record { seconds = m.transact_time.seconds; microseconds = m.transact_time.microseconds } ≡ m.transact_time = refl in cc
+contents_tell (message.OrderMassCancelReport m) =
+    let a = text_back m.client_order_id in
+    let b = mass_response_back m.response in
+    let time : record { seconds = m.transact_time.seconds; microseconds = m.transact_time.microseconds } ≡ m.transact_time = refl in
+    cc
+contents_tell (message.Logon m) = refl
+contents_tell (message.LogonReply m) = refl
+contents_tell (message.Logout m) = refl
+contents_tell (message.Heartbeat m) = refl
+contents_tell (message.MissedMessageRequest m) = refl
+contents_tell (message.MissedMessageRequestAck m) = refl
+contents_tell (message.MissedMessageReport m) = refl
+contents_tell (message.Reject m) = refl
+contents_tell (message.NewOrder m) = refl
+contents_tell (message.OrderCancelRequest m) = refl
+contents_tell (message.OrderCancelReplaceRequest m) = refl
+contents_tell (message.OrderMassCancelRequest m) = refl
+
+-- contents that bytes hold are those that are got from them
+all_got : (fs : List Field) (vs : List Content) (bs : List ℕ) → Says vs fs bs → map (got bs) fs ≡ vs
+all_got [] [] bs h = refl
+all_got [] (v ∷ vs) bs h = absurd h
+all_got (f ∷ fs) [] bs h = absurd h
+all_got (f ∷ fs) (v ∷ vs) bs h = let a = sym h.0 in let b = all_got fs vs bs h.1 in cc
+
+told_by : (bs : List ℕ) (m : Message) → verdict Follower bs ≡ None → opening Follower bs ≡ Ok (kind_of m) → Says (contents_of m) (table_of (kind_of m)) bs → decoded bs ≡ unwrap_or (report_in m) nothing_told
+told_by bs m v o s =
+    ap (λ x. cond (is_some x) nothing_told (told_in (opening Follower bs) bs)) v ∙ ap (λ r. told_in r bs) o ∙ ap (told_from (kind_of m)) (all_got (table_of (kind_of m)) (contents_of m) bs s) ∙ contents_tell m
+
+-- what was read
+pub read_report : (bs : List ℕ) (m : Message) (r d : Report) (o : Option Report) → Reads Follower bs m → r ≡ unwrap_or o d → o ≡ report_in m → d ≡ nothing_told → r ≡ decoded bs
+read_report bs m r d o h e a b = e ∙ ap (λ x. unwrap_or x d) a ∙ ap (unwrap_or (report_in m)) b ∙ sym (told_by bs m h.passes h.opens h.says)
+
+pub refused : (bs : List ℕ) (e : Fault) (r : Report) → verdict Follower bs ≡ Some e → r ≡ nothing_told → r ≡ decoded bs
+refused bs e r v h = h ∙ sym (ap (λ x. cond (is_some x) nothing_told (told_in (opening Follower bs) bs)) v)
+
+-- what was written
+coded_is : (p : Partition) (n : ℕ) (r : Report) (m : Message) → kind_of m ≡ kind_told r → contents_of m ≡ told_as p n r → written m ≡ coded p n r
+coded_is p n r m k c = ap (λ j. header (letter_of j) (total_of j) ++ encode (table_of j) (contents_of m)) k ∙ ap (λ vs. header (letter_of (kind_told r)) (total_of (kind_told r)) ++ encode (table_of (kind_told r)) vs) c
+
+follower_takes : (r : Report) → takes Follower (letter_of (kind_told r)) ≡ Some (kind_told r)
+follower_takes (report.Execution e) = refl
+follower_takes (report.CancelReject e) = refl
+follower_takes (report.MassCancel e) = refl
+
+pub short : (r : Report) (k : Kind) (n : ℕ) → k ≡ kind_told r → n ≡ total_of k → n ≤ 145
+short (report.Execution e) k n h t = let x = t ∙ ap total_of h in omega (arith, x)
+short (report.CancelReject e) k n h t = let x = t ∙ ap total_of h in omega (arith, x)
+short (report.MassCancel e) k n h t = let x = t ∙ ap total_of h in omega (arith, x)
+
+module _ (p : Partition) (n : ℕ) (r : Report) (m : Message) (k : kind_of m ≡ kind_told r) (c : contents_of m ≡ told_as p n r) (h : Holdable m) where
+  taken_by : takes Follower (letter_of (kind_of m)) ≡ Some (kind_of m)
+  taken_by = subst (λ j. takes Follower (letter_of j) ≡ Some j) (sym k) (follower_takes r)
+
+  read_again : (opening Follower (written m) ≡ Ok (kind_of m)) × (verdict Follower (written m) ≡ None) × Says (contents_of m) (table_of (kind_of m)) (written m) × (length (written m) ≡ total_of (kind_of m))
+  read_again =
+      let j = kind_of m in
+      let q = header (letter_of j) (total_of j) in
+      let t = trip (table_of j) (contents_of m) q (total_of j) refl (sound j).tiles (sound j).looks h in
+      let o = opened Follower j (encode (table_of j) (contents_of m)) t.2 taken_by in
+      let l = t.2 in
+      (o, ap (after_opening (written m)) o ∙ ap (λ x. option_map (λ at. fault.Field at) x) t.0, t.1, omega arith)
+
+  pub given_back : report_in m ≡ Some r → decoded (coded p n r) ≡ r
+  given_back e =
+      let a = read_again in
+      ap decoded (sym (coded_is p n r m k c)) ∙ told_by (written m) m a.1 a.0 a.2 ∙ ap (λ o. unwrap_or o nothing_told) e
+
+  pub whole : (total : ℕ) (before after : List ℕ) → total ≡ total_of (kind_of m) → after ≡ written m ++ drop total before → take total after ≡ coded p n r
+  whole total before after t w =
+      let a = read_again in
+      ap (take total) w ∙ take_at (written m) (drop total before) total (a.3 ∙ sym t) ∙ coded_is p n r m k c

@@ -1,0 +1,69 @@
+// A report as the bytes of its message, and back.
+ghost use Rattle.std.specs.Prelude.{◌≡◌, ◌≤◌, ◌<◌, length, take, is_some};
+ghost use Rattle.limits.specs.declared.TheConstants.{REPORTS};
+ghost use Rattle.wire_store.specs.Told.{coded, decoded, nothing_told};
+
+use byte_store::codec::Codec;
+use codes::session::Partition;
+use report_messages::back::report_of;
+use report_messages::telling::Telling;
+use reports::report::{CancelReject, Report};
+use texts::fixed::FixedText;
+use texts::values::Time;
+use wire::kinds::Channel;
+use wire::message::{read, write};
+
+/// Reports as a follower is sent them.
+#[derive(Clone, Copy, Drop)]
+pub struct WireCodec;
+
+// What bytes hold that are no report: a store has none.
+
+fn nothing_told() -> Report
+    ensures { result ≡ nothing_told }
+{
+    Report::CancelReject(CancelReject {
+        client: FixedText::empty(),
+        reason: 0,
+        time: Time {
+            seconds: 0,
+            microseconds: 0,
+        },
+    })
+}
+
+#[tactic(auto, using(crate::proofs::Back::refused))]
+fn report_in(bytes: &[u8]) -> Report
+    ensures { result ≡ decoded bytes.now }
+{
+    match read(Channel::Follower, bytes) {
+        Ok(message) => report_of(&message).unwrap_or(nothing_told()),
+        Err(_) => nothing_told(),
+    }
+}
+
+#[tactic(auto, using(crate::proofs::Back::whole, crate::proofs::Back::short))]
+fn write_report(partition: Partition, number: u32, report: Report, out: &mut [u8]) -> usize
+    requires room { 145 ≤ length out.old }
+    requires few { number ≤ REPORTS }
+    ensures bytes { take result out.new ≡ coded partition number report }
+    ensures short { result ≤ 145 }
+    ensures back { decoded (coded partition number report) ≡ report }
+{
+    let telling = Telling::new(partition, number, report).unwrap();
+    write(&telling.message(), out).unwrap()
+}
+
+impl Codec for WireCodec {
+    ghost coded = { coded };
+
+    ghost decoded = { decoded };
+
+    fn encode(&self, partition: Partition, number: u32, report: Report, out: &mut [u8]) -> usize {
+        write_report(partition, number, report, out)
+    }
+
+    fn decode(&self, bytes: &[u8]) -> Report {
+        report_in(bytes)
+    }
+}
