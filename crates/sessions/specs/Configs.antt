@@ -1,7 +1,9 @@
 -- What a gateway can be started with. Assumes nothing.
 use Rattle.std.specs.Prelude.{◌≡◌, ℕ, Bool, true, false, ◌&&◌, List, length, Some, None, Ok, Err, Option, Result, nat_le}
 use Rattle.codes.specs.Member.{member}
-use Rattle.codes.specs.Session.{partition_code, partition_codes}
+use Rattle.codes.specs.Lists.{listed as bytes_listed}
+use Rattle.codes.specs.Session.{partition_code}
+use Rattle.codes.specs.declared.lists.Codes.TheVariants.{Partitions}
 use Rattle.limits.specs.declared.TheConstants.{COMP_IDS, INSTRUMENTS}
 use Rattle.sessions.specs.declared.config.Config.{Config}
 use Rattle.sessions.specs.declared.config.Instrument.{Instrument}
@@ -30,7 +32,7 @@ Admits name password firm ends (Err e) = (admitted name password ≡ false) × (
 
 -- a symbol says something, both texts fit their fields, and the partition is 1 to 3
 abbrev pub listed : List ℕ → List ℕ → ℕ → Bool
-listed symbol segment partition = fitting_name 6 symbol && fitting 4 segment && member partition partition_codes
+listed symbol segment partition = fitting_name 6 symbol && fitting 4 segment && member partition (bytes_listed Partitions)
 
 abbrev pub Lists : List ℕ → List ℕ → ℕ → Result Instrument StartRefusal → Type 0
 Lists symbol segment partition (Ok i) =
