@@ -87,9 +87,7 @@ fn channel(name: &[u8]) -> Option<Channel>
 fn is_hex(digits: &[u8]) -> bool
     ensures { result ≡ list_all is_hex_digit digits.now }
 {
-    digits.iter().all(|b| {
-        matches!(*b, b'0'..=b'9' | b'A'..=b'F' | b'a'..=b'f')
-    })
+    digits.iter().all(|b| { matches!(*b, b'0'..=b'9' | b'A'..=b'F' | b'a'..=b'f') })
 }
 
 fn decode(heap: Global, channel: Channel, digits: &[u8]) -> Result<Line, AllocError>

@@ -11,11 +11,11 @@ loop-name-preserved g c =
     let bs = c.args.self.now.reader.src.now in record {
       inside = within_rest _ _ _ _ s.1 c.loop-name.invariant.inside;
       written = λ p.
-        let i = c.loop-name.invariant.written p in (
-          i.0 ++ field_text c.in-Some.name.now.now (form_of c.in-Some.field.now) (got bs c.in-Some.field.now),
-          has_written_append _ _ _ _ _ _ i.1 (c.in_ok-write.ensures.writes i.1.plain (refl {a = true})),
-          field-more i.0 _ bs _ _ _ _ c.in-Some.name.now c.in-Some.field.now s.0 s.1 i.2,
-        );
+          let i = c.loop-name.invariant.written p in (
+            i.0 ++ field_text c.in-Some.name.now.now (form_of c.in-Some.field.now) (got bs c.in-Some.field.now),
+            has_written_append _ _ _ _ _ _ i.1 (c.in_ok-write.ensures.writes i.1.plain (refl {a = true})),
+            field-more i.0 _ bs _ _ _ _ c.in-Some.name.now c.in-Some.field.now s.0 s.1 i.2,
+          );
     }
 
 pub returns-clause-writes : goal.returns-clause-writes
