@@ -24,7 +24,7 @@ fn ask(quantity: u32) -> Ask {
     Ask {
         client: FixedText::empty(),
         price: Price { raw: 100 },
-        display: quantity,
+        display: i32::try_from(quantity).unwrap_or(0),
         quantity,
     }
 }
