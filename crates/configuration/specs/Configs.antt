@@ -5,12 +5,12 @@ use Rattle.codes.specs.Lists.{listed as bytes_listed}
 use Rattle.codes.specs.Session.{partition_code}
 use Rattle.codes.specs.declared.lists.Codes.TheVariants.{Partitions}
 use Rattle.limits.specs.declared.TheConstants.{COMP_IDS, INSTRUMENTS}
-use Rattle.sessions.specs.declared.config.Config.{Config}
-use Rattle.sessions.specs.declared.config.Instrument.{Instrument}
-use Rattle.sessions.specs.declared.config.Participant.{Participant}
-use Rattle.sessions.specs.declared.config.StartRefusal.{StartRefusal}
-use Rattle.sessions.specs.declared.config.StartRefusal.TheVariants.{BadConfiguration, NotEmpty, NoMemory}
-use Rattle.sessions.specs.Names.{all_differ}
+use Rattle.configuration.specs.declared.config.Config.{Config}
+use Rattle.configuration.specs.declared.instrument.Instrument.{Instrument}
+use Rattle.configuration.specs.declared.participant.Participant.{Participant}
+use Rattle.configuration.specs.declared.config.StartRefusal.{StartRefusal}
+use Rattle.configuration.specs.declared.config.StartRefusal.TheVariants.{BadConfiguration, NotEmpty, NoMemory}
+use Rattle.configuration.specs.Names.{all_differ}
 use Rattle.texts.specs.Bytes.{said}
 use Rattle.texts.specs.Texts.{fitting, fitting_name}
 
