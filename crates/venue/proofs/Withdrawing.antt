@@ -1,7 +1,8 @@
 -- Open orders that are withdrawn together. Assumes nothing.
 use Rattle.std.specs.Prelude.{nat_lt}
+use Rattle.configuration.specs.declared.instrument.Instrument.{Instrument}
 use Rattle.matching.specs.declared.event.Event.{Event}
-use Rattle.std.proofs.Common.{◌≡◌, ℕ, suc, ◌+◌, ◌<◌, Bool, true, false, cond, Some, refl, sym, ap, ◌∙◌, arith, lt-ltb, ltb-true}
+use Rattle.std.proofs.Common.{◌≡◌, ℕ, zero, suc, ◌+◌, ◌<◌, Bool, true, false, cond, List, length, Some, refl, sym, ap, ◌∙◌, subst, arith, lt-ltb, ltb-true}
 use Rattle.std.proofs.lemmas.Bool.{cond-true, and_parts}
 use Rattle.texts.specs.declared.values.Time.{Time}
 use Rattle.texts.specs.declared.fixed.FixedText.{FixedText}
@@ -16,7 +17,7 @@ use Rattle.venue.specs.declared.selection.Cause.{Cause}
 use Rattle.venue.specs.declared.selection.Cause.TheVariants.{Request, LineLost}
 use Rattle.venue.specs.declared.selection.Selection.{Selection}
 use Rattle.venue.specs.Ledger.{Ledger, changed}
-use Rattle.venue.specs.Selection.{picks, picks_at, withdrawn_for, withdrawn_if, withdrawn_to, Withdraws}
+use Rattle.venue.specs.Selection.{picks, picks_at, withdrawn_for, withdrawn_if, withdrawn_to, withdrawn_all, Withdraws}
 use Rattle.venue.specs.Steps.{Leaves, ledger_of}
 use Rattle.venue.specs.View.{View, Sound}
 use Rattle.venue.proofs.Keeps.{one_open, one_done, changed-open}
@@ -39,8 +40,8 @@ free_stays : (c : Cause) (t : Time) (n : ℕ) (v : View) → (withdrawn_for c t 
 free_stays (Request i) t n v = refl
 free_stays LineLost t n v = refl
 
-pub picked_open : (s : Selection) (r : Row) → picks s r ≡ true → 0 < r.leaves
-picked_open s r h = ltb-true 0 r.leaves (and_parts (nat_lt 0 r.leaves) _ h).0
+pub picked_open : (is : List Instrument) (s : Selection) (r : Row) → picks is s r ≡ true → 0 < r.leaves
+picked_open is s r h = ltb-true 0 r.leaves (and_parts (nat_lt 0 r.leaves) _ h).0
 
 -- one order of which p is true
 pub withdraws_one : (p : Row → Bool) (c : Cause) (t : Time) (n : ℕ) (v w : View) (r : Row) → Sound v → under v.rows n ≡ Some r
@@ -82,6 +83,48 @@ withdraws_more p c t i v x y before one =
       fell = omega arith;
       places = omega arith;
     }
+
+-- nor does a withdrawal change the instruments
+instruments_stay : (b : Bool) (c : Cause) (t : Time) (n : ℕ) (v : View) → (cond b (withdrawn_for c t n v) v).instruments ≡ v.instruments
+instruments_stay true (Request i) t n v = refl
+instruments_stay true LineLost t n v = refl
+instruments_stay false c t n v = refl
+
+pub same_instruments : (p : Row → Bool) (c : Cause) (t : Time) (n : ℕ) (v : View) → (withdrawn_to p c t n v).instruments ≡ v.instruments
+same_instruments p c t zero v = refl
+same_instruments p c t (suc n) v =
+    instruments_stay (picks_at p (under (withdrawn_to p c t n v).rows (suc n))) c t (suc n) (withdrawn_to p c t n v) ∙ same_instruments p c t n v
+
+-- one order more of a selection, whose instruments stay the same
+pub selected_more : (q : List Instrument → Row → Bool) (c : Cause) (t : Time) (i : ℕ) (v x y : View) → Withdraws v (withdrawn_to (q v.instruments) c t i v) x
+    → Withdraws x (withdrawn_if (q x.instruments) c t (suc i) x) y → Withdraws v (withdrawn_to (q v.instruments) c t (suc i) v) y
+selected_more q c t i v x y before one =
+    let same : x.instruments ≡ v.instruments = ap (λ (z : View). z.instruments) before.state ∙ same_instruments (q v.instruments) c t i v in
+    withdraws_more (q v.instruments) c t i v x y before (subst (λ is. Withdraws x (withdrawn_if (q is) c t (suc i) x) y) same one)
+
+-- withdrawals do not hang on the free places, nor on what the matcher does next, and leave both
+to_apart : (p : Row → Bool) (c : Cause) (t : Time) (n : ℕ) (u : View) (f : ℕ) (e : Event)
+    → withdrawn_to p c t n (record u { free = f; next = e }) ≡ record (withdrawn_to p c t n u) { free = f; next = e }
+to_apart p c t zero u f e = refl
+to_apart p c t (suc n) u f e =
+    ap (λ (z : View). withdrawn_if p c t (suc n) z) (to_apart p c t n u f e)
+    ∙ if_apart (picks_at p (under (withdrawn_to p c t n u).rows (suc n))) c t (suc n) (withdrawn_to p c t n u) f e
+
+pub withdrawn_apart : (p : Row → Bool) (c : Cause) (t : Time) (u : View) (f : ℕ) (e : Event)
+    → withdrawn_all p c t (record u { free = f; next = e }) ≡ record (withdrawn_all p c t u) { free = f; next = e }
+withdrawn_apart p c t u f e = to_apart p c t (length u.rows) u f e
+
+if_free : (b : Bool) (c : Cause) (t : Time) (n : ℕ) (v : View) → (cond b (withdrawn_for c t n v) v).free ≡ v.free
+if_free true c t n v = free_stays c t n v
+if_free false c t n v = refl
+
+to_free : (p : Row → Bool) (c : Cause) (t : Time) (n : ℕ) (v : View) → (withdrawn_to p c t n v).free ≡ v.free
+to_free p c t zero v = refl
+to_free p c t (suc n) v =
+    if_free (picks_at p (under (withdrawn_to p c t n v).rows (suc n))) c t (suc n) (withdrawn_to p c t n v) ∙ to_free p c t n v
+
+pub withdrawn_free : (p : Row → Bool) (c : Cause) (t : Time) (v : View) → (withdrawn_all p c t v).free ≡ v.free
+withdrawn_free p c t v = to_free p c t (length v.rows) v
 
 pub withdraws_none : (v : View) → Withdraws v v v
 withdraws_none v = record { state = refl; fell = omega arith; places = omega arith }

@@ -1,6 +1,7 @@
 -- Open orders that are withdrawn together. Assumes nothing.
-use Rattle.std.specs.Prelude.{◌≡◌, ℕ, zero, suc, ◌+◌, ◌≤◌, Bool, true, false, not, ◌&&◌, ◌||◌, ◌==◌, Some, None, Option}
+use Rattle.std.specs.Prelude.{◌≡◌, ℕ, zero, suc, ◌+◌, ◌≤◌, Bool, true, false, not, ◌&&◌, ◌||◌, ◌==◌, List, Some, None, Option}
 use Rattle.std.specs.Prelude.{length, slice_get, nat_lt, if◌then◌else◌}
+use Rattle.configuration.specs.declared.instrument.Instrument.{Instrument as Listed}
 use Rattle.texts.specs.declared.values.Time.{Time}
 use Rattle.keyed.specs.Numbers.{under}
 use Rattle.orders.specs.declared.row.Row.{Row}
@@ -23,17 +24,19 @@ is_owner (Line o) owner = owner == o
 is_owner (Firm ps f) owner = is_firm f (slice_get ps.now owner)
 
 -- whether an order stands in what is meant
-abbrev pub in_scope : Scope → Row → Bool
-in_scope All r = true
-in_scope (Instrument i b) r = r.terms.instrument == i && is_book r.terms.book b
-in_scope (Segment is s) r = is_segment s.now (slice_get is.now r.terms.instrument)
+abbrev pub in_scope : List Listed → Scope → Row → Bool
+in_scope is All r = true
+in_scope is (Instrument i b) r = r.terms.instrument == i && is_book r.terms.book b
+in_scope is (Segment s) r = is_segment s.now (slice_get is r.terms.instrument)
 
--- an open order that is meant
-abbrev pub picks : Selection → Row → Bool
-picks s r =
-    nat_lt 0 r.leaves
-    && (is_owner s.owners r.terms.owner
-    && (in_scope s.scope r && (not s.marked || is_marked r.terms.auto_cancel)))
+-- an open order of such an owner and such a kind, and marked where that is asked
+abbrev pub meant : (ℕ → Bool) → (Row → Bool) → Bool → Row → Bool
+meant owner within marked r =
+    nat_lt 0 r.leaves && (owner r.terms.owner && (within r && (not marked || is_marked r.terms.auto_cancel)))
+
+-- what a selection means, among orders of these instruments
+abbrev pub picks : List Listed → Selection → Row → Bool
+picks is s = meant (is_owner s.owners) (in_scope is s.scope) s.marked
 
 -- of which orders p is true; no row is there for a number that none has
 abbrev pub picks_at : (Row → Bool) → Option Row → Bool

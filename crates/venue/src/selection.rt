@@ -33,7 +33,7 @@ pub enum Scope<'a> {
     /// Those in one instrument, by its place, in one book.
     Instrument(usize, Book),
     /// Those in all instruments of a segment, in either book.
-    Segment(&'a [Instrument], &'a [u8]),
+    Segment(&'a [u8]),
 }
 
 /// Which open orders are meant.
@@ -45,16 +45,18 @@ pub struct Selection<'a> {
     pub marked: bool,
 }
 
-fn is_firm(participants: &[Participant], line: usize, firm: u32) -> bool
-    ensures { result ≡ is_firm firm (slice_get participants.now line) }
+// Whether the participant of a place is of a firm.
+fn is_firm(firm: u32, participants: &[Participant], place: usize) -> bool
+    ensures { result ≡ is_firm firm (slice_get participants.now place) }
 {
-    match participants.get(line) {
+    match participants.get(place) {
         Some(participant) => participant.firm == firm,
         None => false,
     }
 }
 
-fn is_segment(instruments: &[Instrument], place: usize, segment: &[u8]) -> bool
+// Whether the instrument of a place is of a segment.
+fn is_segment(segment: &[u8], instruments: &[Instrument], place: usize) -> bool
     ensures { result ≡ is_segment segment.now (slice_get instruments.now place) }
 {
     match instruments.get(place) {
@@ -87,7 +89,7 @@ impl Owners<'_> {
     {
         match self {
             Owners::Line(line) => owner == *line,
-            Owners::Firm(participants, firm) => is_firm(participants, owner, *firm),
+            Owners::Firm(participants, firm) => is_firm(*firm, participants, owner),
         }
     }
 }
@@ -96,8 +98,8 @@ impl Scope<'_> {
     ghost use Rattle.venue.specs.Selection.{in_scope};
 
     // Whether an order stands where it is meant.
-    fn has(&self, row: &Row) -> bool
-        ensures { result ≡ in_scope self.now row.now }
+    fn has(&self, instruments: &[Instrument], row: &Row) -> bool
+        ensures { result ≡ in_scope instruments.now self.now row.now }
     {
         let instrument = row.terms.instrument;
         match self {
@@ -105,7 +107,7 @@ impl Scope<'_> {
             Scope::Instrument(wanted, book) => {
                 instrument == *wanted && is_book(row.terms.book, *book)
             }
-            Scope::Segment(instruments, segment) => { is_segment(instruments, instrument, segment) }
+            Scope::Segment(segment) => is_segment(segment, instruments, instrument),
         }
     }
 }
@@ -113,13 +115,13 @@ impl Scope<'_> {
 impl Selection<'_> {
     ghost use Rattle.venue.specs.Selection.{picks};
 
-    /// Whether an order is open and meant.
-    pub fn picks(&self, row: &Row) -> bool
-        ensures { result ≡ picks self.now row.now }
+    /// Whether an order of one of the instruments is open and meant.
+    pub fn picks(&self, instruments: &[Instrument], row: &Row) -> bool
+        ensures { result ≡ picks instruments.now self.now row.now }
     {
         row.leaves > 0
             && self.owners.has(row.terms.owner)
-            && self.scope.has(row)
+            && self.scope.has(instruments, row)
             && (!self.marked || is_marked(row.terms.auto_cancel))
     }
 }

@@ -268,12 +268,12 @@ impl<M: Matcher, S: Store> Venue<M, S> {
 
     // Withdraws the order of a number, if it is meant.
     fn withdraw_if(&mut self, number: u64, selection: &Selection, cause: Cause, time: Time)
-        ensures { Withdraws self.old (withdrawn_if (picks selection.now) cause time number self.old) self.new }
+        ensures { Withdraws self.old (withdrawn_if (picks self.old.instruments selection.now) cause time number self.old) self.new }
     {
         let Some(order) = self.table.order(number) else {
             return;
         };
-        if selection.picks(&order.row()) {
+        if selection.picks(&self.instruments, &order.row()) {
             match cause {
                 Cause::Request(client) => self.cancel(number, client, time),
                 Cause::LineLost => self.expire(number, time),
@@ -283,7 +283,7 @@ impl<M: Matcher, S: Store> Venue<M, S> {
 
     /// Withdraws the open orders that are meant, by rising number, each as `cancel` or `expire` does.
     pub fn withdraw_all(&mut self, selection: &Selection, cause: Cause, time: Time)
-        ensures { Withdraws self.old (withdrawn_all (picks selection.now) cause time self.old) self.new }
+        ensures { Withdraws self.old (withdrawn_all (picks self.old.instruments selection.now) cause time self.old) self.new }
     {
         let count = self.table.len();
         for i in 0..count {
