@@ -1,5 +1,5 @@
 -- What a follower reads from an answer. Assumes nothing.
-use Rattle.std.proofs.Common.{◌≡◌, ℤ, List, [], ◌∷◌, pos, refl, sym, ap, ◌∙◌, subst}
+use Rattle.std.proofs.Common.{◌≡◌, ℕ, ℤ, List, [], ◌∷◌, pos, refl, sym, ap, ◌∙◌, subst}
 use Rattle.codes.specs.declared.session.AckResponse.{AckResponse}
 use Rattle.texts.specs.Bytes.{said}
 use Rattle.texts.specs.Says.{says}
@@ -16,7 +16,7 @@ use Rattle.report_messages.proofs.Texts.{lent_kept}
 use Rattle.answers.specs.declared.answer.Answer.{Answer}
 use Rattle.answers.specs.declared.answer.Answer.TheVariants as answer
 use Rattle.answers.specs.declared.answer.Rejection.{Rejection}
-use Rattle.answers.specs.Bytes.{message_bytes, answer_bytes}
+use Rattle.answers.specs.Bytes.{message_bytes, answer_bytes, client_said}
 use Rattle.answers.specs.Told.{Answers, AnswerTold}
 use Rattle.answers.proofs.Heard.{heard}
 
@@ -44,12 +44,13 @@ pub ack_told : (r : AckResponse) → GivenBack (message.MissedMessageRequestAck 
 ack_told r g =
     heard (Answers (answer.Ack r)) (answer_bytes (answer.Ack r)) (message.MissedMessageRequestAck (record { response = r })) (answers_plain (answer.Ack r)) refl g refl refl
 
-pub reject_told : (r : Rejection) (m : Reject) → m.code ≡ pos r.code → says m.reason ≡ [] → m.message_type ≡ r.message_type → m.client_order_id.field.now ≡ r.client.bytes → GivenBack (message.Reject m) → AnswerTold (answer.Reject r)
-reject_told r m e t y f g =
-    heard (Answers (answer.Reject r)) (answer_bytes (answer.Reject r)) (message.Reject m) (answers_plain (answer.Reject r)) refl g (e, t, y, lent_kept r.client m.client_order_id f)
+pub reject_told : (r : Rejection) (m : Reject) (b : List ℕ) → m.code ≡ pos r.code → says m.reason ≡ [] → m.message_type ≡ r.message_type → m.client_order_id.field.now ≡ b → said b ≡ client_said r.client → GivenBack (message.Reject m) → AnswerTold (answer.Reject r)
+reject_told r m b e t y f k g =
+    let client : says m.client_order_id ≡ client_said r.client = ap said f ∙ k in
+    heard (Answers (answer.Reject r)) (answer_bytes (answer.Reject r)) (message.Reject m) (answers_plain (answer.Reject r)) refl g (e, t, y, client)
     (
     ap (λ x. message_bytes kind.Reject (int32 x ∷ words (says m.reason) ∷ figure m.message_type ∷ words (says m.client_order_id) ∷ [])) e
     ∙ ap (λ x. message_bytes kind.Reject (int32 (pos r.code) ∷ words x ∷ figure m.message_type ∷ words (says m.client_order_id) ∷ [])) t
     ∙ ap (λ x. message_bytes kind.Reject (int32 (pos r.code) ∷ words [] ∷ figure x ∷ words (says m.client_order_id) ∷ [])) y
-    ∙ ap (λ x. message_bytes kind.Reject (int32 (pos r.code) ∷ words [] ∷ figure r.message_type ∷ words (said x) ∷ [])) f
+    ∙ ap (λ x. message_bytes kind.Reject (int32 (pos r.code) ∷ words [] ∷ figure r.message_type ∷ words x ∷ [])) client
     )

@@ -3,7 +3,7 @@ ghost use Rattle.std.specs.Prelude.{◌≡◌, ◌≤◌, [], length};
 ghost use Rattle.texts.specs.Bytes.{said};
 ghost use Rattle.answers.specs.declared.answer.Answer.TheVariants as answer;
 ghost use Rattle.answers.specs.declared.sending.TheConstants.{REPLY};
-ghost use Rattle.answers.specs.Bytes.{answer_bytes};
+ghost use Rattle.answers.specs.Bytes.{answer_bytes, client_said};
 ghost use Rattle.answers.specs.Sent.{Sent};
 ghost use Rattle.answers.specs.Told.{AnswerTold};
 
@@ -22,8 +22,8 @@ pub struct Rejection {
     pub code: u8,
     /// Its type byte; 0 where that is not known.
     pub message_type: u8,
-    /// Its Client Order ID; empty where it has none.
-    pub client: FixedText<20>,
+    /// Its Client Order ID, where it has one.
+    pub client: Option<FixedText<20>>,
 }
 
 /// What a gateway answers to a message.
@@ -43,6 +43,15 @@ fn nothing() -> FixedText<30>
     ensures { said result.bytes ≡ [] }
 {
     FixedText::empty()
+}
+
+fn client_text(client: Option<FixedText<20>>) -> FixedText<20>
+    ensures { said result.bytes ≡ client_said client }
+{
+    match client {
+        Some(client) => client,
+        None => FixedText::empty(),
+    }
 }
 
 #[tactic(auto, using(crate::proofs::Answering::logon_reply_told))]
@@ -76,11 +85,12 @@ fn write_reject(rejection: &Rejection, out: &mut [u8]) -> usize
     ensures told { AnswerTold (answer.Reject rejection.now) }
 {
     let reason = nothing();
+    let client = client_text(rejection.client);
     let reject = Reject {
         code: i32::from(rejection.code),
         reason: reason.as_text(),
         message_type: rejection.message_type,
-        client_order_id: rejection.client.as_text(),
+        client_order_id: client.as_text(),
     };
     send(&Message::Reject(reject), out)
 }
