@@ -36,6 +36,14 @@ pub(crate) fn put_header(out: &mut [u8], letter: u8, total: u16)
     put(out, 0, &[START, len[0], len[1], letter]);
 }
 
+// All bytes of a field that has N: cut to N, so that the compiler knows how many there are to copy.
+fn all<const N: usize>(field: &[u8]) -> &[u8]
+    requires { length field.now ≡ N }
+    ensures { result.now ≡ field.now }
+{
+    &field[..N]
+}
+
 /// A text, as the whole field that it is.
 #[tactic(auto, using(crate::proofs::Fields::text_bytes, crate::proofs::Fields::said_fits, crate::proofs::Fields::printable_said))]
 pub fn put_text<const N: usize>(out: &mut [u8], at: usize, text: &Text<'_, N>)
@@ -43,7 +51,7 @@ pub fn put_text<const N: usize>(out: &mut [u8], at: usize, text: &Text<'_, N>)
     ensures wrote { out.new ≡ over out.old at (field_bytes (field.Always at (form.Text N)) (words (says text.now))) }
     ensures holds { HoldsForm (form.Text N) (words (says text.now)) }
 {
-    put(out, at, text.field);
+    put(out, at, all::<N>(text.field));
 }
 
 /// A text that is not empty, as the whole field that it is.
@@ -54,7 +62,7 @@ pub fn put_name<const N: usize>(out: &mut [u8], at: usize, name: &Name<'_, N>)
         (field_bytes (field.Always at (form.Name N)) (words (says name.now.text))) }
     ensures holds { HoldsForm (form.Name N) (words (says name.now.text)) }
 {
-    put(out, at, name.text.field);
+    put(out, at, all::<N>(name.text.field));
 }
 
 /// The identifier of an order, or nulls.
