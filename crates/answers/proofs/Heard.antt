@@ -139,5 +139,9 @@ report_told p n r m b k c g =
     (record { report = b; place = placed p n r m b c; kind = k; contents = c })
     (ap (λ j. message_bytes j (contents_of m)) k ∙ ap (message_bytes (kind_told r)) c)
 
+pub same_told : (p q : Partition) (n k : ℕ) (r s : Report) → ReportTold p n r → p ≡ q → n ≡ k → r ≡ s → ReportTold q k s
+same_told p q n k r s t a b c =
+    subst (ReportTold q k) c (subst (λ x. ReportTold q x r) b (subst (λ x. ReportTold x n r) a t))
+
 pub end_told : (r : ReportResponse) → GivenBack (message.MissedMessageReport (record { response = r })) → EndTold r
 end_told r g = heard (Ends r) (end_bytes r) (message.MissedMessageReport (record { response = r })) (ends_plain r) refl g refl refl

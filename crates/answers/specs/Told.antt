@@ -9,7 +9,7 @@ use Rattle.wire.specs.declared.message.Message.{Message}
 use Rattle.wire.specs.declared.message.Message.TheVariants as message
 use Rattle.wire.specs.Messages.{kind_of, contents_of, verdict, written, GivenBack, Reads}
 use Rattle.reports.specs.declared.report.Report.{Report}
-use Rattle.report_messages.specs.Back.{kept, report_in}
+use Rattle.report_messages.specs.Back.{report_in}
 use Rattle.report_messages.specs.Telling.{told_as, kind_told}
 use Rattle.answers.specs.declared.answer.Answer.{Answer}
 use Rattle.answers.specs.declared.answer.Answer.TheVariants.{Silent, LogonReply, Ack, Reject}
@@ -30,7 +30,7 @@ Answers (LogonReply code) (message.LogonReply m) = (m.reject_code ≡ code) × (
 Answers (Ack r) (message.MissedMessageRequestAck m) = m.response ≡ r
 Answers (Reject r) (message.Reject m) =
     (m.code ≡ pos r.code) × (says m.reason ≡ []) × (m.message_type ≡ r.message_type)
-    × (kept m.client_order_id ≡ r.client)
+    × (m.client_order_id.field.now ≡ r.client.bytes)
 Answers a m = ⊥
 
 abbrev pub AnswerTold : Answer → Type 0

@@ -1,11 +1,11 @@
 // What a gateway answers to a message, and its bytes.
-ghost use Rattle.std.specs.Prelude.{◌≡◌, ◌≤◌, [], length};
+ghost use Rattle.std.specs.Prelude.{◌≡◌, ◌≤◌, [], length, MatchOption};
 ghost use Rattle.texts.specs.Bytes.{said};
 ghost use Rattle.answers.specs.declared.answer.Answer.TheVariants as answer;
 ghost use Rattle.answers.specs.declared.sending.TheConstants.{REPLY};
 ghost use Rattle.answers.specs.Bytes.{answer_bytes};
 ghost use Rattle.answers.specs.Sent.{Sent};
-ghost use Rattle.answers.specs.Told.{AnswerTold};
+ghost use Rattle.answers.specs.Told.{Answers, AnswerTold};
 
 use crate::sending::send;
 use codes::session::AckResponse;
@@ -45,59 +45,44 @@ fn nothing() -> FixedText<30>
     FixedText::empty()
 }
 
-#[tactic(auto, using(crate::proofs::Answering::logon_reply_told))]
-fn write_logon_reply(code: &i32, out: &mut [u8]) -> usize
-    requires { REPLY ≤ length out.old }
-    ensures sent { Sent (answer_bytes (answer.LogonReply code.now)) out.old out.new result }
-    ensures told { AnswerTold (answer.LogonReply code.now) }
-{
-    let expiry_days = nothing();
-    let reply = LogonReply {
-        reject_code: *code,
-        expiry_days: expiry_days.as_text(),
-    };
-    send(&Message::LogonReply(reply), out)
-}
-
-#[tactic(auto, using(crate::proofs::Answering::ack_told))]
-fn write_ack(response: AckResponse, out: &mut [u8]) -> usize
-    requires { REPLY ≤ length out.old }
-    ensures sent { Sent (answer_bytes (answer.Ack response)) out.old out.new result }
-    ensures told { AnswerTold (answer.Ack response) }
-{
-    let ack = MissedMessageRequestAck { response };
-    send(&Message::MissedMessageRequestAck(ack), out)
-}
-
-#[tactic(auto, using(crate::proofs::Answering::reject_told))]
-fn write_reject(rejection: &Rejection, out: &mut [u8]) -> usize
-    requires { REPLY ≤ length out.old }
-    ensures sent { Sent (answer_bytes (answer.Reject rejection.now)) out.old out.new result }
-    ensures told { AnswerTold (answer.Reject rejection.now) }
-{
-    let reason = nothing();
-    let reject = Reject {
-        code: i32::from(rejection.code),
-        reason: reason.as_text(),
-        message_type: rejection.message_type,
-        client_order_id: rejection.client.as_text(),
-    };
-    send(&Message::Reject(reject), out)
-}
-
 impl Answer {
+    // The message of the answer, if there is one: it gives no words for what no rule names.
+    fn message<'a>(&'a self, nothing: &'a FixedText<30>) -> Option<Message<'a>>
+        requires { said nothing.now.bytes ≡ [] }
+        ensures { MatchOption result (self.now ≡ answer.Silent) (λ m. Answers self.now m) }
+    {
+        match self {
+            Answer::Silent => None,
+            Answer::LogonReply(code) => Some(Message::LogonReply(LogonReply {
+                reject_code: *code,
+                expiry_days: nothing.as_text(),
+            })),
+            Answer::Ack(response) => Some(Message::MissedMessageRequestAck(
+                MissedMessageRequestAck {
+                    response: *response,
+                },
+            )),
+            Answer::Reject(rejection) => Some(Message::Reject(Reject {
+                code: i32::from(rejection.code),
+                reason: nothing.as_text(),
+                message_type: rejection.message_type,
+                client_order_id: rejection.client.as_text(),
+            })),
+        }
+    }
+
     /// Writes the answer to the front of the buffer, and says how many bytes it has, which is 0 where there is no answer;
     /// those past it stay.
+    #[tactic(auto, using(crate::proofs::Answering::sent, crate::proofs::Answering::told))]
     pub fn write(&self, out: &mut [u8]) -> usize
         requires { REPLY ≤ length out.old }
         ensures sent { Sent (answer_bytes self.now) out.old out.new result }
         ensures told { AnswerTold self.now }
     {
-        match self {
-            Answer::Silent => 0,
-            Answer::LogonReply(code) => write_logon_reply(code, out),
-            Answer::Ack(response) => write_ack(*response, out),
-            Answer::Reject(rejection) => write_reject(rejection, out),
+        let nothing = nothing();
+        match self.message(&nothing) {
+            Some(message) => send(&message, out),
+            None => 0,
         }
     }
 }
