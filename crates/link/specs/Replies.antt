@@ -36,6 +36,12 @@ ReplyIn bs r =
     ((m : Message) × Reads Follower bs m × (r ≡ code_in m))
     (λ e. r ≡ Err (no_reply.Fault e))
 
+-- a follower reads an accepting Logon Reply from bytes
+pub record Accepted (bs : List ℕ) : Type 0 where
+  pub message : Message
+  pub read : Reads Follower bs message
+  pub accepts : code_in message ≡ Ok (pos 0)
+
 -- 0 lets a link trade, for its CompID; any other code takes it offline, and what is no reply leaves it as it was
 abbrev pub Became : Awaiting → Result ℤ NoReply → Result Trading NotTrading → Type 0
 Became a (Ok code) r =

@@ -1,6 +1,6 @@
 // The answer to a Logon.
-ghost use Rattle.std.specs.Prelude.{◌≡◌};
-ghost use Rattle.link.specs.Replies.{code_in, ReplyIn, Became, Replied};
+ghost use Rattle.std.specs.Prelude.{◌≡◌, OnOk};
+ghost use Rattle.link.specs.Replies.{code_in, ReplyIn, Accepted, Became, Replied};
 
 use crate::offline::Offline;
 use crate::trading::Trading;
@@ -64,8 +64,10 @@ impl Awaiting {
     }
 
     /// Takes the bytes of the answer to the Logon. What is no Logon Reply leaves the link as it is.
+    #[tactic(auto, using(crate::proofs::Reading::accepted))]
     pub fn reply(self, bytes: &[u8]) -> Result<Trading, NotTrading>
-        ensures { Replied self bytes.now result }
+        ensures becomes { Replied self bytes.now result }
+        ensures accepted { OnOk result (Accepted bytes.now) }
     {
         self.became(reply_in(bytes))
     }
