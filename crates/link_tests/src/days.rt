@@ -139,7 +139,6 @@ fn cancels(rt: HostRuntime) -> Result<(), Fail> {
     let link = trading(&mut out, &accepted)?;
     let id = RequestId::new(b"c3").ok_or("name")?;
     let original = FixedText::new(b"c8").ok_or("name")?;
-    let account = FixedText::empty();
     let symbol = FixedText::new(b"S1").ok_or("name")?;
     let request = OrderCancelRequest {
         client_order_id: id.as_name(),
@@ -158,6 +157,18 @@ fn cancels(rt: HostRuntime) -> Result<(), Fail> {
     };
     assert!(rt; link.mass_cancel(&request, &mut out) == Ok(46));
     assert_eq!(rt; out[3], b'q');
+    Ok(())
+}
+
+#[test]
+fn replaces(rt: HostRuntime) -> Result<(), Fail> {
+    let mut out = [7; 512];
+    let accepted = hex::decode(rt.alloc(), ACCEPTED)?;
+    let link = trading(&mut out, &accepted)?;
+    let id = RequestId::new(b"c3").ok_or("name")?;
+    let original = FixedText::new(b"c8").ok_or("name")?;
+    let account = FixedText::empty();
+    let symbol = FixedText::new(b"S1").ok_or("name")?;
     let request = OrderCancelReplaceRequest {
         client_order_id: id.as_name(),
         original_id: original.as_text(),
