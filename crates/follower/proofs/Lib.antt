@@ -1,0 +1,4 @@
+mod Folds
+mod Hears
+mod Ties
+mod Requests
