@@ -7,7 +7,7 @@ use Rattle.std.specs.List.{fold as fold_each, slice_get}
 use Rattle.codes.specs.declared.session.Partition.{Partition}
 use Rattle.reports.specs.declared.standings.FoldRefusal.{FoldRefusal}
 use Rattle.follower.specs.declared.heard.Held.{Held}
-use Rattle.follower.specs.Folding.{Reached, caught_one, caught_at, caught_next, caught_up}
+use Rattle.follower.specs.Folding.{Reached, caught_at, caught_next, caught_up}
 
 -- behind a report that is refused nothing is folded
 stuck : (p : Partition) (e : FoldRefusal) (hs : List Held) → fold_each (caught_next p) (Err e) hs ≡ Err e

@@ -1,5 +1,5 @@
 -- What is heard in a message is what its contents, and so its bytes, say. Assumes nothing.
-use Rattle.std.proofs.Common.{◌≡◌, ℕ, List, [], ◌∷◌, map, Some, None, Ok, Err, Result, Option, refl, sym, ap, ◌∙◌, absurd}
+use Rattle.std.proofs.Common.{◌≡◌, ℕ, List, [], ◌∷◌, map, Some, None, Ok, Err, Result, refl, sym, ap, ◌∙◌}
 use Rattle.codes.specs.Report.{exec_types, exec_type_code, statuses, status_code}
 use Rattle.codes.specs.Session.{partitions, partition_code, ack_responses, ack_response_code, report_responses, report_response_code}
 use Rattle.codes.specs.declared.report.ExecType.{ExecType}

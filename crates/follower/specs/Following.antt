@@ -1,5 +1,5 @@
 -- What a follower is, and what each of its calls answers and leaves. Assumes nothing.
-use Rattle.std.specs.Prelude.{ℕ, Bool, true, false, List, ◌∷◌, [], ◌++◌, length, Ok, Err, Result, Some, None, Option, ◌==◌, nat_le, nat_lt, is_some, if◌then◌else◌}
+use Rattle.std.specs.Prelude.{ℕ, Bool, false, ◌∷◌, [], ◌++◌, length, Ok, Err, Result, Some, None, Option, ◌==◌, nat_le, nat_lt, if◌then◌else◌}
 use Rattle.codes.specs.Session.{partition_code}
 use Rattle.codes.specs.declared.session.Partition.{Partition}
 use Rattle.codes.specs.declared.session.AckResponse.{AckResponse}
@@ -70,14 +70,19 @@ module _ {A : Type 0} where
   abbrev pub folded : A → Following → Partition → Held → Step A
   folded a f p h = folded_to a f p (number_of h) (fold p h.told f.standings)
 
+-- one report more is held
+abbrev pub held : Following → Partition → Held → Step Live
+held f p h =
+    answered live.Held (record f { sides = with_at f.sides p (record (at f.sides p) { hold = (at f.sides p).hold ++ h ∷ [] }) })
+
+-- as many are held as there is room for: the one refusal that changes something, since the line counts as lost
+abbrev pub overrun : Following → Step Live
+overrun f = record { answer = Err fault.HoldFull; after = turned false f }
+
 -- a report above its partition's place: folded where the partition is level, held where it is behind
 abbrev pub live_by : State → Following → Partition → Held → Step Live
 live_by Level f p h = folded live.Folded f p h
-live_by Behind f p h =
-    let s = at f.sides p in
-    if nat_lt (length s.hold) HOLD
-    then answered live.Held (record f { sides = with_at f.sides p (record s { hold = s.hold ++ h ∷ [] }) })
-    else record { answer = Err fault.HoldFull; after = turned false f }
+live_by Behind f p h = if nat_lt (length (at f.sides p).hold) HOLD then held f p h else overrun f
 
 -- the state of the partition that a message is for
 abbrev pub state_for : Following → Heard → Option State

@@ -1,5 +1,5 @@
 -- A partition as a follower sees it. Assumes nothing.
-use Rattle.std.specs.Prelude.{ℕ, []}
+use Rattle.std.specs.Prelude.{[]}
 use Rattle.follower.specs.declared.side.Side.{Side}
 use Rattle.follower.specs.declared.side.State.TheVariants.{Behind}
 

@@ -1,5 +1,5 @@
 // The five calls of a follower. Each takes the token of the download that is owed, and gives back what is owed after it.
-ghost use Rattle.std.specs.Prelude.{◌≡◌, length, IfOk};
+ghost use Rattle.std.specs.Prelude.{◌≡◌, true, false, length, IfOk};
 ghost use Rattle.follower.specs.declared.pending.Pending.TheVariants.{Idle};
 ghost use Rattle.follower.specs.Following.{turned, live_step, recovered_step};
 ghost use Rattle.follower.specs.Hearing.{heard_in};
@@ -9,7 +9,7 @@ ghost use Rattle.partitions.specs.PerPartition.{at};
 
 use crate::answer::{Live, Recovered};
 use crate::fault::FollowerFault;
-use crate::pending::Pending;
+use crate::pending::{Pending, after_live, after_recovered};
 use crate::reading::hear;
 use crate::request::{BUFFER, write_request};
 use crate::stage::Stage;
@@ -38,29 +38,22 @@ impl Follower {
         pending.end()
     }
 
-    #[tactic(auto, using(crate::proofs::Ties::live_tied))]
     /// Takes a message that came on the real-time channel. A refusal changes nothing, but that a full hold (54) acts as
     /// `lost`.
-    pub fn live(
-        &mut self,
-        bytes: &[u8],
-        pending: Pending,
-    ) -> (Result<Live, FollowerFault>, Pending)
+    #[tactic(auto, using(crate::proofs::Ties::live_tied))]
+    pub fn live(&mut self, bytes: &[u8], pending: Pending) -> (Result<Live, FollowerFault>, Pending)
         ensures answer { result.0 ≡ (live_step self.old (heard_in bytes.now)).answer }
         ensures after { self.new ≡ (live_step self.old (heard_in bytes.now)).after }
         ensures token { result.1 ≡ after_live result.0 pending }
         ensures tie { Tied pending self.old → Tied result.1 self.new }
     {
         let answer = self.take_live(bytes);
-        let pending = match answer {
-            Err(FollowerFault::HoldFull) => pending.end(),
-            _ => pending,
-        };
+        let pending = after_live(&answer, pending);
         (answer, pending)
     }
 
-    #[tactic(auto, using(crate::proofs::Ties::recovered_tied))]
     /// Takes a message that came on the recovery channel. A refusal changes nothing.
+    #[tactic(auto, using(crate::proofs::Ties::recovered_tied))]
     pub fn recovered(
         &mut self,
         bytes: &[u8],
@@ -72,16 +65,13 @@ impl Follower {
         ensures tie { Tied pending self.old → Tied result.1 self.new }
     {
         let answer = self.take_recovered(bytes);
-        let pending = match answer {
-            Ok(Recovered::Ended) => pending.end(),
-            _ => pending,
-        };
+        let pending = after_recovered(&answer, pending);
         (answer, pending)
     }
 
-    #[tactic(auto, using(crate::proofs::Ties::asked_tied))]
     /// Writes a request for the reports of a partition above its place, and says how many bytes it has; the bytes past it
     /// stay. A refusal changes nothing, the buffer neither.
+    #[tactic(auto, using(crate::proofs::Ties::asked_tied))]
     pub fn ask(
         &mut self,
         partition: u8,

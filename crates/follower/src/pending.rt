@@ -1,8 +1,10 @@
 // The token of a download that was asked: whoever holds it owes that the download comes to its end.
 ghost use Rattle.std.specs.Prelude.{◌≡◌, None};
-ghost use Rattle.follower.specs.Owing.{owed, owing};
+ghost use Rattle.follower.specs.Owing.{owed, owing, after_live, after_recovered};
 ghost use Rattle.follower.specs.declared.pending.Pending.TheVariants.{Idle};
 
+use crate::answer::{Live, Recovered};
+use crate::fault::FollowerFault;
 use codes::session::Partition;
 
 /// A download that was asked and has not ended. Only a follower makes one and lets one go.
@@ -64,5 +66,28 @@ impl Pending {
             Pending::Idle => {}
             Pending::Owed(download) => download.spend(),
         }
+    }
+}
+
+/// What is owed after a message that came live: a full hold counts as a lost line, and ends the download.
+pub(crate) fn after_live(answer: &Result<Live, FollowerFault>, pending: Pending) -> Pending
+    ensures { result ≡ after_live answer.now pending }
+{
+    match answer {
+        Err(FollowerFault::HoldFull) => pending.end(),
+        _ => pending,
+    }
+}
+
+/// What is owed after a message of the recovery channel, which may end the download.
+pub(crate) fn after_recovered(
+    answer: &Result<Recovered, FollowerFault>,
+    pending: Pending,
+) -> Pending
+    ensures { result ≡ after_recovered answer.now pending }
+{
+    match answer {
+        Ok(Recovered::Ended) => pending.end(),
+        _ => pending,
     }
 }

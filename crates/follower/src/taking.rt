@@ -130,11 +130,7 @@ impl Follower {
     }
 
     // A report of the download that runs.
-    fn report_of(
-        &mut self,
-        partition: Partition,
-        report: &Held,
-    ) -> Result<Recovered, FollowerFault>
+    fn report_of(&mut self, partition: Partition, report: &Held) -> Result<Recovered, FollowerFault>
         ensures answer { result ≡ (recovered_of self.old partition report.now).answer }
         ensures after { self.new ≡ (recovered_of self.old partition report.now).after }
     {
