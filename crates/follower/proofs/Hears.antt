@@ -46,7 +46,7 @@ status_back status.Cancelled = refl
 status_back status.Expired = refl
 status_back status.Rejected = refl
 
-partition_back : (x : Partition) → value_of partition_code partitions partition.One (figure (partition_code x)) ≡ x
+pub partition_back : (x : Partition) → value_of partition_code partitions partition.One (figure (partition_code x)) ≡ x
 partition_back partition.One = refl
 partition_back partition.Two = refl
 partition_back partition.Three = refl
@@ -63,7 +63,7 @@ ending_back ending.MessageLimit = refl
 ending_back ending.ServiceUnavailable = refl
 
 -- what a message's contents say is what is heard in it
-contents_say : (m : Message) → heard_from (kind_of m) (contents_of m) ≡ heard m
+pub contents_say : (m : Message) → heard_from (kind_of m) (contents_of m) ≡ heard m
 contents_say (message.ExecutionReport m) =
     let a = partition_back m.partition in
     let b = exec_back (exec_of m.execution) in
@@ -94,15 +94,19 @@ all_got (f ∷ fs) (v ∷ vs) bs h = let a = sym h.0 in let b = all_got fs vs bs
 no_fault : (bs : List ℕ) (k : Kind) → verdict Follower bs ≡ None → opening Follower bs ≡ Ok k → fault_of (table_of k) bs ≡ None
 no_fault bs k v o = sym (ap (after_opening bs) o) ∙ v
 
+-- what is heard in bytes that a message was read from
+pub heard_by : (bs : List ℕ) (m : Message) → verdict Follower bs ≡ None → opening Follower bs ≡ Ok (kind_of m) → Says (contents_of m) (table_of (kind_of m)) bs → heard_in bs ≡ Ok (heard m)
+unfolding heard_in
+heard_by bs m v o s =
+    let k = kind_of m in
+    ap (λ r. heard_opened r bs) o
+    ∙ ap (λ x. heard_unless x k bs) (no_fault bs k v o)
+    ∙ ap (λ vs. Ok (heard_from k vs)) (all_got (table_of k) (contents_of m) bs s)
+    ∙ ap Ok (contents_say m)
+
 -- what was read
 pub hears : (bs : List ℕ) (m : Message) (h : Heard) → Reads Follower bs m → h ≡ heard m → ◌≡◌ {A = Result Heard Fault} (Ok h) (heard_in bs)
-unfolding heard_in
-hears bs m h r e =
-    let k = kind_of m in
-    let said = all_got (table_of k) (contents_of m) bs r.says in
-    ap Ok (e ∙ sym (contents_say m) ∙ ap (heard_from k) (sym said))
-    ∙ sym (ap (λ o. heard_unless o k bs) (no_fault bs k r.passes r.opens))
-    ∙ sym (ap (λ o. heard_opened o bs) r.opens)
+hears bs m h r e = ap Ok e ∙ sym (heard_by bs m r.passes r.opens r.says)
 
 refused_by : (bs : List ℕ) (e : Fault) (o : Result Kind Fault) → after_opening bs o ≡ Some e → heard_opened o bs ≡ Err e
 refused_by bs e (Err f) h = cc

@@ -2,3 +2,4 @@ mod Folds
 mod Hears
 mod Ties
 mod Requests
+mod Written

@@ -7,3 +7,4 @@ pub mod Following
 pub mod Hearing
 pub mod Owing
 pub mod Asking
+pub mod Laws

@@ -7,6 +7,7 @@ pub mod fault;
 mod folding;
 pub mod heard;
 pub mod hold;
+pub mod laws;
 pub mod number;
 pub mod pending;
 mod questions;
