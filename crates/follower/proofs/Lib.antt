@@ -3,3 +3,4 @@ mod Hears
 mod Ties
 mod Requests
 mod Written
+mod Firsts

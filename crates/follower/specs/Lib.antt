@@ -8,3 +8,4 @@ pub mod Hearing
 pub mod Owing
 pub mod Asking
 pub mod Laws
+pub mod Orders

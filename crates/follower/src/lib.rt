@@ -9,6 +9,7 @@ pub mod heard;
 pub mod hold;
 pub mod laws;
 pub mod number;
+mod ordered;
 pub mod pending;
 mod questions;
 pub mod reading;

@@ -2,12 +2,15 @@
 ghost use Rattle.std.specs.Prelude.{◌≡◌, length};
 ghost use Rattle.std.specs.FinMap.{get, len};
 ghost use Rattle.partitions.specs.PerPartition.{at};
+ghost use Rattle.follower.specs.Orders.{FirstFrom};
 
+use crate::ordered::first_from;
 use crate::side::State;
 use crate::stage::Stage;
 use crate::state::Follower;
 use codes::session::Partition;
 use reports::standing::Standing;
+use reports::standings::Known;
 
 impl Follower {
     /// Where an order stands, by its number; none where it is not known.
@@ -15,6 +18,14 @@ impl Follower {
         ensures { result ≡ get self.now.standings order }
     {
         self.standings.standing(order)
+    }
+
+    /// The known order of the lowest number from a given one on, so that one walks through all of them by rising number;
+    /// none where none is known from there on.
+    pub fn first_from(&self, from: u64) -> Option<Known>
+        ensures { FirstFrom self.now.standings from result }
+    {
+        first_from(&self.standings, from)
     }
 
     /// How many orders are known.
