@@ -51,7 +51,8 @@ fn first_connection(alloc: Global, events: &mut Vec<Event>) -> Result<(), AllocE
     events.push(Event::Ask(1))?;
     events.push(Event::Recovered(end(alloc, ReportResponse::Complete)?))?;
     events.push(Event::Live(ninth))?;
-    events.push(Event::Live(report(alloc, 11, filled(2, 50, 0))?))
+    events.push(Event::Live(report(alloc, 11, filled(2, 50, 0))?))?;
+    Ok(())
 }
 
 // The line is lost and comes back: what is asked is refused, and what fills order 3 does not fit, since it is not known.
@@ -67,7 +68,8 @@ fn second_connection(alloc: Global, events: &mut Vec<Event>) -> Result<(), Alloc
     events.push(Event::Recovered(report(alloc, 12, filled(3, 10, 0))?))?;
     events.push(Event::Recovered(end(alloc, ReportResponse::MessageLimit)?))?;
     events.push(Event::Recovered(end(alloc, ReportResponse::Complete)?))?;
-    events.push(Event::Ask(2))
+    events.push(Event::Ask(2))?;
+    Ok(())
 }
 
 // One report more than a hold has room for: the line counts as lost.
@@ -76,7 +78,8 @@ fn too_many(alloc: Global, events: &mut Vec<Event>) -> Result<(), AllocError> {
         events.push(Event::Live(report(alloc, number, added(9, 1))?))?;
     }
     events.push(Event::Live(Vec::new(alloc)))?;
-    events.push(Event::Live(report(alloc, 60, added(9, 1))?))
+    events.push(Event::Live(report(alloc, 60, added(9, 1))?))?;
+    Ok(())
 }
 
 fn events(alloc: Global) -> Result<Vec<Event>, AllocError> {
@@ -94,14 +97,17 @@ fn show<R: Print>(rt: &R, follower: &Follower) -> io::Result<()> {
         State::Behind => "behind",
     };
     println!(rt; "{state} at {}", follower.place(Partition::One))?;
-    let mut from = Some(0);
-    while let Some(number) = from {
-        let Some(known) = follower.first_from(number) else {
+    let mut from = 0;
+    for _ in 0..follower.len() {
+        let Some(known) = follower.first_from(from) else {
             return Ok(());
         };
         let standing = known.standing;
-        println!(rt; "order {}: {} executed, {} open", known.number, standing.executed, standing.leaves)?;
-        from = known.number.checked_add(1);
+        println!(rt;
+            "order {}: {} executed, {} open",
+            known.number, standing.executed, standing.leaves
+        )?;
+        from = known.number.saturating_add(1);
     }
     Ok(())
 }

@@ -33,9 +33,7 @@ fn bytes(alloc: Global, message: &Message<'_>) -> Result<Vec<u8>, AllocError> {
 pub fn report(alloc: Global, number: u32, said: Said) -> Result<Vec<u8>, AllocError> {
     let report = Report::Execution(ExecutionReport {
         client: FixedText::empty(),
-        order: Some(OrderId {
-            number: said.order,
-        }),
+        order: Some(OrderId { number: said.order }),
         execution: said.execution,
         reference: None,
         status: said.status,
