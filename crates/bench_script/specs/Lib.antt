@@ -1,0 +1,5 @@
+pub mod Sentences
+pub mod Words
+pub mod Bytes
+pub mod Tapes
+pub mod Verbs
