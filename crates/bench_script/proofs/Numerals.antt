@@ -1,7 +1,7 @@
 -- What parse reads as a whole number. Assumes nothing.
 use Rattle.std.proofs.Common.{◌≡◌, ◌≢◌, ℕ, ◌^◌, ◌<◌, ◌≤◌, Bool, true, false, ◌&&◌, ◌⊎◌, List, length, drop, Ok, Err, Some, None, Option, Result, arith, ap, sym, ◌∙◌, cond, refl, inl, inr, ltb-true, leb-true, slice_index}
 use Rattle.std.specs.Prelude.{ℤ, pos, neg_ℤ, nat_lt, nat_le, ◌==◌}
-use Rattle.std.specs.Int.{w32, w64}
+use Rattle.std.specs.Int.{w8, w32, w64}
 use mir.Syntax.{Width}
 use mir.Val.{hbits}
 use Rattle.std.specs.Result.{OkIff, result_ok}
@@ -83,3 +83,6 @@ read_signed_64 bs r h = read_width w64 bs r h
 
 pub read_signed_32 : {E : Type 0} (bs : List ℕ) (r : Result ℤ E) → ParsesSigned w32 10 bs r → result_ok r ≡ signed_of 31 bs
 read_signed_32 bs r h = read_width w32 bs r h
+
+pub read_signed_8 : {E : Type 0} (bs : List ℕ) (r : Result ℤ E) → ParsesSigned w8 10 bs r → result_ok r ≡ signed_of 7 bs
+read_signed_8 bs r h = read_width w8 bs r h

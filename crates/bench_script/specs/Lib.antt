@@ -3,3 +3,4 @@ pub mod Words
 pub mod Bytes
 pub mod Tapes
 pub mod Verbs
+pub mod Commands

@@ -53,6 +53,9 @@ small_of w = or_misread why.Number (whole_of 32 w)
 abbrev pub part_of : List ℕ → Result ℕ Misread
 part_of w = or_misread why.Number (whole_of 8 w)
 
+abbrev pub app_of : List ℕ → Result ℤ Misread
+app_of w = or_misread why.Number (signed_of 7 w)
+
 abbrev pub shares_of : List ℕ → Result ℤ Misread
 shares_of w = or_misread why.Quantity (signed_of 31 w)
 

@@ -2,6 +2,7 @@
 #![tactic(auto)]
 
 pub mod bytes;
+pub mod command;
 pub mod misread;
 pub mod tape;
 pub mod verb;

@@ -1,6 +1,6 @@
 // Single words of a script: what each says, or that it is not understood.
 ghost use Rattle.std.specs.Prelude.{◌≡◌};
-ghost use Rattle.bench_script.specs.Words.{line_of, number_of, part_of, price_of, pricing_of, shares_of, side_of, shares_at, signed_of, small_of, time_of, time_said, tape_line_of, whole_of, yes_of};
+ghost use Rattle.bench_script.specs.Words.{app_of, line_of, number_of, part_of, price_of, pricing_of, shares_of, side_of, shares_at, signed_of, small_of, time_of, time_said, tape_line_of, whole_of, yes_of};
 
 use crate::misread::Misread;
 use codes::order::Side;
@@ -88,6 +88,23 @@ pub(crate) fn partition(word: &str) -> Result<u8, Misread>
     ensures { result ≡ part_of word.now }
 {
     match byte(word) {
+        Some(partition) => Ok(partition),
+        None => Err(Misread::Number),
+    }
+}
+
+#[tactic(auto, using(crate::proofs::Numerals::read_signed_8))]
+fn signed_byte(word: &str) -> Option<i8>
+    ensures { result ≡ signed_of 7 word.now }
+{
+    word.parse().ok()
+}
+
+/// A partition as a request names it: any number of 8 bits.
+pub(crate) fn app_id(word: &str) -> Result<i8, Misread>
+    ensures { result ≡ app_of word.now }
+{
+    match signed_byte(word) {
         Some(partition) => Ok(partition),
         None => Err(Misread::Number),
     }
