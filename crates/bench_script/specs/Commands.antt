@@ -85,11 +85,17 @@ instrument_of ws = of_count 4 ws (part_of (text ws 3) then λ partition. Ok (com
 abbrev pub tape_said : Bor Words → Result Command Misread
 tape_said ws = if is_tape ws.now then Ok (command.Setup (setup.Tape (record { words = ws }))) else Err why.Tape
 
+abbrev pub is_lit : Words → Bool
+is_lit ws = (length ws == 2) && bytes_eq (text ws 1) (codes "lit")
+
+abbrev pub is_played : Words → Bool
+is_played ws = nat_le 2 (length ws) && bytes_eq (text ws 1) (codes "tape")
+
 -- matcher lit, or matcher tape ORDER,QTY,PRICE ..
 abbrev pub matcher_of : Bor Words → Result Command Misread
 matcher_of ws =
-    if (length ws.now == 2) && bytes_eq (text ws.now 1) (codes "lit") then Ok (command.Setup setup.Lit)
-    else if nat_le 2 (length ws.now) && bytes_eq (text ws.now 1) (codes "tape") then tape_said ws
+    if is_lit ws.now then Ok (command.Setup setup.Lit)
+    else if is_played ws.now then tape_said ws
     else Err why.Matcher
 
 -- store records PLACES, or store wire BYTES

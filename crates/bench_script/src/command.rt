@@ -1,6 +1,6 @@
 // What a line of a script asks for, read from its words.
 ghost use Rattle.std.specs.Prelude.{◌≡◌};
-ghost use Rattle.bench_script.specs.Commands.{alone_of, at_time, by_verb, bytes_said, command_of, cancel_of, cancel_trade_of, comp_id_of, firm_of, instrument_of, line_lost_of, lone_of, marked_of, mass_cancel_of, matcher_of, message_of, missed_of, on_line, order_of, real_time_of, recovery_of, replace_of, scope_of, show_of, store_of, style_of, tape_said};
+ghost use Rattle.bench_script.specs.Commands.{alone_of, at_time, by_verb, bytes_said, command_of, cancel_of, cancel_trade_of, comp_id_of, firm_of, instrument_of, is_lit, is_played, line_lost_of, lone_of, marked_of, mass_cancel_of, matcher_of, message_of, missed_of, on_line, order_of, real_time_of, recovery_of, replace_of, scope_of, show_of, store_of, style_of, tape_said};
 
 use crate::bytes::Bytes;
 use crate::misread::Misread;
@@ -213,13 +213,27 @@ fn tape<'a>(words: &'a [&'a str]) -> Result<Command<'a>, Misread>
     }
 }
 
+fn is_lit(words: &[&str]) -> bool
+    ensures { result ≡ is_lit words.now }
+{
+    matches!(*words, [_, "lit"])
+}
+
+fn is_played(words: &[&str]) -> bool
+    ensures { result ≡ is_played words.now }
+{
+    matches!(*words, [_, "tape", ..])
+}
+
 fn matcher<'a>(words: &'a [&'a str]) -> Result<Command<'a>, Misread>
     ensures { result ≡ matcher_of words.entry }
 {
-    match *words {
-        [_, "lit"] => Ok(Command::Setup(Setup::Lit)),
-        [_, "tape", ..] => tape(words),
-        _ => Err(Misread::Matcher),
+    if is_lit(words) {
+        Ok(Command::Setup(Setup::Lit))
+    } else if is_played(words) {
+        tape(words)
+    } else {
+        Err(Misread::Matcher)
     }
 }
 

@@ -1,0 +1,8 @@
+use Rattle.std.proofs.Common.{rules, ◌≡◌}
+use Rattle.bench_script.specs.Commands.{matcher_of, by_verb}
+use Rattle.bench_script.specs.declared.verb.Verb.{Verb}
+use Rattle.bench_script.specs.declared.verb.Verb.TheVariants as verb
+use Rattle.bench_script.proofs.command.by_verb.Goals as goal
+
+pub returns-in-Matcher : goal.returns-in-Matcher
+returns-in-Matcher c = let h : c.matcher.result ≡ matcher_of c.args.words = c.matcher.ensures in rw c.in-Matcher.is h
