@@ -4,3 +4,7 @@ pub mod Bytes
 pub mod Tapes
 pub mod Verbs
 pub mod Commands
+pub mod Lines
+pub mod Answers
+pub mod Listings
+pub mod Accounts
