@@ -44,29 +44,29 @@ pub read_whole : {E : Type 0} (k : ℕ) (bs : List ℕ) (r : Result ℕ E) → P
 read_whole k bs r h =
     let ds = without_leading_plus bs in
     by_test r _ _ _ h
-      (λ p. below ds (2 ^ k) p.0.0 (own.from ds p.0.1) p.1)
-      (λ t. let q = is_below ds (2 ^ k) t in ((q.1, own.to ds q.0), q.2))
+    (λ p. below ds (2 ^ k) p.0.0 (own.from ds p.0.1) p.1)
+    (λ t. let q = is_below ds (2 ^ k) t in ((q.1, own.to ds q.0), q.2))
 
 -- behind a minus
 below_zero : {E : Type 0} (w : Width) (bs : List ℕ) (r : Result ℤ E) → ParsesSigned w 10 bs r → slice_index bs 0 ≡ 45 → result_ok r ≡ negative_of (hbits w) (drop 1 bs)
 below_zero w bs r h e =
     by_test r _ _ _ (parse_signed_minus own w bs r h e)
-      (λ p. upto (drop 1 bs) (2 ^ hbits w) p.1 p.0 p.2)
-      (λ t. is_upto (drop 1 bs) (2 ^ hbits w) t)
+    (λ p. upto (drop 1 bs) (2 ^ hbits w) p.1 p.0 p.2)
+    (λ t. is_upto (drop 1 bs) (2 ^ hbits w) t)
 
 -- behind a plus, and with no sign
 not_below_zero : {E : Type 0} (w : Width) (bs : List ℕ) (r : Result ℤ E) → ParsesSigned w 10 bs r → slice_index bs 0 ≢ 45 → result_ok r ≡ positive_of (hbits w) (without_leading_plus bs)
 not_below_zero w bs r h n =
     elim (eqb_tells (slice_index bs 0) 43) [
-        inl y ↦
+      | inl y ↦
           by_test r _ _ _ (parse_signed_plus own w bs r h y.1)
-            (λ p. below (drop 1 bs) (2 ^ hbits w) p.1 p.0 p.2)
-            (λ t. is_below (drop 1 bs) (2 ^ hbits w) t)
+          (λ p. below (drop 1 bs) (2 ^ hbits w) p.1 p.0 p.2)
+          (λ t. is_below (drop 1 bs) (2 ^ hbits w) t)
           ∙ ap (positive_of (hbits w)) (sym (without_leading_plus_plus bs y.1))
       | inr m ↦
           by_test r _ _ _ (parse_signed_plain own w bs r h m.1 n)
-            (λ p. below bs (2 ^ hbits w) p.1 p.0 p.2)
-            (λ t. is_below bs (2 ^ hbits w) t)
+          (λ p. below bs (2 ^ hbits w) p.1 p.0 p.2)
+          (λ t. is_below bs (2 ^ hbits w) t)
           ∙ ap (positive_of (hbits w)) (sym (without_leading_plus_none bs m.1))
     ]
 
@@ -74,7 +74,7 @@ read_width : {E : Type 0} (w : Width) (bs : List ℕ) (r : Result ℤ E) → Par
 read_width w bs r h =
     let choice : Bool → Option ℤ = λ b. cond b (negative_of (hbits w) (drop 1 bs)) (positive_of (hbits w) (without_leading_plus bs)) in
     elim (eqb_tells (slice_index bs 0) 45) [
-        inl y ↦ below_zero w bs r h y.1 ∙ sym (ap choice y.0)
+      | inl y ↦ below_zero w bs r h y.1 ∙ sym (ap choice y.0)
       | inr n ↦ not_below_zero w bs r h n.1 ∙ sym (ap choice n.0)
     ]
 

@@ -137,8 +137,8 @@ marked_of ws =
 abbrev pub order_of : Side → Words → Result Command Misread
 order_of s ws =
     of_least 6 ws (
-      line_of (text ws 1) then λ line. shares_of (text ws 3) then λ shares. pricing_of (text ws 4) then λ pricing.
-      marked_of (drop 6 ws) then λ marked. Ok (command.Request line (request.Order s (word ws 2) shares pricing (word ws 5) marked)))
+    line_of (text ws 1) then λ line. shares_of (text ws 3) then λ shares. pricing_of (text ws 4) then λ pricing.
+    marked_of (drop 6 ws) then λ marked. Ok (command.Request line (request.Order s (word ws 2) shares pricing (word ws 5) marked)))
 
 -- cancel LINE SYMBOL SIDE CLIENTID ORIGINAL
 abbrev pub cancel_of : Words → Result Command Misread
@@ -149,8 +149,8 @@ cancel_of ws =
 abbrev pub replace_of : Words → Result Command Misread
 replace_of ws =
     of_count 8 ws (
-      line_of (text ws 1) then λ line. side_of (text ws 3) then λ s. shares_of (text ws 4) then λ shares.
-      price_of (text ws 5) then λ price. Ok (command.Request line (request.Replace (word ws 2) s shares price (word ws 6) (word ws 7))))
+    line_of (text ws 1) then λ line. side_of (text ws 3) then λ s. shares_of (text ws 4) then λ shares.
+    price_of (text ws 5) then λ price. Ok (command.Request line (request.Replace (word ws 2) s shares price (word ws 6) (word ws 7))))
 
 abbrev pub firm_of : List ℕ → Result Bool Misread
 firm_of w = if bytes_eq w (codes "own") then Ok false else if bytes_eq w (codes "firm") then Ok true else Err why.Scope
@@ -166,15 +166,15 @@ scope_of ws =
 abbrev pub mass_cancel_of : Words → Result Command Misread
 mass_cancel_of ws =
     of_least 4 ws (
-      line_of (text ws 1) then λ line. firm_of (text ws 3) then λ firm. scope_of (drop 4 ws) then λ s.
-      Ok (command.Request line (request.MassCancel (word ws 2) firm s)))
+    line_of (text ws 1) then λ line. firm_of (text ws 3) then λ firm. scope_of (drop 4 ws) then λ s.
+    Ok (command.Request line (request.MassCancel (word ws 2) firm s)))
 
 -- missed LINE PARTITION LAST
 abbrev pub missed_of : Words → Result Command Misread
 missed_of ws =
     of_count 4 ws (
-      line_of (text ws 1) then λ line. app_of (text ws 2) then λ partition. small_of (text ws 3) then λ last.
-      Ok (command.Request line (request.Missed partition last)))
+    line_of (text ws 1) then λ line. app_of (text ws 2) then λ partition. small_of (text ws 3) then λ last.
+    Ok (command.Request line (request.Missed partition last)))
 
 -- print hex|text
 abbrev pub style_of : Words → Result Command Misread

@@ -23,3 +23,5 @@ sentence_of why.Scope = codes "not understood: what is cancelled is none of own,
 sentence_of why.Symbol = codes "not understood: the symbol has more than 6 characters, or others than printable ones"
 sentence_of why.Segment = codes "not understood: the segment has more than 4 characters, or others than printable ones"
 sentence_of why.ClientId = codes "not understood: the client order id has more than 20 characters, or others than printable ones"
+sentence_of why.NotStarted = codes "not understood: the gateway is not started"
+sentence_of why.Started = codes "not understood: the gateway is started already"

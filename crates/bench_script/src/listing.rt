@@ -30,7 +30,11 @@ impl fmt::Display for Naming<'_> {
 
     fn fmt<W: fmt::Write>(&self, f: &mut fmt::Formatter<W>) -> fmt::Result {
         write!(f, "order {} compid {} ", self.number, self.comp_id)?;
-        write!(f, "symbol {} side {} status {}", self.symbol, self.side, self.status)
+        write!(
+            f,
+            "symbol {} side {} status {}",
+            self.symbol, self.side, self.status
+        )
     }
 }
 
@@ -70,6 +74,10 @@ impl fmt::Display for Totals {
     ghost output = { λ totals. Some (totals_text totals) };
 
     fn fmt<W: fmt::Write>(&self, f: &mut fmt::Formatter<W>) -> fmt::Result {
-        write!(f, "orders {} trades {} reports {}", self.orders, self.trades, self.reports)
+        write!(
+            f,
+            "orders {} trades {} reports {}",
+            self.orders, self.trades, self.reports
+        )
     }
 }

@@ -29,6 +29,10 @@ pub enum Misread {
     Symbol,
     Segment,
     ClientId,
+    /// What the line asks for needs a gateway.
+    NotStarted,
+    /// The gateway has all its configuration.
+    Started,
 }
 
 impl Misread {
@@ -49,13 +53,20 @@ impl Misread {
             Misread::Price => "not understood: the price is neither a whole number nor market",
             Misread::Quantity => "not understood: the quantity is not whole, or is too large",
             Misread::Matcher => "not understood: the matcher is neither lit nor tape",
-            Misread::Store => "not understood: the store is neither records nor wire, with one number",
+            Misread::Store =>
+                "not understood: the store is neither records nor wire, with one number",
             Misread::Style => "not understood: messages are shown as hex or as text",
             Misread::Tape => "not understood: a line of the tape is not ORDER,QTY,PRICE",
-            Misread::Scope => "not understood: what is cancelled is none of own, firm, instrument and segment",
-            Misread::Symbol => "not understood: the symbol has more than 6 characters, or others than printable ones",
-            Misread::Segment => "not understood: the segment has more than 4 characters, or others than printable ones",
-            Misread::ClientId => "not understood: the client order id has more than 20 characters, or others than printable ones",
+            Misread::Scope =>
+                "not understood: what is cancelled is none of own, firm, instrument and segment",
+            Misread::Symbol =>
+                "not understood: the symbol has more than 6 characters, or others than printable ones",
+            Misread::Segment =>
+                "not understood: the segment has more than 4 characters, or others than printable ones",
+            Misread::ClientId =>
+                "not understood: the client order id has more than 20 characters, or others than printable ones",
+            Misread::NotStarted => "not understood: the gateway is not started",
+            Misread::Started => "not understood: the gateway is started already",
         }
     }
 }

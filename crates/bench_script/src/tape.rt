@@ -34,6 +34,10 @@ impl<'a> Tape<'a> {
     pub fn lines(self, heap: Global) -> Result<Vec<Line>, AllocError>
         ensures { IfOk result (λ lines. lines.items ≡ lines_of self.entry.words.now) }
     {
-        self.words.iter().skip(2).filter_map(|word| tape_line(word)).collect(heap)
+        self.words
+            .iter()
+            .skip(2)
+            .filter_map(|word| tape_line(word))
+            .collect(heap)
     }
 }
