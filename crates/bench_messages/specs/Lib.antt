@@ -5,3 +5,5 @@ pub mod Senders
 pub mod Sessions
 pub mod Takes
 pub mod Mass
+pub mod Missed
+pub mod Asked

@@ -1,12 +1,12 @@
 -- What parse reads as a whole number. Assumes nothing.
-use Rattle.std.proofs.Common.{◌≡◌, ◌≢◌, ℕ, ◌^◌, ◌<◌, ◌≤◌, Bool, true, false, ◌&&◌, ◌⊎◌, List, length, drop, Ok, Err, Some, None, Option, Result, arith, ap, sym, ◌∙◌, cond, refl, inl, inr, ltb-true, leb-true, slice_index}
-use Rattle.std.specs.Prelude.{ℤ, pos, neg_ℤ, nat_lt, nat_le, ◌==◌}
+use Rattle.std.proofs.Common.{◌≡◌, ◌≢◌, ℕ, ◌^◌, ◌<◌, ◌≤◌, Bool, true, ◌&&◌, List, length, drop, Ok, Err, Some, None, Option, Result, arith, ap, sym, ◌∙◌, cond, inl, inr, ltb-true, leb-true, slice_index}
+use Rattle.std.specs.Prelude.{ℤ, nat_lt, nat_le}
 use Rattle.std.specs.Int.{w8, w32, w64}
 use mir.Syntax.{Width}
 use mir.Val.{hbits}
 use Rattle.std.specs.Result.{OkIff, result_ok}
 use Rattle.std.specs.Str.{all_ascii_digits}
-use Rattle.std.specs.Str.Parse.{ParsesUnsigned, ParsesSigned, IsNumeral, digits_value, starts_with_minus, without_leading_plus}
+use Rattle.std.specs.Str.Parse.{ParsesUnsigned, ParsesSigned, digits_value, without_leading_plus}
 use Rattle.std.proofs.lemmas.Bool.{and_parts, cases_Bool}
 use Rattle.std.proofs.lemmas.Bool.Decides.{eqb_tells, nat_tests}
 use Rattle.std.proofs.lemmas.Str.Parse.{IsNumeralModel, numerals_by_value, tells_all_ascii_digits, parse_signed_minus, parse_signed_plain, parse_signed_plus, without_leading_plus_none, without_leading_plus_plus}

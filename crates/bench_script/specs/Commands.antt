@@ -1,22 +1,18 @@
 -- What the words of a line ask for: a command, or why they are not understood. Assumes nothing.
-use Rattle.std.specs.Prelude.{ℕ, ◌+◌, Bool, true, false, ◌&&◌, if◌then◌else◌, List, [], length, drop, ℤ, Some, None, Ok, Err, Option, Result, codes, nat_le, ◌==◌, slice_index_or}
+use Rattle.std.specs.Prelude.{ℕ, Bool, true, false, ◌&&◌, if◌then◌else◌, List, [], length, drop, Some, None, Ok, Err, Option, Result, codes, nat_le, ◌==◌, slice_index_or}
 use Rattle.std.specs.Borrow.{Bor}
 use Rattle.std.specs.Str.{bytes_eq}
 use Rattle.codes.specs.declared.order.Side.{Side}
 use Rattle.codes.specs.declared.order.Side.TheVariants as side
 use Rattle.texts.specs.declared.values.Time.{Time}
 use Rattle.bench_script.specs.declared.bytes.Bytes.{Bytes}
-use Rattle.bench_script.specs.declared.command.Call.{Call}
 use Rattle.bench_script.specs.declared.command.Call.TheVariants as call
 use Rattle.bench_script.specs.declared.command.Command.{Command}
 use Rattle.bench_script.specs.declared.command.Command.TheVariants as command
-use Rattle.bench_script.specs.declared.command.Request.{Request}
 use Rattle.bench_script.specs.declared.command.Request.TheVariants as request
 use Rattle.bench_script.specs.declared.command.Scope.{Scope}
 use Rattle.bench_script.specs.declared.command.Scope.TheVariants as scope
-use Rattle.bench_script.specs.declared.command.Setup.{Setup}
 use Rattle.bench_script.specs.declared.command.Setup.TheVariants as setup
-use Rattle.bench_script.specs.declared.command.Style.{Style}
 use Rattle.bench_script.specs.declared.command.Style.TheVariants as style
 use Rattle.bench_script.specs.declared.misread.Misread.{Misread}
 use Rattle.bench_script.specs.declared.misread.Misread.TheVariants as why

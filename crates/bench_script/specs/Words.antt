@@ -1,5 +1,5 @@
 -- What a single word of a script says. Assumes nothing.
-use Rattle.std.specs.Prelude.{ℕ, ◌-◌, ◌^◌, Bool, true, false, ◌&&◌, if◌then◌else◌, List, length, drop, ℤ, pos, neg_ℤ, Some, None, Ok, Err, Option, Result, codes, nat_le, nat_lt, ◌==◌}
+use Rattle.std.specs.Prelude.{ℕ, ◌^◌, Bool, true, false, ◌&&◌, if◌then◌else◌, List, length, drop, ℤ, pos, neg_ℤ, Some, None, Ok, Err, Option, Result, codes, nat_le, nat_lt, ◌==◌}
 use Rattle.std.specs.List.{after_first, before_first, list_any}
 use Rattle.std.specs.Str.{all_ascii_digits, bytes_eq}
 use Rattle.std.specs.Str.Parse.{digits_value, starts_with_minus, without_leading_plus}

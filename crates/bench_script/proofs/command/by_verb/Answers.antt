@@ -1,7 +1,5 @@
-use Rattle.std.proofs.Common.{rules, ◌≡◌}
-use Rattle.bench_script.specs.Commands.{matcher_of, by_verb}
-use Rattle.bench_script.specs.declared.verb.Verb.{Verb}
-use Rattle.bench_script.specs.declared.verb.Verb.TheVariants as verb
+use Rattle.std.proofs.Common.{◌≡◌}
+use Rattle.bench_script.specs.Commands.{matcher_of}
 use Rattle.bench_script.proofs.command.by_verb.Goals as goal
 
 pub returns-in-Matcher : goal.returns-in-Matcher

@@ -1,6 +1,5 @@
-use Rattle.std.proofs.Common.{rules, ◌≡◌, arith}
-use Rattle.std.proofs.lemmas.Grind.{common_steps}
-use Rattle.bench_script.specs.Commands.{by_verb, command_of}
+use Rattle.std.proofs.Common.{rules, ◌≡◌}
+use Rattle.bench_script.specs.Commands.{by_verb}
 use Rattle.bench_script.proofs.command.read.Goals as goal
 
 pub returns-in-Some : goal.returns-in-Some

@@ -1,4 +1,4 @@
-use Rattle.std.proofs.Common.{◌≡◌, ℕ, List, take}
+use Rattle.std.proofs.Common.{take}
 use Rattle.std.specs.Fmt.{HasWritten, IsPlainFormatter}
 use Rattle.bench_script.specs.Answers.{hex_text}
 use Rattle.bench_script.proofs.answer.PairsDisplay.fmt.Given as goal
