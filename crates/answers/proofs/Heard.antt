@@ -1,13 +1,12 @@
 -- One message at the front of a buffer, and what a follower reads there. Assumes nothing.
-use Rattle.std.proofs.Common.{◌≡◌, ℕ, ℤ, ◌+◌, ◌≤◌, List, ◌++◌, length, drop, slice_index_or, pos, Some, None, Option, refl, sym, ap, ◌∙◌, subst, arith}
+use Rattle.std.proofs.Common.{◌≡◌, ℕ, ℤ, ◌≤◌, List, ◌++◌, drop, slice_index_or, pos, Some, Option, refl, sym, ap, ◌∙◌, subst, arith}
 use Rattle.codes.specs.Session.{partition_code}
 use Rattle.codes.specs.declared.session.Partition.{Partition}
-use Rattle.codes.specs.declared.session.Partition.TheVariants as partition
 use Rattle.codes.specs.declared.session.ReportResponse.{ReportResponse}
 use Rattle.codes.specs.contracts.session.PartitionCode.TheImpl.Laws.{one-law as partition_one}
 use Rattle.layout.specs.Layout.{Content, figure_of, int32_of}
 use Rattle.layout.specs.Layout.Content.{nothing}
-use Rattle.layout.specs.Writing.{header, encode}
+use Rattle.layout.specs.Writing.{header}
 use Rattle.wire.specs.declared.kinds.Channel.TheVariants.{Follower}
 use Rattle.wire.specs.declared.kinds.Kind.{Kind}
 use Rattle.wire.specs.declared.kinds.Kind.TheVariants as kind
@@ -138,6 +137,10 @@ report_told p n r m b k c g =
     (subst (λ j. takes Follower (letter_of j) ≡ Some j) (sym k) (follower_takes r)) g
     (record { report = b; place = placed p n r m b c; kind = k; contents = c })
     (ap (λ j. message_bytes j (contents_of m)) k ∙ ap (message_bytes (kind_told r)) c)
+
+pub same_told : (p q : Partition) (n k : ℕ) (r s : Report) → ReportTold p n r → p ≡ q → n ≡ k → r ≡ s → ReportTold q k s
+same_told p q n k r s t a b c =
+    subst (ReportTold q k) c (subst (λ x. ReportTold q x r) b (subst (λ x. ReportTold x n r) a t))
 
 pub end_told : (r : ReportResponse) → GivenBack (message.MissedMessageReport (record { response = r })) → EndTold r
 end_told r g = heard (Ends r) (end_bytes r) (message.MissedMessageReport (record { response = r })) (ends_plain r) refl g refl refl

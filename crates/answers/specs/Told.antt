@@ -3,13 +3,12 @@ use Rattle.std.specs.Prelude.{◌≡◌, ℕ, ℤ, List, [], pos, Some, None, Op
 use Rattle.codes.specs.declared.session.Partition.{Partition}
 use Rattle.codes.specs.declared.session.ReportResponse.{ReportResponse}
 use Rattle.texts.specs.Says.{says}
-use Rattle.layout.specs.Layout.{Content}
 use Rattle.wire.specs.declared.kinds.Channel.TheVariants.{Follower}
 use Rattle.wire.specs.declared.message.Message.{Message}
 use Rattle.wire.specs.declared.message.Message.TheVariants as message
 use Rattle.wire.specs.Messages.{kind_of, contents_of, verdict, written, GivenBack, Reads}
 use Rattle.reports.specs.declared.report.Report.{Report}
-use Rattle.report_messages.specs.Back.{kept, report_in}
+use Rattle.report_messages.specs.Back.{report_in}
 use Rattle.report_messages.specs.Telling.{told_as, kind_told}
 use Rattle.answers.specs.declared.answer.Answer.{Answer}
 use Rattle.answers.specs.declared.answer.Answer.TheVariants.{Silent, LogonReply, Ack, Reject}

@@ -1,11 +1,12 @@
 // What a gateway answers to a message, and its bytes.
-ghost use Rattle.std.specs.Prelude.{◌≡◌, ◌≤◌, [], length};
+ghost use Rattle.std.specs.Prelude.{◌≡◌, ◌≤◌, [], length, MatchOption};
 ghost use Rattle.texts.specs.Bytes.{said};
+ghost use Rattle.texts.specs.Says.{says};
 ghost use Rattle.answers.specs.declared.answer.Answer.TheVariants as answer;
 ghost use Rattle.answers.specs.declared.sending.TheConstants.{REPLY};
 ghost use Rattle.answers.specs.Bytes.{answer_bytes, client_said};
 ghost use Rattle.answers.specs.Sent.{Sent};
-ghost use Rattle.answers.specs.Told.{AnswerTold};
+ghost use Rattle.answers.specs.Told.{Answers, AnswerTold};
 
 use crate::sending::send;
 use codes::session::AckResponse;
@@ -13,6 +14,7 @@ use messages::logon_reply::LogonReply;
 use messages::missed_message_request_ack::MissedMessageRequestAck;
 use messages::reject::Reject;
 use texts::fixed::FixedText;
+use texts::text::Text;
 use wire::message::Message;
 
 /// A message that was not taken.
@@ -39,75 +41,65 @@ pub enum Answer {
     Reject(Rejection),
 }
 
-fn nothing() -> FixedText<30>
+fn nothing<const N: usize>() -> FixedText<N>
     ensures { said result.bytes ≡ [] }
 {
     FixedText::empty()
 }
 
-fn client_text(client: Option<FixedText<20>>) -> FixedText<20>
-    ensures { said result.bytes ≡ client_said client }
+// A Client Order ID, lent, or the text that says nothing.
+fn client_text<'a>(client: &'a Option<FixedText<20>>, nothing: &'a FixedText<20>) -> Text<'a, 20>
+    requires { said nothing.now.bytes ≡ [] }
+    ensures { says result ≡ client_said client.now }
 {
     match client {
-        Some(client) => client,
-        None => FixedText::empty(),
+        Some(client) => client.as_text(),
+        None => nothing.as_text(),
     }
 }
 
-#[tactic(auto, using(crate::proofs::Answering::logon_reply_told))]
-fn write_logon_reply(code: &i32, out: &mut [u8]) -> usize
-    requires { REPLY ≤ length out.old }
-    ensures sent { Sent (answer_bytes (answer.LogonReply code.now)) out.old out.new result }
-    ensures told { AnswerTold (answer.LogonReply code.now) }
-{
-    let expiry_days = nothing();
-    let reply = LogonReply {
-        reject_code: *code,
-        expiry_days: expiry_days.as_text(),
-    };
-    send(&Message::LogonReply(reply), out)
-}
-
-#[tactic(auto, using(crate::proofs::Answering::ack_told))]
-fn write_ack(response: AckResponse, out: &mut [u8]) -> usize
-    requires { REPLY ≤ length out.old }
-    ensures sent { Sent (answer_bytes (answer.Ack response)) out.old out.new result }
-    ensures told { AnswerTold (answer.Ack response) }
-{
-    let ack = MissedMessageRequestAck { response };
-    send(&Message::MissedMessageRequestAck(ack), out)
-}
-
-#[tactic(auto, using(crate::proofs::Answering::reject_told))]
-fn write_reject(rejection: &Rejection, out: &mut [u8]) -> usize
-    requires { REPLY ≤ length out.old }
-    ensures sent { Sent (answer_bytes (answer.Reject rejection.now)) out.old out.new result }
-    ensures told { AnswerTold (answer.Reject rejection.now) }
-{
-    let reason = nothing();
-    let client = client_text(rejection.client);
-    let reject = Reject {
-        code: i32::from(rejection.code),
-        reason: reason.as_text(),
-        message_type: rejection.message_type,
-        client_order_id: client.as_text(),
-    };
-    send(&Message::Reject(reject), out)
-}
-
 impl Answer {
+    // The message of the answer, if there is one: it gives no words for what no rule names.
+    fn message<'a>(
+        &'a self,
+        nothing: &'a FixedText<30>,
+        nobody: &'a FixedText<20>,
+    ) -> Option<Message<'a>>
+        requires nothing { said nothing.now.bytes ≡ [] }
+        requires nobody { said nobody.now.bytes ≡ [] }
+        ensures { MatchOption result (self.now ≡ answer.Silent) (λ m. Answers self.now m) }
+    {
+        match self {
+            Answer::Silent => None,
+            Answer::LogonReply(code) => Some(Message::LogonReply(LogonReply {
+                reject_code: *code,
+                expiry_days: nothing.as_text(),
+            })),
+            Answer::Ack(response) => Some(Message::MissedMessageRequestAck(
+                MissedMessageRequestAck {
+                    response: *response,
+                },
+            )),
+            Answer::Reject(rejection) => Some(Message::Reject(Reject {
+                code: i32::from(rejection.code),
+                reason: nothing.as_text(),
+                message_type: rejection.message_type,
+                client_order_id: client_text(&rejection.client, nobody),
+            })),
+        }
+    }
+
     /// Writes the answer to the front of the buffer, and says how many bytes it has, which is 0 where there is no answer;
     /// those past it stay.
+    #[tactic(auto, using(crate::proofs::Answering::sent, crate::proofs::Answering::told))]
     pub fn write(&self, out: &mut [u8]) -> usize
         requires { REPLY ≤ length out.old }
         ensures sent { Sent (answer_bytes self.now) out.old out.new result }
         ensures told { AnswerTold self.now }
     {
-        match self {
-            Answer::Silent => 0,
-            Answer::LogonReply(code) => write_logon_reply(code, out),
-            Answer::Ack(response) => write_ack(*response, out),
-            Answer::Reject(rejection) => write_reject(rejection, out),
+        match self.message(&nothing(), &nothing()) {
+            Some(message) => send(&message, out),
+            None => 0,
         }
     }
 }

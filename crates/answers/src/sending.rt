@@ -24,9 +24,17 @@ pub(crate) fn send(message: &Message<'_>, out: &mut [u8]) -> usize
     write(message, out).unwrap()
 }
 
+fn tell(telling: &Telling, out: &mut [u8]) -> usize
+    requires { REPLY ≤ length out.old }
+    ensures sent { Sent (report_bytes telling.now.partition telling.now.number telling.now.report) out.old out.new result }
+    ensures told { ReportTold telling.now.partition telling.now.number telling.now.report }
+{
+    send(&telling.message(), out)
+}
+
 /// Writes the message of a report under its number to the front of the buffer, and says how many bytes it has; those
 /// past it stay.
-#[tactic(auto, using(crate::proofs::Heard::report_told))]
+#[tactic(auto, using(crate::proofs::Heard::same_told))]
 pub fn write_report(partition: Partition, number: u32, report: Report, out: &mut [u8]) -> usize
     requires room { REPLY ≤ length out.old }
     requires few { number < NUMBERS }
@@ -34,7 +42,7 @@ pub fn write_report(partition: Partition, number: u32, report: Report, out: &mut
     ensures told { ReportTold partition number report }
 {
     let telling = Telling::new(partition, number, report).unwrap();
-    send(&telling.message(), out)
+    tell(&telling, out)
 }
 
 /// Writes the end of a download in the same way.

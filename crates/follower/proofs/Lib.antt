@@ -1,0 +1,6 @@
+mod Folds
+mod Hears
+mod Ties
+mod Requests
+mod Written
+mod Firsts

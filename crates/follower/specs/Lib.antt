@@ -1,0 +1,11 @@
+pub mod Numbers
+pub mod Sides
+pub mod Folding
+pub mod Answers
+pub mod Faults
+pub mod Following
+pub mod Hearing
+pub mod Owing
+pub mod Asking
+pub mod Laws
+pub mod Orders

@@ -1,0 +1,93 @@
+// The token of a download that was asked: whoever holds it owes that the download comes to its end.
+ghost use Rattle.std.specs.Prelude.{◌≡◌, None};
+ghost use Rattle.follower.specs.Owing.{owed, owing, after_live, after_recovered};
+ghost use Rattle.follower.specs.declared.pending.Pending.TheVariants.{Idle};
+
+use crate::answer::{Live, Recovered};
+use crate::fault::FollowerFault;
+use codes::session::Partition;
+
+/// A download that was asked and has not ended. Only a follower makes one and lets one go.
+pub struct Download {
+    partition: Partition,
+}
+
+/// What stands beside a follower: no download, or one whose end is owed. It may be dropped only where none is owed, so
+/// that a program that lets an asked download go has no proof.
+pub enum Pending {
+    Idle,
+    Owed(Download),
+}
+
+impl Drop for Pending {
+    fn drop(self)
+        requires { owed self ≡ None }
+    {
+        self.spend();
+    }
+}
+
+impl Download {
+    fn spend(self) {
+        let Download { partition: _ } = self;
+    }
+}
+
+impl Pending {
+    // A download of a partition is asked.
+    pub(crate) fn begin(self, partition: Partition) -> Pending
+        requires { owed self ≡ None }
+        ensures { result ≡ owing partition }
+    {
+        self.spend();
+        Pending::Owed(Download { partition })
+    }
+
+    /// The partition of the download that is owed.
+    pub fn owed(&self) -> Option<Partition>
+        ensures { result ≡ owed self.now }
+    {
+        match self {
+            Pending::Idle => None,
+            Pending::Owed(download) => Some(download.partition),
+        }
+    }
+
+    // The download has ended.
+    pub(crate) fn end(self) -> Pending
+        ensures { result ≡ Idle }
+    {
+        self.spend();
+        Pending::Idle
+    }
+
+    fn spend(self) {
+        match self {
+            Pending::Idle => {}
+            Pending::Owed(download) => download.spend(),
+        }
+    }
+}
+
+/// What is owed after a message that came live: a full hold counts as a lost line, and ends the download.
+pub(crate) fn after_live(answer: &Result<Live, FollowerFault>, pending: Pending) -> Pending
+    ensures { result ≡ after_live answer.now pending }
+{
+    match answer {
+        Err(FollowerFault::HoldFull) => pending.end(),
+        _ => pending,
+    }
+}
+
+/// What is owed after a message of the recovery channel, which may end the download.
+pub(crate) fn after_recovered(
+    answer: &Result<Recovered, FollowerFault>,
+    pending: Pending,
+) -> Pending
+    ensures { result ≡ after_recovered answer.now pending }
+{
+    match answer {
+        Ok(Recovered::Ended) => pending.end(),
+        _ => pending,
+    }
+}

@@ -1,0 +1,71 @@
+// Questions to a follower, which change nothing.
+ghost use Rattle.std.specs.Prelude.{◌≡◌, length};
+ghost use Rattle.std.specs.FinMap.{get, len};
+ghost use Rattle.partitions.specs.PerPartition.{at};
+ghost use Rattle.follower.specs.Orders.{FirstFrom};
+
+use crate::ordered::first_from;
+use crate::side::State;
+use crate::stage::Stage;
+use crate::state::Follower;
+use codes::session::Partition;
+use reports::standing::Standing;
+use reports::standings::Known;
+
+impl Follower {
+    /// Where an order stands, by its number; none where it is not known.
+    pub fn standing(&self, order: u64) -> Option<Standing>
+        ensures { result ≡ get self.now.standings order }
+    {
+        self.standings.standing(order)
+    }
+
+    /// The known order of the lowest number from a given one on, so that one walks through all of them by rising number;
+    /// none where none is known from there on.
+    pub fn first_from(&self, from: u64) -> Option<Known>
+        ensures { FirstFrom self.now.standings from result }
+    {
+        first_from(&self.standings, from)
+    }
+
+    /// How many orders are known.
+    pub fn len(&self) -> usize
+        ensures { result ≡ len self.now.standings }
+    {
+        self.standings.len()
+    }
+
+    /// The number of the last report of a partition that was folded, 0 for none.
+    pub fn place(&self, partition: Partition) -> u32
+        ensures { result ≡ (at self.now.sides partition).place }
+    {
+        self.sides.at(partition).place.get()
+    }
+
+    /// Whether a partition is level.
+    pub fn state(&self, partition: Partition) -> State
+        ensures { result ≡ (at self.now.sides partition).state }
+    {
+        self.sides.at(partition).state
+    }
+
+    /// How many reports a partition holds.
+    pub fn held(&self, partition: Partition) -> usize
+        ensures { result ≡ length (at self.now.sides partition).hold }
+    {
+        self.sides.at(partition).hold.len()
+    }
+
+    pub fn is_up(&self) -> bool
+        ensures { result ≡ self.now.up }
+    {
+        self.up
+    }
+
+    /// The download that is asked or runs.
+    pub fn download(&self) -> Stage
+        ensures { result ≡ self.now.download }
+    {
+        self.stage
+    }
+}

@@ -1,0 +1,106 @@
+// What happens on a desk's line. Every download that is asked comes to its end, since the token of one that has not
+// cannot be let go.
+use follower::answer::{Live, Recovered};
+use follower::fault::FollowerFault;
+use follower::pending::Pending;
+use follower::state::Follower;
+use std::io;
+
+/// A connection begins or ends, a message comes on one of its channels, or the desk asks for a partition's download.
+#[derive(Drop)]
+pub enum Event {
+    Up,
+    Lost,
+    Live(Vec<u8>),
+    Recovered(Vec<u8>),
+    Ask(u8),
+}
+
+/// What the follower answers.
+#[derive(Clone, Copy)]
+pub enum Answer {
+    Done,
+    Live(Live),
+    Recovered(Recovered),
+    Asked(usize),
+    Refused(FollowerFault),
+}
+
+impl From<Result<Live, FollowerFault>> for Answer {
+    fn from(answer: Result<Live, FollowerFault>) -> Answer {
+        match answer {
+            Ok(live) => Answer::Live(live),
+            Err(fault) => Answer::Refused(fault),
+        }
+    }
+}
+
+impl From<Result<Recovered, FollowerFault>> for Answer {
+    fn from(answer: Result<Recovered, FollowerFault>) -> Answer {
+        match answer {
+            Ok(recovered) => Answer::Recovered(recovered),
+            Err(fault) => Answer::Refused(fault),
+        }
+    }
+}
+
+impl From<Result<usize, FollowerFault>> for Answer {
+    fn from(answer: Result<usize, FollowerFault>) -> Answer {
+        match answer {
+            Ok(len) => Answer::Asked(len),
+            Err(fault) => Answer::Refused(fault),
+        }
+    }
+}
+
+fn print<R: Print>(rt: &R, answer: Answer) -> io::Result<()> {
+    match answer {
+        Answer::Done => println!(rt; "done"),
+        Answer::Live(live) => println!(rt; "live: {live}"),
+        Answer::Recovered(recovered) => println!(rt; "recovered: {recovered}"),
+        Answer::Asked(len) => println!(rt; "asked in {len} bytes"),
+        Answer::Refused(fault) => println!(rt; "refused {}: {fault}", fault.number()),
+    }
+}
+
+fn take(
+    follower: &mut Follower,
+    event: &Event,
+    out: &mut [u8],
+    pending: Pending,
+) -> (Answer, Pending) {
+    match event {
+        Event::Up => (Answer::Done, follower.up(pending)),
+        Event::Lost => (Answer::Done, follower.lost(pending)),
+        Event::Live(message) => {
+            let (answer, pending) = follower.live(message, pending);
+            (answer.into(), pending)
+        }
+        Event::Recovered(message) => {
+            let (answer, pending) = follower.recovered(message, pending);
+            (answer.into(), pending)
+        }
+        Event::Ask(partition) => {
+            let (answer, pending) = follower.ask(*partition, out, pending);
+            (answer.into(), pending)
+        }
+    }
+}
+
+/// Takes what happens on a line, and prints each answer. At the end, and where printing fails, the line is lost, so that
+/// no download is left that was asked.
+pub fn day<R: Print>(rt: &R, follower: &mut Follower, events: &[Event]) -> io::Result<()> {
+    let mut out = [0; 512];
+    let mut pending = Pending::Idle;
+    let mut printed = Ok(());
+    for event in events {
+        let (answer, left) = take(follower, event, &mut out, pending);
+        pending = left;
+        printed = print(rt, answer);
+        if printed.is_err() {
+            break;
+        }
+    }
+    let _idle = follower.lost(pending);
+    printed
+}
