@@ -4,7 +4,7 @@ ghost use Rattle.limits.specs.declared.TheConstants.{REPORTS as MOST};
 ghost use Rattle.partitions.specs.Series.{total};
 ghost use Rattle.byte_store.specs.Places.{Within};
 
-use crate::codec::{Codec, LONGEST};
+use crate::codec::{Codec, LONGEST, Number};
 use codes::session::Partition;
 use limits::REPORTS;
 use partitions::per_partition::PerPartition;
@@ -117,17 +117,18 @@ impl<C: Codec> Buffered<C> {
         requires len { place.len ≡ length bytes.now }
         requires room { vec_len self.old.buffer + length bytes.now ≤ self.old.size }
         requires few { total self.old.places < REPORTS }
-        ensures kept { (d : List ℕ → Told) → kept_in d self.new ≡ grown (kept_in d self.old) partition (filed place.owner (d bytes.now)) }
-        ensures free { free_in self.new ≡ free_places self.old.size (vec_len self.old.buffer + length bytes.now) (total self.old.places + 1) }
+        ensures kept { (d : List ℕ → Told) →
+            kept_in d self.new ≡ grown (kept_in d self.old) partition (filed place.owner (d bytes.now)) }
+        ensures free { let used = vec_len self.old.buffer + length bytes.now in
+            free_in self.new ≡ free_places self.old.size used (total self.old.places + 1) }
     {
         let _ = self.buffer.extend_from_slice(bytes);
         self.places.at_mut(partition).push(place);
     }
 
     // Writes a report behind the others, where there is room.
-    fn write(&mut self, partition: Partition, number: u32, entry: Entry)
-        requires room { 0 < free_in self.old }
-        requires few { number ≤ REPORTS }
+    fn write(&mut self, partition: Partition, number: Number, entry: Entry)
+        requires { 0 < free_in self.old }
         ensures kept { kept_in C.Codec.decoded self.new ≡ grown (kept_in C.Codec.decoded self.old) partition entry }
         ensures fewer { free_in self.new ≤ free_in self.old }
         ensures one { free_in self.old ≤ free_in self.new + 1 }
@@ -168,7 +169,7 @@ impl<C: Codec> Store for Buffered<C> {
             return None;
         }
         let number = self.last_of(partition) + 1;
-        self.write(partition, number, entry);
+        self.write(partition, Number { value: number }, entry);
         Some(number)
     }
 

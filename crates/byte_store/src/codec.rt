@@ -1,14 +1,20 @@
 // A report as bytes, and back.
-ghost use Rattle.std.specs.Prelude.{◌≡◌, ℕ, ◌≤◌, List, length, take};
+ghost use Rattle.std.specs.Prelude.{◌≡◌, ℕ, ◌^◌, ◌<◌, ◌≤◌, List, length, take};
 ghost use Rattle.codes.specs.declared.session.Partition.{Partition as Part};
 ghost use Rattle.reports.specs.declared.report.Report.{Report as Told};
 
 use codes::session::Partition;
-use limits::REPORTS;
 use reports::report::Report;
 
 /// The most bytes that a report takes.
 pub const LONGEST: usize = 145;
+
+/// A report's number in its partition, which a signed field of four bytes holds.
+#[derive(Clone, Copy)]
+pub struct Number {
+    pub value: u32,
+    ghost fits: { value < 2 ^ 31 },
+}
 
 /// `coded` are the bytes of a report under its number in a partition, and `decoded` is the report that bytes hold.
 pub trait Codec {
@@ -17,12 +23,11 @@ pub trait Codec {
     ghost decoded: { List ℕ → Told };
 
     /// Writes a report to the front of a buffer, and answers how many bytes it takes.
-    fn encode(&self, partition: Partition, number: u32, report: Report, out: &mut [u8]) -> usize
-        requires room { LONGEST ≤ length out.old }
-        requires few { number ≤ REPORTS }
-        ensures bytes { take result out.new ≡ coded partition number report }
+    fn encode(&self, partition: Partition, number: Number, report: Report, out: &mut [u8]) -> usize
+        requires { LONGEST ≤ length out.old }
+        ensures bytes { take result out.new ≡ coded partition number.value report }
         ensures short { result ≤ LONGEST }
-        ensures back { decoded (coded partition number report) ≡ report };
+        ensures back { decoded (coded partition number.value report) ≡ report };
 
     fn decode(&self, bytes: &[u8]) -> Report
         ensures { result ≡ decoded bytes.now };

@@ -1,6 +1,6 @@
 // The five changes of an order.
 ghost use Rattle.std.specs.Prelude.{◌≡◌, MatchOption, Some, None};
-ghost use Rattle.changes.specs.Telling.{told_as};
+ghost use Rattle.changes.specs.Telling.{ending_told, told_as};
 
 use codes::report::{Liquidity, TradeType};
 use orders::order::Order;
@@ -85,6 +85,16 @@ fn told_as(told: Told, client: FixedText<20>, execution: Execution, order: Order
     }
 }
 
+// Why the report of an order that ended is sent.
+fn ending_told(ending: Ending) -> Execution
+    ensures { result ≡ ending_told ending }
+{
+    match ending {
+        Ending::Cancelled => Execution::Cancelled,
+        Ending::Expired => Execution::Expired,
+    }
+}
+
 impl Change {
     ghost use Rattle.std.specs.Prelude.{◌≤◌, OnSome};
     ghost use Rattle.limits.specs.declared.TheConstants.{SHARES};
@@ -115,39 +125,26 @@ impl Change {
         match self {
             Change::Accept(_, _) => told_as(told, client, Execution::New, order),
             Change::Replace(_) => told_as(told, client, Execution::Replaced, order),
-            Change::Withdraw(Ending::Cancelled, client) => told_as(
-                told,
-                *client,
-                Execution::Cancelled,
-                order,
-            ),
-            Change::Withdraw(Ending::Expired, client) => told_as(
-                told,
-                *client,
-                Execution::Expired,
-                order,
-            ),
-            Change::Fill(fill) => ExecutionReport {
-                price: fill.price,
-                quantity: fill.quantity as i32,
-                trade: fill.trade,
-                ..told_as(
-                    told,
-                    client,
-                    Execution::Trade(fill.liquidity, TradeType::Visible),
-                    order,
-                )
-            },
-            Change::Undo(undone) => ExecutionReport {
-                quantity: undone.quantity as i32,
-                reference: Some(undone.report),
-                ..told_as(
-                    told,
-                    client,
-                    Execution::TradeCancel(Liquidity::Unspecified),
-                    order,
-                )
-            },
+            Change::Withdraw(ending, client) => {
+                told_as(told, *client, ending_told(*ending), order)
+            }
+            Change::Fill(fill) => {
+                let execution = Execution::Trade(fill.liquidity, TradeType::Visible);
+                ExecutionReport {
+                    price: fill.price,
+                    quantity: fill.quantity as i32,
+                    trade: fill.trade,
+                    ..told_as(told, client, execution, order)
+                }
+            }
+            Change::Undo(undone) => {
+                let execution = Execution::TradeCancel(Liquidity::Unspecified);
+                ExecutionReport {
+                    quantity: undone.quantity as i32,
+                    reference: Some(undone.report),
+                    ..told_as(told, client, execution, order)
+                }
+            }
         }
     }
 
@@ -163,7 +160,11 @@ impl Change {
 
     /// Makes the change, and says how it is told; none, and nothing made, where it may not be made.
     pub fn make(&self, number: u64, order: Option<Order>, told: Told) -> Option<Made>
-        ensures { MatchOption result (after number self.now order ≡ None) (λ m. (after number self.now order ≡ Some m.order) × (m.report ≡ report_of told self.now m.order) × (m.restated ≡ restated_of told self.now m.order)) }
+        ensures { MatchOption result
+            (after number self.now order ≡ None)
+            (λ m. (after number self.now order ≡ Some m.order)
+            × (m.report ≡ report_of told self.now m.order)
+            × (m.restated ≡ restated_of told self.now m.order)) }
     {
         let order = self.after(number, order)?;
         Some(Made {

@@ -11,7 +11,18 @@ abbrev pub more : ℕ → ℕ
 more n = min (n + 1) (2 ^ 64 - 1)
 
 abbrev pub nothing : Account
-nothing = record { lines = 0; read = 0; same_again = 0; refused = 0; short = 0; start = 0; unknown = 0; length = 0; field = 0; not_understood = 0 }
+nothing = record {
+  lines = 0;
+  read = 0;
+  same_again = 0;
+  refused = 0;
+  short = 0;
+  start = 0;
+  unknown = 0;
+  length = 0;
+  field = 0;
+  not_understood = 0;
+}
 
 -- a refused line under its fault
 abbrev pub by_fault : Fault → Account → Account

@@ -205,7 +205,8 @@ struct Named<'a> {
 }
 
 impl fmt::Display for Named<'_> {
-    ghost output = { λ named. Some (field_text named.name.now (form_of named.held.field) (got named.held.reader.src.now named.held.field)) };
+    ghost output = { λ named. let field = named.held.field in
+        Some (field_text named.name.now (form_of field) (got named.held.reader.src.now field)) };
 
     fn fmt<W: fmt::Write>(&self, f: &mut fmt::Formatter<W>) -> fmt::Result {
         if let Form::Reserved(_) = self.held.field.form() {

@@ -19,7 +19,10 @@ Below (Some n) = n < 2 ^ 64
 abbrev pub HoldsForm : Form → Content → Type 0
 HoldsForm (Text w) v = (v ≡ words (words_of v)) × (length (words_of v) ≤ w) × (all_printable (words_of v) ≡ true)
 HoldsForm (Name w) v =
-    (v ≡ words (words_of v)) × (length (words_of v) ≤ w) × (all_printable (words_of v) ≡ true) × (0 < length (words_of v))
+    (v ≡ words (words_of v))
+    × (length (words_of v) ≤ w)
+    × (all_printable (words_of v) ≡ true)
+    × (0 < length (words_of v))
 HoldsForm Order v = (v ≡ order (order_of v)) × Below (order_of v)
 HoldsForm UInt32 v = (v ≡ figure (figure_of v)) × (figure_of v < 2 ^ 32)
 HoldsForm UInt64 v = (v ≡ figure (figure_of v)) × (figure_of v < 2 ^ 64)

@@ -36,6 +36,14 @@ pub(crate) fn put_header(out: &mut [u8], letter: u8, total: u16)
     put(out, 0, &[START, len[0], len[1], letter]);
 }
 
+// All bytes of a field that has N: cut to N, so that the compiler knows how many there are to copy.
+fn all<const N: usize>(field: &[u8]) -> &[u8]
+    requires { length field.now ≡ N }
+    ensures { result.now ≡ field.now }
+{
+    &field[..N]
+}
+
 /// A text, as the whole field that it is.
 #[tactic(auto, using(crate::proofs::Fields::text_bytes, crate::proofs::Fields::said_fits, crate::proofs::Fields::printable_said))]
 pub fn put_text<const N: usize>(out: &mut [u8], at: usize, text: &Text<'_, N>)
@@ -43,24 +51,26 @@ pub fn put_text<const N: usize>(out: &mut [u8], at: usize, text: &Text<'_, N>)
     ensures wrote { out.new ≡ over out.old at (field_bytes (field.Always at (form.Text N)) (words (says text.now))) }
     ensures holds { HoldsForm (form.Text N) (words (says text.now)) }
 {
-    put(out, at, text.field);
+    put(out, at, all::<N>(text.field));
 }
 
 /// A text that is not empty, as the whole field that it is.
 #[tactic(auto, using(crate::proofs::Fields::name_bytes, crate::proofs::Fields::said_fits, crate::proofs::Fields::printable_said, texts::proofs::Kept::named_says))]
 pub fn put_name<const N: usize>(out: &mut [u8], at: usize, name: &Name<'_, N>)
     requires { at + N ≤ length out.old }
-    ensures wrote { out.new ≡ over out.old at (field_bytes (field.Always at (form.Name N)) (words (says name.now.text))) }
+    ensures wrote { out.new ≡ over out.old at
+        (field_bytes (field.Always at (form.Name N)) (words (says name.now.text))) }
     ensures holds { HoldsForm (form.Name N) (words (says name.now.text)) }
 {
-    put(out, at, name.text.field);
+    put(out, at, all::<N>(name.text.field));
 }
 
 /// The identifier of an order, or nulls.
 #[tactic(auto, unfolding(crate::specs::Writing::field_bytes))]
 pub fn put_order(out: &mut [u8], at: usize, id: &Option<OrderId>)
     requires { at + 12 ≤ length out.old }
-    ensures wrote { out.new ≡ over out.old at (field_bytes (field.Always at form.Order) (order (option_map (λ i. i.number) id.now))) }
+    ensures wrote { out.new ≡ over out.old at
+        (field_bytes (field.Always at form.Order) (order (option_map (λ i. i.number) id.now))) }
     ensures holds { HoldsForm form.Order (order (option_map (λ i. i.number) id.now)) }
 {
     match id {
@@ -86,7 +96,8 @@ pub fn put_sequence(out: &mut [u8], at: usize, last: &LastSequence)
 #[tactic(auto, unfolding(crate::specs::Writing::field_bytes, crate::specs::Layout::taken))]
 pub fn put_code<C: Code>(out: &mut [u8], at: usize, value: &C)
     requires { at + 1 ≤ length out.old }
-    ensures wrote { out.new ≡ over out.old at (field_bytes (field.Always at (form.Code C.list)) (figure (C.coded value.now))) }
+    ensures wrote { out.new ≡ over out.old at
+        (field_bytes (field.Always at (form.Code C.list)) (figure (C.coded value.now))) }
     ensures holds { HoldsForm (form.Code C.list) (figure (C.coded value.now)) }
 {
     put(out, at, &[value.byte()]);
@@ -151,7 +162,8 @@ pub fn put_price(out: &mut [u8], at: usize, amount: &Price)
 #[tactic(auto, using(crate::proofs::Overs::over_over), unfolding(crate::specs::Writing::field_bytes))]
 pub fn put_time(out: &mut [u8], at: usize, time: &Time)
     requires { at + 8 ≤ length out.old }
-    ensures wrote { out.new ≡ over out.old at (field_bytes (field.Always at form.Time) (clock time.now.seconds time.now.microseconds)) }
+    ensures wrote { out.new ≡ over out.old at
+        (field_bytes (field.Always at form.Time) (clock time.now.seconds time.now.microseconds)) }
     ensures holds { HoldsForm form.Time (clock time.now.seconds time.now.microseconds) }
 {
     put(out, at, &time.seconds.to_le_bytes());

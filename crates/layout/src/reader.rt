@@ -116,7 +116,10 @@ impl<'a> Reader<'a> {
     #[tactic(auto, using(crate::proofs::Parts::is_text_rest))]
     pub(crate) fn text_end(&self, at: usize, width: usize) -> Option<usize>
         requires { at + width ≤ length self.now.src.now }
-        ensures { MatchOption result (is_text (part at width self.now.src.now) ≡ false) (λ n. (is_text (part at width self.now.src.now) ≡ true) × (n ≡ prefix_len printable (part at width self.now.src.now))) }
+        ensures { let field = part at width self.now.src.now in
+            MatchOption result
+            (is_text field ≡ false)
+            (λ n. (is_text field ≡ true) × (n ≡ prefix_len printable field)) }
     {
         let field = self.part(at, width);
         let end = text_end(field);

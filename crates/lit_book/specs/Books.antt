@@ -8,7 +8,8 @@ use Rattle.lit_book.specs.declared.book.LitBook.{LitBook}
 use Rattle.lit_book.specs.declared.book.TheConstants.{CAPACITY}
 use Rattle.lit_book.specs.declared.order.Order.{Order}
 use Rattle.lit_book.specs.Lists.{order_held, order_number, orders_of}
-use Rattle.lit_book.specs.Rules.{Lit}
+use Rattle.matching.specs.declared.event.Event.{Event}
+use Rattle.lit_book.specs.Rules.{Lit, next}
 
 -- all its open orders
 abbrev pub table : LitBook → List Order
@@ -23,6 +24,10 @@ lit_up os = record { orders = os; capacity = CAPACITY; dark_midpoint = false; in
 
 abbrev pub lit_meaning : LitBook → Meaning
 lit_meaning b = lit_up (orders_of (table b))
+
+-- the event that comes next, by the rules of the book
+abbrev pub lit_next : LitBook → Event
+lit_next b = (next (lit b)).0
 
 -- no more orders are open than it takes
 pub lit_bounded : (b : LitBook) → len (lit_meaning b).orders ≤ (lit_meaning b).capacity

@@ -39,26 +39,31 @@ NoBetter s o x = alike o x ≡ true → prefers s (price x) (price o) ≡ false
 abbrev pub before : ℕ → List Order → List Order
 before n os = take_while (λ o. not (o.number == n)) os
 
--- those at rest when the waiting order of the number n trades: those at rest before the call, and behind them those that
--- waited before it and came to rest in this very call
+-- those at rest when the waiting order of the number n trades: those at rest before the call, and behind them
+-- those that waited before it and came to rest in this very call
 abbrev pub at_rest_for : ℕ → Lit → List Order
 at_rest_for n b = b.resting ++ before n b.waiting
 
--- a trades with the order of the number p among those at rest: each before it is priced worse, and none at all better
+-- a trades with the order of the number p among those at rest: each before it is priced worse, and none at all
+-- better
 abbrev pub FirstServed : Order → ℕ → List Order → Type 0
-FirstServed a p os = MatchOption (order_in os p) ⊥ (λ o. All (Worse a.side o) (before p os) × All (NoBetter a.side o) os)
+FirstServed a p os =
+    MatchOption (order_in os p) ⊥ (λ o. All (Worse a.side o) (before p os) × All (NoBetter a.side o) os)
 
 abbrev pub Served : Lit → Event → Type 0
 Served b Nothing = Unit {0}
 Served b (Expired n) = Unit {0}
-Served b (Trade (Some p) (Some n) q z) = MatchOption (order_under b n) ⊥ (λ a. FirstServed a p (at_rest_for n b))
+Served b (Trade (Some p) (Some n) q z) =
+    MatchOption (order_under b n) ⊥ (λ a. FirstServed a p (at_rest_for n b))
 Served b (Trade (Some p) None q z) = ⊥
 Served b (Trade None n q z) = ⊥
 
 -- ---- no two orders at rest cross, and with no event nothing waits
 
 abbrev pub Uncrossed : List Order → Type 0
-Uncrossed os = (i j : ℕ) (d : Order) → i < length os → j < length os → crosses (slice_index_or os i d) (slice_index_or os j d) ≡ false
+Uncrossed os =
+    (i j : ℕ) (d : Order) → i < length os → j < length os
+    → crosses (slice_index_or os i d) (slice_index_or os j d) ≡ false
 
 abbrev pub Idle : Event → Lit → Type 0
 Idle Nothing b = b.waiting ≡ []
@@ -85,11 +90,21 @@ abbrev pub at_price : ℕ → Price
 at_price p = record { raw = pos p }
 
 abbrev pub day_order : ℕ → Side → ℕ → ℕ → Order
-day_order n s p q = record { number = n; instrument = 0; side = s; pricing = Limit (at_price p); time_in_force = Day; quantity = q }
+day_order n s p q = record {
+  number = n;
+  instrument = 0;
+  side = s;
+  pricing = Limit (at_price p);
+  time_in_force = Day;
+  quantity = q;
+}
 
 -- sells of 50 at 101 and 50 at 100, then a buy of 80 at 101, trade 50 at 100 and 30 at 101
 abbrev pub example : Lit
-example = record { resting = []; waiting = day_order 1 Sell 101 50 ∷ day_order 2 Sell 100 50 ∷ day_order 3 Buy 101 80 ∷ [] }
+example = record {
+  resting = [];
+  waiting = day_order 1 Sell 101 50 ∷ day_order 2 Sell 100 50 ∷ day_order 3 Buy 101 80 ∷ [];
+}
 
 abbrev pub Worked : Type 0
 Worked =
@@ -99,7 +114,10 @@ Worked =
 
 -- of two sells at one price, a trade with the second to rest is against the law
 abbrev pub equals : Lit
-equals = record { resting = day_order 1 Sell 100 50 ∷ day_order 2 Sell 100 50 ∷ []; waiting = day_order 3 Buy 100 50 ∷ [] }
+equals = record {
+  resting = day_order 1 Sell 100 50 ∷ day_order 2 Sell 100 50 ∷ [];
+  waiting = day_order 3 Buy 100 50 ∷ [];
+}
 
 abbrev pub LastRefused : Type 0
 LastRefused = Served equals (Trade (Some 2) (Some 3) 50 (at_price 100)) → ⊥

@@ -57,10 +57,11 @@ abbrev pub trade_of : Order → Order → Event
 trade_of a o = Trade (Some o.number) (Some a.number) (size_of a o) (price o)
 
 abbrev pub traded : Lit → Order → Order → Lit
-traded b a o = altered (altered b o.number (left_of (size_of a o) o.quantity)) a.number (left_of (size_of a o) a.quantity)
+traded b a o =
+    altered (altered b o.number (left_of (size_of a o) o.quantity)) a.number (left_of (size_of a o) a.quantity)
 
--- what becomes of the oldest waiting order a, where o is the best for it: it trades, or comes to rest so that later is
--- what comes, or expires
+-- what becomes of the oldest waiting order a, where o is the best for it: it trades, or comes to rest so that
+-- later is what comes, or expires
 abbrev pub outcome : Lit → Order → Option Order → Event × Lit → Event × Lit
 outcome b a (Some o) later = (trade_of a o, traded b a o)
 outcome b a None later = if rests a then later else (Expired a.number, altered b a.number None)
@@ -68,7 +69,8 @@ outcome b a None later = if rests a then later else (Expired a.number, altered b
 -- the next event, and the book after it
 abbrev pub next_of : List Order → List Order → Event × Lit
 next_of rs [] = (Nothing, record { resting = rs; waiting = [] })
-next_of rs (a ∷ ws) = outcome (record { resting = rs; waiting = a ∷ ws }) a (best a rs) (next_of (rs ++ a ∷ []) ws)
+next_of rs (a ∷ ws) =
+    outcome (record { resting = rs; waiting = a ∷ ws }) a (best a rs) (next_of (rs ++ a ∷ []) ws)
 
 abbrev pub next : Lit → Event × Lit
 next b = next_of b.resting b.waiting

@@ -71,7 +71,8 @@ abbrev pub cancel_refusal : Meaning → ℕ → Option Refusal
 cancel_refusal m n = if is_some (get m.orders n) then None else Some NotOpen
 
 abbrev pub amend_refusal : Meaning → ℕ → ℕ → Option Refusal
-amend_refusal m n q = if is_some (get m.orders n) then (if q == 0 then Some NoQuantity else None) else Some NotOpen
+amend_refusal m n q =
+    if is_some (get m.orders n) then (if q == 0 then Some NoQuantity else None) else Some NotOpen
 
 -- ---- events
 
@@ -81,7 +82,8 @@ Parties os q None None = ⊥
 Parties os q (Some p) None = q ≤ open_quantity os p
 Parties os q None (Some a) = q ≤ open_quantity os a
 Parties os q (Some p) (Some a) =
-    (q ≤ open_quantity os p) × (q ≤ open_quantity os a) × (p ≢ a) × (instrument_of (get os p) ≡ instrument_of (get os a))
+    (q ≤ open_quantity os p) × (q ≤ open_quantity os a) × (p ≢ a)
+    × (instrument_of (get os p) ≡ instrument_of (get os a))
 
 -- the events that may come
 abbrev pub Allowed : Orders → Event → Type 0
@@ -102,3 +104,9 @@ abbrev pub happened : Meaning → Event → Meaning
 happened m Nothing = m
 happened m (Expired n) = closed m n
 happened m (Trade p a q price) = filled (filled m q p) q a
+
+-- after no event there is none, until the next call
+abbrev pub Quiet : Event → Event → Type 0
+Quiet Nothing e = e ≡ Nothing
+Quiet (Expired n) e = Unit {0}
+Quiet (Trade p a q price) e = Unit {0}

@@ -30,10 +30,14 @@ fits os l = if l.quantity == 0 then false else nat_le l.quantity (open_quantity 
 abbrev pub trade : Line → Event
 trade l = Trade (Some l.number) None l.quantity l.price
 
--- the event that comes, and the lines after it: the first line that fits is played, those before it are passed over
+-- the event that comes, and the lines after it: the first line that fits is played, those before it are passed
+-- over
 abbrev pub played : Orders → List Line → Event × List Line
 played os [] = (Nothing, [])
 played os (l ∷ ls) = if fits os l then (trade l, ls) else played os ls
+
+abbrev pub tape_next : Tape → Event
+tape_next t = (played (tape_meaning t).orders (ahead t)).0
 
 -- what the search for the next line finds: nothing to play, or a line and the place of its order
 abbrev pub NextLine : Orders → List Row → Event → Option (ℕ × Line) → Type 0

@@ -218,7 +218,8 @@ fn execution_at(r: &Reader<'_>) -> Execution
 fn put_reject_code(out: &mut [u8], at: usize, execution: &Execution)
     requires { at + 4 ≤ length out.old }
     ensures wrote { out.new ≡ over out.old at (field_bytes (reject_field at) (execution_reject execution.now)) }
-    ensures holds { Holds (λ n. exec_type_code (kind_of execution.now)) (reject_field at) (execution_reject execution.now) }
+    ensures holds { Holds (λ n. exec_type_code (kind_of execution.now)) (reject_field at)
+        (execution_reject execution.now) }
 {
     match execution {
         Execution::Rejected(code) => put_i32(out, at, code),
@@ -231,7 +232,8 @@ fn put_reject_code(out: &mut [u8], at: usize, execution: &Execution)
 fn put_liquidity(out: &mut [u8], at: usize, execution: &Execution)
     requires { at + 1 ≤ length out.old }
     ensures wrote { out.new ≡ over out.old at (field_bytes (liquidity_field at) (execution_liquidity execution.now)) }
-    ensures holds { Holds (λ n. exec_type_code (kind_of execution.now)) (liquidity_field at) (execution_liquidity execution.now) }
+    ensures holds { Holds (λ n. exec_type_code (kind_of execution.now)) (liquidity_field at)
+        (execution_liquidity execution.now) }
 {
     match execution {
         Execution::Trade(liquidity, _) | Execution::TradeCancel(liquidity) => put_code(
@@ -246,7 +248,8 @@ fn put_liquidity(out: &mut [u8], at: usize, execution: &Execution)
 fn put_trade_type(out: &mut [u8], at: usize, execution: &Execution)
     requires { at + 1 ≤ length out.old }
     ensures wrote { out.new ≡ over out.old at (field_bytes (trade_field at) (execution_trade execution.now)) }
-    ensures holds { Holds (λ n. exec_type_code (kind_of execution.now)) (trade_field at) (execution_trade execution.now) }
+    ensures holds { Holds (λ n. exec_type_code (kind_of execution.now)) (trade_field at)
+        (execution_trade execution.now) }
 {
     match execution {
         Execution::Trade(_, trade_type) => put_code(out, at, trade_type),

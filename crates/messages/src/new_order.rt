@@ -187,7 +187,8 @@ fn pricing_at(r: &Reader<'_>) -> Pricing
 fn put_limit(out: &mut [u8], at: usize, pricing: &Pricing)
     requires { at + 8 ≤ length out.old }
     ensures wrote { out.new ≡ over out.old at (field_bytes (limit_field at) (pricing_price pricing.now)) }
-    ensures holds { Holds (λ n. order_type_code (order_type_of pricing.now)) (limit_field at) (pricing_price pricing.now) }
+    ensures holds { Holds (λ n. order_type_code (order_type_of pricing.now)) (limit_field at)
+        (pricing_price pricing.now) }
 {
     match pricing {
         Pricing::Market => put_blank(out, at, 8),

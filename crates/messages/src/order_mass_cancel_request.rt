@@ -156,7 +156,8 @@ impl<'a> Scope<'a> {
     fn put_symbol(&self, out: &mut [u8], at: usize)
         requires { at + 6 ≤ length out.old }
         ensures wrote { out.new ≡ over out.old at (field_bytes (symbol_field at) (scope_symbol self.now)) }
-        ensures holds { Holds (λ n. mass_cancel_type_code (scope_kind self.now)) (symbol_field at) (scope_symbol self.now) }
+        ensures holds { Holds (λ n. mass_cancel_type_code (scope_kind self.now)) (symbol_field at)
+            (scope_symbol self.now) }
     {
         match self {
             Scope::FirmInstrument(symbol, _) | Scope::CompIdInstrument(symbol, _) => put_text(
@@ -171,7 +172,8 @@ impl<'a> Scope<'a> {
     fn put_segment(&self, out: &mut [u8], at: usize)
         requires { at + 4 ≤ length out.old }
         ensures wrote { out.new ≡ over out.old at (field_bytes (segment_field at) (scope_segment self.now)) }
-        ensures holds { Holds (λ n. mass_cancel_type_code (scope_kind self.now)) (segment_field at) (scope_segment self.now) }
+        ensures holds { Holds (λ n. mass_cancel_type_code (scope_kind self.now)) (segment_field at)
+            (scope_segment self.now) }
     {
         match self {
             Scope::FirmSegment(segment) | Scope::CompIdSegment(segment) => put_text(

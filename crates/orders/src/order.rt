@@ -109,7 +109,10 @@ impl Order {
     /// The order with another quantity, price and client order id.
     pub fn replace(self, ask: Ask) -> Result<Order, ReplaceRefusal>
         ensures answer { Replaces (replace_fault ask.quantity self) (replaced ask self) result }
-        ensures figures { IfOk result (λ r. (r.ordered ≡ ask.quantity) × (r.leaves + self.executed ≡ ask.quantity) × (r.executed ≡ self.executed) × (r.withdrawn ≡ 0)) }
+        ensures figures { IfOk result (λ r. (r.ordered ≡ ask.quantity)
+            × (r.leaves + self.executed ≡ ask.quantity)
+            × (r.executed ≡ self.executed)
+            × (r.withdrawn ≡ 0)) }
     {
         let row = self.row;
         if row.leaves == 0 {
@@ -135,7 +138,10 @@ impl Order {
     /// The order cancelled or expired, what was open withdrawn; none where nothing is open.
     pub fn withdraw(self, ending: Ending) -> Option<Order>
         ensures answer { Makes (nat_lt 0 self.leaves) (ended ending self) result }
-        ensures figures { IfSome result (λ r. (r.leaves ≡ 0) × (r.withdrawn ≡ self.leaves) × (r.ordered ≡ self.ordered) × (r.executed ≡ self.executed)) }
+        ensures figures { IfSome result (λ r. (r.leaves ≡ 0)
+            × (r.withdrawn ≡ self.leaves)
+            × (r.ordered ≡ self.ordered)
+            × (r.executed ≡ self.executed)) }
     {
         let row = self.row;
         if row.leaves == 0 {
@@ -171,7 +177,10 @@ impl Order {
     pub fn undo(self, quantity: u32) -> Option<Order>
         ensures answer { Makes (undoable quantity self) (undone quantity self) result }
         ensures bound { IfSome result (λ _. quantity ≤ SHARES) }
-        ensures figures { IfSome result (λ r. (r.leaves ≡ self.leaves) × (r.withdrawn ≡ self.withdrawn) × (r.ordered + quantity ≡ self.ordered) × (r.executed + quantity ≡ self.executed)) }
+        ensures figures { IfSome result (λ r. (r.leaves ≡ self.leaves)
+            × (r.withdrawn ≡ self.withdrawn)
+            × (r.ordered + quantity ≡ self.ordered)
+            × (r.executed + quantity ≡ self.executed)) }
     {
         let row = self.row;
         if quantity == 0 || quantity > row.executed {

@@ -36,7 +36,11 @@ impl<T: Copy + Owned> Model for Series<T> {
 
     ghost view = { λ s. s.items.items };
 
-    ghost invariant = { λ s. (REPORTS ≤ vec_capacity s.items) × (REPORTS ≤ vec_capacity s.marks) × (vec_len s.items ≤ REPORTS) × (vec_len s.marks ≡ vec_len s.items) × (s.marks.items ≡ map (λ x. mark (T.owner_of x)) s.items.items) };
+    ghost invariant = { λ s. (REPORTS ≤ vec_capacity s.items)
+        × (REPORTS ≤ vec_capacity s.marks)
+        × (vec_len s.items ≤ REPORTS)
+        × (vec_len s.marks ≡ vec_len s.items)
+        × (s.marks.items ≡ map (λ x. mark (T.owner_of x)) s.items.items) };
 }
 
 // The byte of an owner: those from 255 on share one.

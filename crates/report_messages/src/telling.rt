@@ -75,6 +75,13 @@ fn no_counterparty() -> FixedText<11>
     FixedText::empty()
 }
 
+// The shares that are open after what is told.
+fn open_shares(e: &ExecutionReport) -> &i32
+    ensures { result.now ≡ e.now.leaves }
+{
+    &e.leaves
+}
+
 fn order_of(report: &Report) -> Option<OrderId>
     ensures { result ≡ order_of report.now }
 {
@@ -100,7 +107,9 @@ impl Telling {
 
     /// A report under its number in a partition; none where the number does not fit its field.
     pub fn new(partition: Partition, number: u32, report: Report) -> Option<Telling>
-        ensures { MatchOption result (NUMBERS ≤ number) (λ t. (number < NUMBERS) × (t.partition ≡ partition) × (t.number ≡ number) × (t.report ≡ report)) }
+        ensures { MatchOption result
+            (NUMBERS ≤ number)
+            (λ t. (number < NUMBERS) × (t.partition ≡ partition) × (t.number ≡ number) × (t.report ≡ report)) }
     {
         if number >= NUMBERS {
             return None;
@@ -133,7 +142,7 @@ impl Telling {
             status: e.status,
             executed_price: e.price,
             executed_quantity: e.quantity,
-            leaves_quantity: e.leaves,
+            leaves_quantity: *open_shares(e),
             display_quantity: e.display,
             symbol: e.symbol.as_text(),
             side: e.side,
@@ -164,7 +173,8 @@ impl Telling {
 
     fn mass_message<'a>(&'a self, r: &'a MassCancelReport) -> OrderMassCancelReport<'a>
         ensures back { mass_in result ≡ r.now }
-        ensures contents { order_mass_cancel_report_contents result ≡ mass_told self.now.partition self.now.number r.now }
+        ensures contents { order_mass_cancel_report_contents result
+            ≡ mass_told self.now.partition self.now.number r.now }
     {
         OrderMassCancelReport {
             partition: self.partition,

@@ -11,7 +11,8 @@ pub record Laws (p : Partition) (o : ℕ) (l : List Entry) : Type 0 where
   -- it starts with no order
   pub start : tally_to p o l 0 ≡ nothing_known
   -- one report further
-  pub further : (n : ℕ) (e : Entry) → under l (n + 1) ≡ Some e → tally_to p o l (n + 1) ≡ tally_one p o (tally_to p o l n) e
+  pub further : (n : ℕ) (e : Entry) → under l (n + 1) ≡ Some e
+      → tally_to p o l (n + 1) ≡ tally_one p o (tally_to p o l n) e
   -- the owner's next report, with others passed over
   pub next : (m n : ℕ) (e : Entry) → m < n → ((k : ℕ) → m < k → k < n → is_of o (under l k) ≡ false)
       → under l n ≡ Some e → e.owner ≡ o

@@ -7,6 +7,12 @@ use Rattle.reports.specs.declared.standing.Told.{Told}
 
 abbrev pub told_of : Report → Option Told
 told_of (Execution e) =
-    Some (record { order = e.order; kind = kind_of e.execution; status = e.status; quantity = e.quantity; leaves = e.leaves })
+    Some (record {
+      order = e.order;
+      kind = kind_of e.execution;
+      status = e.status;
+      quantity = e.quantity;
+      leaves = e.leaves;
+    })
 told_of (CancelReject r) = None
 told_of (MassCancel r) = None

@@ -1,4 +1,5 @@
-// The reports that a store keeps. Partition and sequence number are the store's to give, and the Execution ID follows from them.
+// The reports that a store keeps. Partition and sequence number are the store's to give, and the Execution ID follows
+// from them.
 ghost use Rattle.std.specs.Prelude.{◌≡◌, ℕ};
 
 use crate::standing::Told;
@@ -10,8 +11,8 @@ use texts::fixed::FixedText;
 use texts::identifiers::{ExecutionId, OrderId};
 use texts::values::{Price, Time};
 
-/// What an Execution Report tells: `reference` names the report of the fill that is undone, `trade` is the TradeMatchID,
-/// `leaves` are the shares open.
+/// What an Execution Report tells: `reference` names the report of the fill that is undone, `trade` is the
+/// TradeMatchID, `leaves` are the shares open.
 #[derive(Clone, Copy)]
 pub struct ExecutionReport {
     pub client: FixedText<20>,

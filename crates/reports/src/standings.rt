@@ -59,7 +59,9 @@ impl Model for Standings {
 
     ghost view = { λ s. s.rows.items };
 
-    ghost invariant = { λ s. (ORDERS ≤ vec_capacity s.rows) × (vec_len s.rows ≤ ORDERS) × (each_once s.rows.items ≡ true) };
+    ghost invariant = { λ s. (ORDERS ≤ vec_capacity s.rows)
+        × (vec_len s.rows ≤ ORDERS)
+        × (each_once s.rows.items ≡ true) };
 }
 
 // The row at an index.
@@ -128,7 +130,10 @@ impl Standings {
     #[tactic(auto, using(crate::proofs::Rows::folds_known, crate::proofs::Rows::unfit_known, crate::proofs::Rows::once_set))]
     fn fold_known(&mut self, number: u64, index: usize, told: Told) -> Result<(), FoldRefusal>
         requires { position (λ k. k.number == number) self.old ≡ Some index }
-        ensures { (p : Partition) → Folds (fold_order p told (known self.old) number (get (known self.old) number)) (known self.old) result (known self.new) }
+        ensures { (p : Partition) →
+            Folds
+            (fold_order p told (known self.old) number (get (known self.old) number))
+            (known self.old) result (known self.new) }
     {
         let was = self.rows[index].standing;
         let standing = was.changed(told).ok_or(FoldRefusal::Unfit)?;
@@ -147,7 +152,9 @@ impl Standings {
     #[tactic(auto, using(crate::proofs::Rows::folds_new, crate::proofs::Rows::unfit_new, crate::proofs::Rows::full_new))]
     fn fold_new(&mut self, partition: Partition, number: u64, told: Told) -> Result<(), FoldRefusal>
         requires { position (λ k. k.number == number) self.old ≡ None }
-        ensures { Folds (fold_order partition told (known self.old) number (get (known self.old) number)) (known self.old) result (known self.new) }
+        ensures { Folds
+            (fold_order partition told (known self.old) number (get (known self.old) number))
+            (known self.old) result (known self.new) }
     {
         let standing = Standing::added(partition, told).ok_or(FoldRefusal::Unfit)?;
         if self.rows.len() >= ORDERS {

@@ -1,5 +1,4 @@
 pub mod Owned
 pub mod Whole
 pub mod Marks
-pub mod Names
 pub mod Sends

@@ -2,5 +2,3 @@ pub mod Downloads
 pub mod Sessions
 pub mod Sending
 pub mod Laws
-pub mod Names
-pub mod Configs

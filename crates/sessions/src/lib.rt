@@ -1,8 +1,7 @@
 // What a gateway keeps of one line: on which channels it is logged on, how far reports were sent, and what it
-// downloads; and what a gateway is started with.
+// downloads.
 #![tactic(auto)]
 
-pub mod config;
 pub mod download;
 pub mod laws;
 pub mod session;

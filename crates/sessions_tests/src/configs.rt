@@ -1,5 +1,7 @@
 // A configuration, and one that repeats a symbol.
-use sessions::config::{Config, Instrument, Participant, StartRefusal};
+use configuration::config::{Config, StartRefusal};
+use configuration::instrument::Instrument;
+use configuration::participant::Participant;
 use std::test::Fail;
 
 #[test]

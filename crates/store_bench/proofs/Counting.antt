@@ -1,8 +1,9 @@
 -- Appending counts one, and the next number leaves out no report. Assumes nothing.
-use Rattle.std.proofs.Common.{◌≡◌, ℕ, zero, suc, ◌+◌, ◌<◌, ◌≤◌, Bool, true, false, cond, eqb, List, [], ◌∷◌, length, map, drop, is_some, ◌%◌, Some, None, Option, sym, refl, ap, ◌∙◌, subst, arith}
+use Rattle.std.proofs.Common.{◌≡◌, ℕ, zero, suc, ◌+◌, ◌<◌, ◌≤◌, Bool, true, false, cond, eqb, List, [], ◌∷◌, length, map, take, drop, is_some, ◌%◌, Some, None, Option, sym, refl, ap, ◌∙◌, subst, arith}
 use Rattle.std.specs.Option.{option_map}
-use Rattle.std.specs.List.{position_from}
-use Rattle.std.proofs.lemmas.List.Sums.{sum_by-cons}
+use Rattle.std.specs.List.{position_from, slice_get}
+use Rattle.std.proofs.lemmas.List.Sums.{sum_by-cons, sum_by_more}
+use Rattle.std.proofs.lemmas.Option.{slice_get_within, get_or_from_slice_get}
 use Rattle.std.proofs.lemmas.List.{map_push}
 use Rattle.codes.specs.declared.session.Partition.{Partition}
 use Rattle.codes.specs.declared.session.Partition.TheVariants.{One, Two, Three}
@@ -13,7 +14,7 @@ use Rattle.partitions.specs.declared.per_partition.PerPartition.{PerPartition}
 use Rattle.partitions.specs.Series.{grown}
 use Rattle.store.specs.Kept.{Kept, next_after}
 use Rattle.store.proofs.Nexts.{next-shift}
-use Rattle.store_bench.specs.Counts.{turn, owners, filled, owned, owned_in, owned_below, Counts}
+use Rattle.store_bench.specs.Counts.{turn, owners, filled, seconds_of, seconds_in, owned, owned_in, owned_below, Counts}
 
 owned-cons : (o : ℕ) (x : Entry) (l : List Entry) (b : Bool) → b ≡ eqb x.owner o → owned o (x ∷ l) ≡ cond b 1 0 + owned o l
 owned-cons o x l b e = sum_by-cons (λ (y : Entry). cond (eqb y.owner o) 1 0) x l ∙ ap (λ (t : Bool). cond t 1 0 + owned o l) (sym e)
@@ -40,8 +41,20 @@ counts-in (x ∷ l) o (suc above) =
     let same : suc above + 1 ≡ above + 1 + 1 = omega arith in
     subst (λ r. Counts (x ∷ l) o (suc above) r) (sym (ap (λ j. position_from (λ (e : Entry). eqb e.owner o) j (drop above l)) same ∙ next-shift o (above + 1) (drop above l))) (lift x l o above (next-in l o above) (counts-in l o above))
 
-pub next-counts : (l : List Entry) (o above : ℕ) → Counts l o above (next_after l o above)
-next-counts l o above = subst (Counts l o above) (sym (next-from (λ (e : Entry). e.owner) l o above)) (counts-in l o above)
+pub next_counts : (l : List Entry) (o above : ℕ) (r : Option ℕ) → r ≡ next_after l o above → Counts l o above r
+next_counts l o above r e = subst (Counts l o above) (sym (e ∙ next-from (λ (x : Entry). x.owner) l o above)) (counts-in l o above)
+
+-- one report more is read
+pub seconds_none : (l : List Entry) → 0 ≡ seconds_in (take 0 l)
+seconds_none l = refl
+
+pub seconds_more : (l : List Entry) (n s : ℕ) (e : Entry) → Some e ≡ under l (n + 1) → s ≡ seconds_in (take n l) → s + seconds_of e.report ≡ seconds_in (take (n + 1) l)
+seconds_more l n s e u h =
+    let same : n + 1 ≡ suc n = omega arith in
+    let there : slice_get l n ≡ Some e = ap (under l) (sym same) ∙ sym u in
+    let within = slice_get_within l n e there in
+    let taken = sum_by_more (λ (x : Entry). seconds_of x.report) l n e within in
+    ap (λ t. t + seconds_of e.report) h ∙ ap (λ x. seconds_in (take n l) + seconds_of x.report) (sym (get_or_from_slice_get l n e e there)) ∙ sym taken
 
 -- a number within the list has an entry
 pub entry-there : (l : List Entry) (n : ℕ) → 0 < n → n ≤ length l → under l n ≡ None → ⊥

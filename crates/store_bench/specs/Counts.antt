@@ -1,10 +1,12 @@
 -- A made-up day's reports by their owners, and how many are an owner's. Assumes nothing.
-use Rattle.std.specs.Prelude.{◌≡◌, ℕ, zero, suc, ◌+◌, ◌%◌, ◌<◌, ◌≤◌, List, length, drop, Some, None, Option, ◌==◌, count_by}
+use Rattle.std.specs.Prelude.{◌≡◌, ℕ, zero, suc, ◌+◌, ◌%◌, ◌<◌, ◌≤◌, List, length, drop, Some, None, Option, ◌==◌, count_by, sum_by}
 use Rattle.codes.specs.declared.session.Partition.{Partition}
 use Rattle.codes.specs.declared.session.Partition.TheVariants.{One, Two, Three}
 use Rattle.partitions.specs.declared.per_partition.PerPartition.{PerPartition}
 use Rattle.partitions.specs.Series.{grown, mapped}
 use Rattle.reports.specs.declared.report.Entry.{Entry}
+use Rattle.reports.specs.declared.report.Report.{Report}
+use Rattle.reports.specs.declared.report.Report.TheVariants.{Execution, CancelReject, MassCancel}
 use Rattle.store.specs.Kept.{Kept}
 
 -- the partitions in turn
@@ -21,6 +23,19 @@ owners k = mapped (λ e. e.owner) k
 unfoldable pub filled : ℕ → PerPartition (List ℕ) → PerPartition (List ℕ)
 filled zero os = os
 filled (suc i) os = grown (filled i os) (turn (i % 3)) (i % 8)
+
+-- the seconds on a report's clock
+abbrev pub seconds_of : Report → ℕ
+seconds_of (Execution e) = e.time.seconds
+seconds_of (CancelReject r) = r.time.seconds
+seconds_of (MassCancel r) = r.time.seconds
+
+-- on those of a list, and of all partitions, together
+abbrev pub seconds_in : List Entry → ℕ
+seconds_in l = sum_by (λ e. seconds_of e.report) l
+
+abbrev pub seconds_of_all : Kept → ℕ
+seconds_of_all k = seconds_in k.one + seconds_in k.two + seconds_in k.three
 
 -- how many reports of a list are an owner's
 abbrev pub owned : ℕ → List Entry → ℕ

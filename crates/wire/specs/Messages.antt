@@ -34,26 +34,58 @@ whole (message.Logout m) = record { kind = kind.Logout; contents = logout_conten
 whole (message.Heartbeat m) =
     record { kind = kind.Heartbeat; contents = heartbeat_contents m; places = heartbeat_places m }
 whole (message.MissedMessageRequest m) =
-    record { kind = kind.MissedMessageRequest; contents = missed_message_request_contents m; places = missed_message_request_places m }
+    record {
+      kind = kind.MissedMessageRequest;
+      contents = missed_message_request_contents m;
+      places = missed_message_request_places m;
+    }
 whole (message.MissedMessageRequestAck m) =
-    record { kind = kind.MissedMessageRequestAck; contents = missed_message_request_ack_contents m; places = missed_message_request_ack_places m }
+    record {
+      kind = kind.MissedMessageRequestAck;
+      contents = missed_message_request_ack_contents m;
+      places = missed_message_request_ack_places m;
+    }
 whole (message.MissedMessageReport m) =
-    record { kind = kind.MissedMessageReport; contents = missed_message_report_contents m; places = missed_message_report_places m }
+    record {
+      kind = kind.MissedMessageReport;
+      contents = missed_message_report_contents m;
+      places = missed_message_report_places m;
+    }
 whole (message.Reject m) = record { kind = kind.Reject; contents = reject_contents m; places = reject_places m }
 whole (message.NewOrder m) =
     record { kind = kind.NewOrder; contents = new_order_contents m; places = new_order_places m }
 whole (message.OrderCancelRequest m) =
-    record { kind = kind.OrderCancelRequest; contents = order_cancel_request_contents m; places = order_cancel_request_places m }
+    record {
+      kind = kind.OrderCancelRequest;
+      contents = order_cancel_request_contents m;
+      places = order_cancel_request_places m;
+    }
 whole (message.OrderCancelReplaceRequest m) =
-    record { kind = kind.OrderCancelReplaceRequest; contents = order_cancel_replace_request_contents m; places = order_cancel_replace_request_places m }
+    record {
+      kind = kind.OrderCancelReplaceRequest;
+      contents = order_cancel_replace_request_contents m;
+      places = order_cancel_replace_request_places m;
+    }
 whole (message.OrderMassCancelRequest m) =
-    record { kind = kind.OrderMassCancelRequest; contents = order_mass_cancel_request_contents m; places = order_mass_cancel_request_places m }
+    record {
+      kind = kind.OrderMassCancelRequest;
+      contents = order_mass_cancel_request_contents m;
+      places = order_mass_cancel_request_places m;
+    }
 whole (message.ExecutionReport m) =
     record { kind = kind.ExecutionReport; contents = execution_report_contents m; places = execution_report_places m }
 whole (message.OrderCancelReject m) =
-    record { kind = kind.OrderCancelReject; contents = order_cancel_reject_contents m; places = order_cancel_reject_places m }
+    record {
+      kind = kind.OrderCancelReject;
+      contents = order_cancel_reject_contents m;
+      places = order_cancel_reject_places m;
+    }
 whole (message.OrderMassCancelReport m) =
-    record { kind = kind.OrderMassCancelReport; contents = order_mass_cancel_report_contents m; places = order_mass_cancel_report_places m }
+    record {
+      kind = kind.OrderMassCancelReport;
+      contents = order_mass_cancel_report_contents m;
+      places = order_mass_cancel_report_places m;
+    }
 
 abbrev pub kind_of : Message → Kind
 kind_of m = (whole m).kind

@@ -8,7 +8,12 @@ use Rattle.wire.specs.declared.message.Message.{Message}
 use Rattle.wire.specs.declared.message.Message.TheVariants as message
 
 abbrev pub plain_text : {N : ℕ} → Text N → Text N
-plain_text t = record { field = record { ref_ptr = (0, 0); now = t.field.now }; offset = 0; wide = t.wide; text = t.text }
+plain_text t = record {
+  field = record { ref_ptr = (0, 0); now = t.field.now };
+  offset = 0;
+  wide = t.wide;
+  text = t.text;
+}
 
 abbrev pub plain_name : {N : ℕ} → Name N → Name N
 plain_name n = record { text = plain_text n.text; given = n.given }

@@ -66,7 +66,11 @@ execution_from b r l t = execution_as (value_of exec_type_code exec_types exec.U
 -- a report that bytes are said to hold that hold none
 abbrev pub nothing_told : Report
 nothing_told =
-    report.CancelReject (record { client = fitted 20 []; reason = pos 0; time = record { seconds = 0; microseconds = 0 } })
+    report.CancelReject (record {
+      client = fitted 20 [];
+      reason = pos 0;
+      time = record { seconds = 0; microseconds = 0 };
+    })
 
 -- the report that a message of a kind tells, by its contents
 abbrev pub told_from : Kind → List Content → Report

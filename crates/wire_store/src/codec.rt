@@ -1,9 +1,8 @@
 // A report as the bytes of its message, and back.
 ghost use Rattle.std.specs.Prelude.{◌≡◌, ◌≤◌, ◌<◌, length, take, is_some};
-ghost use Rattle.limits.specs.declared.TheConstants.{REPORTS};
 ghost use Rattle.wire_store.specs.Told.{coded, decoded, nothing_told};
 
-use byte_store::codec::Codec;
+use byte_store::codec::{Codec, Number};
 use codes::session::Partition;
 use report_messages::back::report_of;
 use report_messages::telling::Telling;
@@ -18,7 +17,6 @@ use wire::message::{read, write};
 pub struct WireCodec;
 
 // What bytes hold that are no report: a store has none.
-
 fn nothing_told() -> Report
     ensures { result ≡ nothing_told }
 {
@@ -43,14 +41,13 @@ fn report_in(bytes: &[u8]) -> Report
 }
 
 #[tactic(auto, using(crate::proofs::Back::whole, crate::proofs::Back::short))]
-fn write_report(partition: Partition, number: u32, report: Report, out: &mut [u8]) -> usize
-    requires room { 145 ≤ length out.old }
-    requires few { number ≤ REPORTS }
-    ensures bytes { take result out.new ≡ coded partition number report }
+fn write_report(partition: Partition, number: Number, report: Report, out: &mut [u8]) -> usize
+    requires { 145 ≤ length out.old }
+    ensures bytes { take result out.new ≡ coded partition number.value report }
     ensures short { result ≤ 145 }
-    ensures back { decoded (coded partition number report) ≡ report }
+    ensures back { decoded (coded partition number.value report) ≡ report }
 {
-    let telling = Telling::new(partition, number, report).unwrap();
+    let telling = Telling::new(partition, number.value, report).unwrap();
     write(&telling.message(), out).unwrap()
 }
 
@@ -59,7 +56,13 @@ impl Codec for WireCodec {
 
     ghost decoded = { decoded };
 
-    fn encode(&self, partition: Partition, number: u32, report: Report, out: &mut [u8]) -> usize {
+    fn encode(
+        &self,
+        partition: Partition,
+        number: Number,
+        report: Report,
+        out: &mut [u8],
+    ) -> usize {
         write_report(partition, number, report, out)
     }
 

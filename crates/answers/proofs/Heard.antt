@@ -1,0 +1,146 @@
+-- One message at the front of a buffer, and what a follower reads there. Assumes nothing.
+use Rattle.std.proofs.Common.{◌≡◌, ℕ, ℤ, ◌≤◌, List, ◌++◌, drop, slice_index_or, pos, Some, Option, refl, sym, ap, ◌∙◌, subst, arith}
+use Rattle.codes.specs.Session.{partition_code}
+use Rattle.codes.specs.declared.session.Partition.{Partition}
+use Rattle.codes.specs.declared.session.ReportResponse.{ReportResponse}
+use Rattle.codes.specs.contracts.session.PartitionCode.TheImpl.Laws.{one-law as partition_one}
+use Rattle.layout.specs.Layout.{Content, figure_of, int32_of}
+use Rattle.layout.specs.Layout.Content.{nothing}
+use Rattle.layout.specs.Writing.{header}
+use Rattle.wire.specs.declared.kinds.Channel.TheVariants.{Follower}
+use Rattle.wire.specs.declared.kinds.Kind.{Kind}
+use Rattle.wire.specs.declared.kinds.Kind.TheVariants as kind
+use Rattle.wire.specs.declared.message.Message.{Message}
+use Rattle.wire.specs.declared.message.Message.TheVariants as message
+use Rattle.wire.specs.Kinds.{letter_of, total_of, table_of, takes}
+use Rattle.wire.specs.Messages.{kind_of, contents_of, verdict, written, Holdable, GivenBack, Reads}
+use Rattle.wire.specs.Plain.{plain, plain_name, plain_scope}
+use Rattle.wire.proofs.Sound.{sound}
+use Rattle.wire.proofs.Trips.{trip}
+use Rattle.texts.specs.declared.text.Name.{Name}
+use Rattle.messages.specs.declared.order_mass_cancel_request.Scope.{Scope}
+use Rattle.messages.specs.declared.order_mass_cancel_request.Scope.TheVariants as scope
+use Rattle.reports.specs.declared.report.Report.{Report}
+use Rattle.reports.specs.declared.report.Report.TheVariants as report
+use Rattle.report_messages.specs.Back.{report_in}
+use Rattle.report_messages.specs.Telling.{told_as, kind_told}
+use Rattle.answers.specs.Bytes.{message_bytes, report_bytes, end_bytes}
+use Rattle.answers.specs.Sent.{Sent}
+use Rattle.answers.specs.Told.{Told, place_in, Reports, ReportTold, Ends, EndTold}
+
+-- no message is longer than a buffer for a reply
+total_short : (k : Kind) → total_of k ≤ 512
+total_short kind.Logon = omega arith
+total_short _ = omega arith
+
+pub short : (k : Kind) (n : ℕ) → n ≡ total_of k → n ≤ 512
+short k n e = let h = total_short k in omega (arith, e, h)
+
+pub sent : (m : Message) (n : ℕ) (before after : List ℕ) → Holdable m → n ≡ total_of (kind_of m) → after ≡ written m ++ drop n before → Sent (written m) before after n
+sent m n before after h e w =
+    let k = kind_of m in
+    let q = header (letter_of k) (total_of k) in
+    let t = trip (table_of k) (contents_of m) q (total_of k) refl (sound k).tiles (sound k).looks h in
+    let l = t.2 in
+    (omega (arith, l, e), short k n e, w)
+
+-- what was written is what a follower reads
+pub heard : (P : Message → Type 0) (bs : List ℕ) (m : Message) → ((a b : Message) → plain a ≡ plain b → P b → P a) → takes Follower (letter_of (kind_of m)) ≡ Some (kind_of m) → GivenBack m → P m → written m ≡ bs → Told P bs
+heard P bs m same t g h e =
+    let back = g Follower t in
+    record {
+      message = m;
+      form = e;
+      back = g;
+      holds = h;
+      taken = ap (verdict Follower) (sym e) ∙ back.0;
+      read =
+          λ b r.
+          let R : List ℕ → Type 0 = λ x. Reads Follower x b in
+          same b m (back.1 b (subst R (sym e) r)) h;
+    }
+
+-- where its texts are does not matter to what a message says
+report_plain : (m : Message) → report_in (plain m) ≡ report_in m
+report_plain (message.Logon m) = refl
+report_plain _ = refl
+
+place_plain : (m : Message) → place_in (plain m) ≡ place_in m
+place_plain (message.Logon m) = refl
+place_plain _ = refl
+
+kind_plain : (m : Message) → kind_of (plain m) ≡ kind_of m
+kind_plain (message.Logon m) = refl
+kind_plain _ = refl
+
+scope_plain : (c : Name 20) (s : Scope) → contents_of (message.OrderMassCancelRequest (record { client_order_id = plain_name c; scope = plain_scope s })) ≡ contents_of (message.OrderMassCancelRequest (record { client_order_id = c; scope = s }))
+scope_plain c (scope.FirmInstrument t b) = refl
+scope_plain c _ = refl
+
+contents_plain : (m : Message) → contents_of (plain m) ≡ contents_of m
+contents_plain (message.OrderMassCancelRequest m) = scope_plain m.client_order_id m.scope
+contents_plain _ = refl
+
+along : {X : Type 0} (f : Message → X) → ((m : Message) → f (plain m) ≡ f m) → (a b : Message) → plain a ≡ plain b → f a ≡ f b
+along f p a b e = sym (p a) ∙ ap f e ∙ p b
+
+reports_plain : (p : Partition) (n : ℕ) (r : Report) (a b : Message) → plain a ≡ plain b → Reports p n r b → Reports p n r a
+reports_plain p n r a b e h =
+    record {
+      report = along report_in report_plain a b e ∙ h.report;
+      place = along place_in place_plain a b e ∙ h.place;
+      kind = along kind_of kind_plain a b e ∙ h.kind;
+      contents = along contents_of contents_plain a b e ∙ h.contents;
+    }
+
+ends_to : (r : ReportResponse) (m : Message) → Ends r m → Ends r (plain m)
+ends_to r (message.MissedMessageReport m) h = h
+ends_to r m h = absurd h
+
+ends_from : (r : ReportResponse) (m : Message) → Ends r (plain m) → Ends r m
+ends_from r (message.MissedMessageReport m) h = h
+ends_from r m h = absurd h
+
+ends_plain : (r : ReportResponse) (a b : Message) → plain a ≡ plain b → Ends r b → Ends r a
+ends_plain r a b e h = ends_from r a (subst (Ends r) (sym e) (ends_to r b h))
+
+-- a message that says what a report's does stands where it does
+figure_at : (i : ℕ) {us vs : List Content} → us ≡ vs → figure_of (slice_index_or us i nothing) ≡ figure_of (slice_index_or vs i nothing)
+figure_at i e = ap (λ ws. figure_of (slice_index_or ws i nothing)) e
+
+int32_at : (i : ℕ) {us vs : List Content} → us ≡ vs → int32_of (slice_index_or us i nothing) ≡ int32_of (slice_index_or vs i nothing)
+int32_at i e = ap (λ ws. int32_of (slice_index_or ws i nothing)) e
+
+at_place : (q p : Partition) (z : ℤ) (n : ℕ) → partition_code q ≡ partition_code p → z ≡ pos n → ◌≡◌ {A = Option (Partition × ℤ)} (Some (q, z)) (Some (p, pos n))
+at_place q p z n a b = let f = partition_one q p a in cc
+
+follower_takes : (r : Report) → takes Follower (letter_of (kind_told r)) ≡ Some (kind_told r)
+follower_takes (report.Execution e) = refl
+follower_takes (report.CancelReject e) = refl
+follower_takes (report.MassCancel e) = refl
+
+placed : (p : Partition) (n : ℕ) (r : Report) (m : Message) → report_in m ≡ Some r → contents_of m ≡ told_as p n r → place_in m ≡ Some (p, pos n)
+placed p n (report.Execution e) (message.ExecutionReport m) h c = at_place m.partition p m.sequence n (figure_at 0 c) (int32_at 1 c)
+placed p n (report.CancelReject e) (message.ExecutionReport m) h c = cc
+placed p n (report.MassCancel e) (message.ExecutionReport m) h c = cc
+placed p n (report.Execution e) (message.OrderCancelReject m) h c = cc
+placed p n (report.CancelReject e) (message.OrderCancelReject m) h c = at_place m.partition p m.sequence n (figure_at 0 c) (int32_at 1 c)
+placed p n (report.MassCancel e) (message.OrderCancelReject m) h c = cc
+placed p n (report.Execution e) (message.OrderMassCancelReport m) h c = cc
+placed p n (report.CancelReject e) (message.OrderMassCancelReport m) h c = cc
+placed p n (report.MassCancel e) (message.OrderMassCancelReport m) h c = at_place m.partition p m.sequence n (figure_at 0 c) (int32_at 1 c)
+placed p n r m h c = cc
+
+pub report_told : (p : Partition) (n : ℕ) (r : Report) (m : Message) → report_in m ≡ Some r → kind_of m ≡ kind_told r → contents_of m ≡ told_as p n r → GivenBack m → ReportTold p n r
+report_told p n r m b k c g =
+    heard (Reports p n r) (report_bytes p n r) m (reports_plain p n r)
+    (subst (λ j. takes Follower (letter_of j) ≡ Some j) (sym k) (follower_takes r)) g
+    (record { report = b; place = placed p n r m b c; kind = k; contents = c })
+    (ap (λ j. message_bytes j (contents_of m)) k ∙ ap (message_bytes (kind_told r)) c)
+
+pub same_told : (p q : Partition) (n k : ℕ) (r s : Report) → ReportTold p n r → p ≡ q → n ≡ k → r ≡ s → ReportTold q k s
+same_told p q n k r s t a b c =
+    subst (ReportTold q k) c (subst (λ x. ReportTold q x r) b (subst (λ x. ReportTold x n r) a t))
+
+pub end_told : (r : ReportResponse) → GivenBack (message.MissedMessageReport (record { response = r })) → EndTold r
+end_told r g = heard (Ends r) (end_bytes r) (message.MissedMessageReport (record { response = r })) (ends_plain r) refl g refl refl

@@ -1,0 +1,48 @@
+-- The bytes of what a gateway answers and sends. Assumes nothing.
+use Rattle.std.specs.Prelude.{ℕ, List, [], ◌∷◌, ◌++◌, pos, Some, None, Option}
+use Rattle.codes.specs.Session.{ack_response_code, report_response_code}
+use Rattle.codes.specs.declared.session.Partition.{Partition}
+use Rattle.codes.specs.declared.session.ReportResponse.{ReportResponse}
+use Rattle.texts.specs.Bytes.{said}
+use Rattle.texts.specs.declared.fixed.FixedText.{FixedText}
+use Rattle.layout.specs.Layout.{Content}
+use Rattle.layout.specs.Layout.Content.{words, figure, int32}
+use Rattle.layout.specs.Writing.{header, encode}
+use Rattle.wire.specs.declared.kinds.Kind.{Kind}
+use Rattle.wire.specs.declared.kinds.Kind.TheVariants as kind
+use Rattle.wire.specs.Kinds.{letter_of, total_of, table_of}
+use Rattle.reports.specs.declared.report.Report.{Report}
+use Rattle.report_messages.specs.Telling.{told_as, kind_told}
+use Rattle.answers.specs.declared.answer.Answer.{Answer}
+use Rattle.answers.specs.declared.answer.Answer.TheVariants.{Silent, LogonReply, Ack, Reject}
+
+-- the message of a kind whose fields hold this
+abbrev pub message_bytes : Kind → List Content → List ℕ
+message_bytes k vs = header (letter_of k) (total_of k) ++ encode (table_of k) vs
+
+-- what a Client Order ID says, where there is one
+abbrev pub client_said : Option (FixedText 20) → List ℕ
+client_said None = []
+client_said (Some c) = said c.bytes
+
+-- a Logon Reply says of no day when the password expires, a Reject gives no words for its reason
+abbrev pub answer_bytes : Answer → List ℕ
+answer_bytes Silent = []
+answer_bytes (LogonReply code) = message_bytes kind.LogonReply (int32 code ∷ words [] ∷ [])
+answer_bytes (Ack r) = message_bytes kind.MissedMessageRequestAck (figure (ack_response_code r) ∷ [])
+answer_bytes (Reject r) =
+    message_bytes kind.Reject (
+    int32 (pos r.code)
+    ∷ words []
+    ∷ figure r.message_type
+    ∷ words (client_said r.client)
+    ∷ []
+    )
+
+-- a report under its number in a partition
+abbrev pub report_bytes : Partition → ℕ → Report → List ℕ
+report_bytes p n r = message_bytes (kind_told r) (told_as p n r)
+
+-- the end of a download
+abbrev pub end_bytes : ReportResponse → List ℕ
+end_bytes r = message_bytes kind.MissedMessageReport (figure (report_response_code r) ∷ [])

@@ -1,0 +1,62 @@
+-- What a follower reads from the bytes that a gateway sends it. Assumes nothing.
+use Rattle.std.specs.Prelude.{◌≡◌, ℕ, ℤ, List, [], pos, Some, None, Option}
+use Rattle.codes.specs.declared.session.Partition.{Partition}
+use Rattle.codes.specs.declared.session.ReportResponse.{ReportResponse}
+use Rattle.texts.specs.Says.{says}
+use Rattle.wire.specs.declared.kinds.Channel.TheVariants.{Follower}
+use Rattle.wire.specs.declared.message.Message.{Message}
+use Rattle.wire.specs.declared.message.Message.TheVariants as message
+use Rattle.wire.specs.Messages.{kind_of, contents_of, verdict, written, GivenBack, Reads}
+use Rattle.reports.specs.declared.report.Report.{Report}
+use Rattle.report_messages.specs.Back.{report_in}
+use Rattle.report_messages.specs.Telling.{told_as, kind_told}
+use Rattle.answers.specs.declared.answer.Answer.{Answer}
+use Rattle.answers.specs.declared.answer.Answer.TheVariants.{Silent, LogonReply, Ack, Reject}
+use Rattle.answers.specs.Bytes.{answer_bytes, client_said, report_bytes, end_bytes}
+
+-- the bytes are the one form of a message of which P holds, and from them a follower reads such a message and no other
+pub record Told (P : Message → Type 0) (bs : List ℕ) : Type 0 where
+  pub message : Message
+  pub form : written message ≡ bs
+  pub back : GivenBack message
+  pub holds : P message
+  pub taken : verdict Follower bs ≡ None
+  pub read : (m : Message) → Reads Follower bs m → P m
+
+-- the message of an answer
+abbrev pub Answers : Answer → Message → Type 0
+Answers (LogonReply code) (message.LogonReply m) = (m.reject_code ≡ code) × (says m.expiry_days ≡ [])
+Answers (Ack r) (message.MissedMessageRequestAck m) = m.response ≡ r
+Answers (Reject r) (message.Reject m) =
+    (m.code ≡ pos r.code) × (says m.reason ≡ []) × (m.message_type ≡ r.message_type)
+    × (says m.client_order_id ≡ client_said r.client)
+Answers a m = ⊥
+
+abbrev pub AnswerTold : Answer → Type 0
+AnswerTold Silent = Unit {0}
+AnswerTold a = Told (Answers a) (answer_bytes a)
+
+-- where a report's message says that it stands: its partition, and its number there
+abbrev pub place_in : Message → Option (Partition × ℤ)
+place_in (message.ExecutionReport m) = Some (m.partition, m.sequence)
+place_in (message.OrderCancelReject m) = Some (m.partition, m.sequence)
+place_in (message.OrderMassCancelReport m) = Some (m.partition, m.sequence)
+place_in m = None
+
+-- the message of a report under its number
+pub record Reports (p : Partition) (n : ℕ) (r : Report) (m : Message) : Type 0 where
+  pub report : report_in m ≡ Some r
+  pub place : place_in m ≡ Some (p, pos n)
+  pub kind : kind_of m ≡ kind_told r
+  pub contents : contents_of m ≡ told_as p n r
+
+abbrev pub ReportTold : Partition → ℕ → Report → Type 0
+ReportTold p n r = Told (Reports p n r) (report_bytes p n r)
+
+-- the message of the end of a download
+abbrev pub Ends : ReportResponse → Message → Type 0
+Ends r (message.MissedMessageReport m) = m.response ≡ r
+Ends r m = ⊥
+
+abbrev pub EndTold : ReportResponse → Type 0
+EndTold r = Told (Ends r) (end_bytes r)

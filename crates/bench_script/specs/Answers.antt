@@ -1,0 +1,45 @@
+-- How answers are written. Assumes nothing.
+use Rattle.std.specs.Prelude.{ℕ, ◌+◌, ◌/◌, ◌%◌, if◌then◌else◌, List, [], ◌∷◌, ◌++◌, Some, None, Option, codes, decimal, nat_lt}
+use Rattle.std.specs.Fmt.{signed_decimal}
+use Rattle.std.specs.List.{flat_map}
+use Rattle.bench_script.specs.declared.answer.Answer.{Answer}
+use Rattle.bench_script.specs.declared.answer.Answer.TheVariants as answer
+use Rattle.bench_script.specs.declared.answer.Payload.{Payload}
+use Rattle.bench_script.specs.declared.answer.Payload.TheVariants as payload
+use Rattle.bench_script.specs.declared.answer.Trade.{Trade}
+
+-- a hex digit, a to f for 10 to 15
+abbrev pub glyph : ℕ → ℕ
+glyph d = if nat_lt d 10 then 48 + d else 87 + d
+
+abbrev pub pair_text : ℕ → List ℕ
+pair_text b = glyph (b / 16) ∷ (glyph (b % 16) ∷ [])
+
+abbrev pub hex_text : List ℕ → List ℕ
+hex_text bs = flat_map pair_text bs
+
+abbrev pub payload_text : Payload → List ℕ
+payload_text (payload.Bytes b) = hex_text b.now
+payload_text (payload.Text t) = t.now
+
+-- an order's number, or a dash
+abbrev pub party_text : Option ℕ → List ℕ
+party_text (Some n) = decimal n
+party_text None = codes "-"
+
+abbrev pub trade_text : Trade → List ℕ
+trade_text t =
+    (codes "trade " ++ (decimal t.number ++ (codes " passive " ++ (party_text t.passive ++ codes " "))))
+    ++ (codes "aggressive " ++ (party_text t.aggressive ++ (codes " " ++ (decimal t.quantity ++ (codes " at " ++ signed_decimal t.price.raw)))))
+
+abbrev pub answer_text : Answer → List ℕ
+answer_text answer.Started = codes "started"
+answer_text answer.Nothing = codes "nothing"
+answer_text (answer.Message p) = codes "answer " ++ payload_text p
+answer_text (answer.Sent p) = codes "message " ++ payload_text p
+answer_text (answer.Expired n) = codes "expired " ++ decimal n
+answer_text (answer.Traded t) = trade_text t
+answer_text answer.Cancelled = codes "cancelled"
+answer_text answer.Closed = codes "closed"
+answer_text (answer.Refused n) = codes "refused " ++ decimal n
+answer_text (answer.Rejected n at p) = codes "refused " ++ (decimal n ++ (codes " at " ++ (decimal at ++ (codes " answer " ++ payload_text p))))

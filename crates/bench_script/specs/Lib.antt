@@ -1,0 +1,10 @@
+pub mod Sentences
+pub mod Words
+pub mod Bytes
+pub mod Tapes
+pub mod Verbs
+pub mod Commands
+pub mod Lines
+pub mod Answers
+pub mod Listings
+pub mod Accounts

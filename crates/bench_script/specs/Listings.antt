@@ -1,0 +1,22 @@
+-- How orders are listed. Assumes nothing.
+use Rattle.std.specs.Prelude.{ℕ, List, ◌++◌, codes, decimal}
+use Rattle.bench_script.specs.declared.listing.Figures.{Figures}
+use Rattle.bench_script.specs.declared.listing.Listed.{Listed}
+use Rattle.bench_script.specs.declared.listing.Naming.{Naming}
+use Rattle.bench_script.specs.declared.listing.Totals.{Totals}
+
+abbrev pub naming_text : Naming → List ℕ
+naming_text n =
+    (codes "order " ++ (decimal n.number ++ (codes " compid " ++ (n.comp_id.now ++ codes " "))))
+    ++ (codes "symbol " ++ (n.symbol.now ++ (codes " side " ++ (decimal n.side ++ (codes " status " ++ decimal n.status)))))
+
+abbrev pub figures_text : Figures → List ℕ
+figures_text f =
+    (codes "ordered " ++ (decimal f.ordered ++ (codes " executed " ++ (decimal f.executed ++ codes " "))))
+    ++ (codes "open " ++ (decimal f.leaves ++ (codes " withdrawn " ++ decimal f.withdrawn)))
+
+abbrev pub listed_text : Listed → List ℕ
+listed_text o = naming_text o.naming ++ (codes " " ++ figures_text o.figures)
+
+abbrev pub totals_text : Totals → List ℕ
+totals_text t = codes "orders " ++ (decimal t.orders ++ (codes " trades " ++ (decimal t.trades ++ (codes " reports " ++ decimal t.reports))))

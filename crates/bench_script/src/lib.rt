@@ -1,0 +1,13 @@
+// The words of a script of calls on a gateway, and what comes of them.
+#![tactic(auto)]
+
+pub mod account;
+pub mod answer;
+pub mod bytes;
+pub mod command;
+pub mod line;
+pub mod listing;
+pub mod misread;
+pub mod tape;
+pub mod verb;
+mod words;

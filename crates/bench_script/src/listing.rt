@@ -1,0 +1,83 @@
+// The orders of a day, a line each.
+ghost use Rattle.std.specs.Prelude.{◌≡◌, Some};
+ghost use Rattle.bench_script.specs.Listings.{figures_text, listed_text, naming_text, totals_text};
+
+use std::fmt;
+
+/// What an order is, as a line shows it.
+#[derive(Clone, Copy)]
+pub struct Naming<'a> {
+    pub number: u64,
+    /// The name of its owner.
+    pub comp_id: &'a str,
+    pub symbol: &'a str,
+    /// The bytes of its side and of its status.
+    pub side: u8,
+    pub status: u8,
+}
+
+/// An order's figures, in shares.
+#[derive(Clone, Copy)]
+pub struct Figures {
+    pub ordered: u32,
+    pub executed: u32,
+    pub leaves: u32,
+    pub withdrawn: u32,
+}
+
+impl fmt::Display for Naming<'_> {
+    ghost output = { λ naming. Some (naming_text naming) };
+
+    fn fmt<W: fmt::Write>(&self, f: &mut fmt::Formatter<W>) -> fmt::Result {
+        write!(f, "order {} compid {} ", self.number, self.comp_id)?;
+        write!(
+            f,
+            "symbol {} side {} status {}",
+            self.symbol, self.side, self.status
+        )
+    }
+}
+
+impl fmt::Display for Figures {
+    ghost output = { λ figures. Some (figures_text figures) };
+
+    fn fmt<W: fmt::Write>(&self, f: &mut fmt::Formatter<W>) -> fmt::Result {
+        write!(f, "ordered {} executed {} ", self.ordered, self.executed)?;
+        write!(f, "open {} withdrawn {}", self.leaves, self.withdrawn)
+    }
+}
+
+/// One order.
+#[derive(Clone, Copy)]
+pub struct Listed<'a> {
+    pub naming: Naming<'a>,
+    pub figures: Figures,
+}
+
+impl fmt::Display for Listed<'_> {
+    ghost output = { λ order. Some (listed_text order) };
+
+    fn fmt<W: fmt::Write>(&self, f: &mut fmt::Formatter<W>) -> fmt::Result {
+        write!(f, "{} {}", self.naming, self.figures)
+    }
+}
+
+/// How many there are of a day.
+#[derive(Clone, Copy)]
+pub struct Totals {
+    pub orders: u64,
+    pub trades: u64,
+    pub reports: u64,
+}
+
+impl fmt::Display for Totals {
+    ghost output = { λ totals. Some (totals_text totals) };
+
+    fn fmt<W: fmt::Write>(&self, f: &mut fmt::Formatter<W>) -> fmt::Result {
+        write!(
+            f,
+            "orders {} trades {} reports {}",
+            self.orders, self.trades, self.reports
+        )
+    }
+}

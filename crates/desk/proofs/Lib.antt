@@ -1,5 +1,0 @@
-pub mod Recording
-pub mod Rows
-pub mod Keeps
-pub mod Summing
-pub mod Withdrawing

@@ -1,5 +1,0 @@
-use Rattle.desk.proofs.Keeps.{sound-fresh}
-use Rattle.desk.proofs.desk.Desk.new.Goals as goal
-
-pub invariant_of-result : goal.invariant_of-result
-invariant_of-result g c = sound-fresh _ c.requires.listed (c.in-Ok.ensures {u = tt}) (c.in-Ok-new.ensures {u = tt}) c.requires.nothing_kept c.requires.nothing_open

@@ -1,6 +1,0 @@
-use Rattle.desk.specs.Selection.{withdrawn_to, Withdraws}
-use Rattle.desk.proofs.desk.Desk.withdraw_all.Given as goal
-
--- the orders up to a number are withdrawn
-abbrev pub invariant-loop-i : goal.invariant-loop-i
-invariant-loop-i g l = Withdraws l.initial.self (withdrawn_to l.selection l.cause l.time l.i l.initial.self) l.self

@@ -1,0 +1,102 @@
+// What a link writes once its Logon is accepted. Each call writes one message to the front of the caller's buffer, and
+// says how many bytes it has; those past it stay. A buffer that is too short stays as it is.
+ghost use Rattle.std.specs.Prelude.{◌≡◌, pos};
+
+use crate::offline::Offline;
+use crate::sending::send;
+use messages::heartbeat::Heartbeat;
+use messages::logout::Logout;
+use messages::new_order::NewOrder;
+use messages::order_cancel_replace_request::OrderCancelReplaceRequest;
+use messages::order_cancel_request::OrderCancelRequest;
+use messages::order_mass_cancel_request::OrderMassCancelRequest;
+use texts::fixed::FixedText;
+use wire::message::{Message, TooShort};
+
+/// A link whose Logon was accepted.
+#[derive(Debug, Drop)]
+pub struct Trading {
+    pub(crate) comp_id: FixedText<25>,
+    // of the Logon Reply
+    pub(crate) code: i32,
+    ghost accepted: { code ≡ pos 0 },
+}
+
+impl Trading {
+    ghost use Rattle.wire.specs.declared.message.Message.TheVariants as message;
+    ghost use Rattle.link.specs.Requests.{Sent};
+    ghost use Rattle.link.specs.Replies.{LoggedOut};
+
+    /// A sign of life.
+    pub fn heartbeat(&self, out: &mut [u8]) -> Result<usize, TooShort>
+        ensures { Sent (message.Heartbeat (record {})) out.old out.new result }
+    {
+        send(&Message::Heartbeat(Heartbeat), out)
+    }
+
+    /// A new order.
+    pub fn new_order(&self, order: &NewOrder<'_>, out: &mut [u8]) -> Result<usize, TooShort>
+        ensures { Sent (message.NewOrder order.now) out.old out.new result }
+    {
+        send(&Message::NewOrder(*order), out)
+    }
+
+    /// A request to cancel an order.
+    pub fn cancel(
+        &self,
+        request: &OrderCancelRequest<'_>,
+        out: &mut [u8],
+    ) -> Result<usize, TooShort>
+        ensures { Sent (message.OrderCancelRequest request.now) out.old out.new result }
+    {
+        send(&Message::OrderCancelRequest(*request), out)
+    }
+
+    /// A request to change an order's quantity and price.
+    pub fn replace(
+        &self,
+        request: &OrderCancelReplaceRequest<'_>,
+        out: &mut [u8],
+    ) -> Result<usize, TooShort>
+        ensures { Sent (message.OrderCancelReplaceRequest request.now) out.old out.new result }
+    {
+        send(&Message::OrderCancelReplaceRequest(*request), out)
+    }
+
+    /// A request to cancel many orders.
+    pub fn mass_cancel(
+        &self,
+        request: &OrderMassCancelRequest<'_>,
+        out: &mut [u8],
+    ) -> Result<usize, TooShort>
+        ensures { Sent (message.OrderMassCancelRequest request.now) out.old out.new result }
+    {
+        send(&Message::OrderMassCancelRequest(*request), out)
+    }
+
+    /// Ends the session. Where the buffer is too short, the link trades on.
+    pub fn logout(
+        self,
+        logout: &Logout<'_>,
+        out: &mut [u8],
+    ) -> Result<(usize, Offline), (Trading, TooShort)>
+        ensures { LoggedOut self logout.now out.old out.new result }
+    {
+        match send(&Message::Logout(*logout), out) {
+            Ok(len) => Ok((len, Offline)),
+            Err(short) => Err((self, short)),
+        }
+    }
+
+    /// The CompID that logged on.
+    pub fn comp_id(&self) -> FixedText<25>
+        ensures { result ≡ self.now.comp_id }
+    {
+        self.comp_id
+    }
+
+    /// The line was lost.
+    pub fn lost(self) -> Offline {
+        Offline
+    }
+}

@@ -1,0 +1,27 @@
+-- Single marks of orders. Assumes nothing.
+use Rattle.std.specs.Prelude.{ℕ, Bool, true, false, List, Some, None, Option, ◌==◌}
+use Rattle.std.specs.Str.{bytes_eq}
+use Rattle.codes.specs.Order.{book_code}
+use Rattle.codes.specs.declared.order.AutoCancel.{AutoCancel}
+use Rattle.codes.specs.declared.order.AutoCancel.TheVariants.{Keep, AsConfigured}
+use Rattle.codes.specs.declared.order.Book.{Book}
+use Rattle.texts.specs.Bytes.{said}
+use Rattle.configuration.specs.declared.instrument.Instrument.{Instrument}
+use Rattle.configuration.specs.declared.participant.Participant.{Participant}
+
+abbrev pub is_book : Book → Book → Bool
+is_book b c = book_code b == book_code c
+
+-- whether the participant of a place is of a firm
+abbrev pub is_firm : ℕ → Option Participant → Bool
+is_firm f None = false
+is_firm f (Some p) = p.firm == f
+
+-- whether the instrument of a place is of a segment
+abbrev pub is_segment : List ℕ → Option Instrument → Bool
+is_segment s None = false
+is_segment s (Some i) = bytes_eq (said i.segment.bytes) s
+
+abbrev pub is_marked : AutoCancel → Bool
+is_marked Keep = false
+is_marked AsConfigured = true

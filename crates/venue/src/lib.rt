@@ -1,0 +1,11 @@
+// The orders, the trades, a matcher and a store of one day, kept in step: the venue under the gateway's lines.
+#![tactic(auto)]
+
+mod asking;
+pub mod laws;
+pub mod refusal;
+pub mod selection;
+pub mod step;
+mod telling;
+mod trading;
+pub mod venue;
