@@ -1,7 +1,6 @@
 -- What a follower reads from an answer. Assumes nothing.
 use Rattle.std.proofs.Common.{◌≡◌, ℕ, List, [], ◌∷◌, pos, Some, refl, sym, ap, ◌∙◌, subst}
 use Rattle.codes.specs.Session.{ack_response_code}
-use Rattle.texts.specs.Bytes.{said}
 use Rattle.texts.specs.Says.{says}
 use Rattle.layout.specs.Layout.Content.{words, figure, int32}
 use Rattle.wire.specs.declared.kinds.Channel.TheVariants.{Follower}
@@ -42,7 +41,7 @@ form (answer.Reject r) (message.Reject m) h =
     ap (λ x. message_bytes kind.Reject (int32 x ∷ words (says m.reason) ∷ figure m.message_type ∷ words (says m.client_order_id) ∷ [])) h.0
     ∙ ap (λ x. message_bytes kind.Reject (int32 (pos r.code) ∷ words x ∷ figure m.message_type ∷ words (says m.client_order_id) ∷ [])) h.1
     ∙ ap (λ x. message_bytes kind.Reject (int32 (pos r.code) ∷ words [] ∷ figure x ∷ words (says m.client_order_id) ∷ [])) h.2
-    ∙ ap (λ x. message_bytes kind.Reject (int32 (pos r.code) ∷ words [] ∷ figure r.message_type ∷ words (said x) ∷ [])) h.3
+    ∙ ap (λ x. message_bytes kind.Reject (int32 (pos r.code) ∷ words [] ∷ figure r.message_type ∷ words x ∷ [])) h.3
 form a m h = absurd h
 
 taken_by : (a : Answer) (m : Message) → Answers a m → takes Follower (letter_of (kind_of m)) ≡ Some (kind_of m)

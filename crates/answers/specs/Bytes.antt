@@ -1,9 +1,10 @@
 -- The bytes of what a gateway answers and sends. Assumes nothing.
-use Rattle.std.specs.Prelude.{ℕ, List, [], ◌∷◌, ◌++◌, pos}
+use Rattle.std.specs.Prelude.{ℕ, List, [], ◌∷◌, ◌++◌, pos, Some, None, Option}
 use Rattle.codes.specs.Session.{ack_response_code, report_response_code}
 use Rattle.codes.specs.declared.session.Partition.{Partition}
 use Rattle.codes.specs.declared.session.ReportResponse.{ReportResponse}
 use Rattle.texts.specs.Bytes.{said}
+use Rattle.texts.specs.declared.fixed.FixedText.{FixedText}
 use Rattle.layout.specs.Layout.{Content}
 use Rattle.layout.specs.Layout.Content.{words, figure, int32}
 use Rattle.layout.specs.Writing.{header, encode}
@@ -19,6 +20,11 @@ use Rattle.answers.specs.declared.answer.Answer.TheVariants.{Silent, LogonReply,
 abbrev pub message_bytes : Kind → List Content → List ℕ
 message_bytes k vs = header (letter_of k) (total_of k) ++ encode (table_of k) vs
 
+-- what a Client Order ID says, where there is one
+abbrev pub client_said : Option (FixedText 20) → List ℕ
+client_said None = []
+client_said (Some c) = said c.bytes
+
 -- a Logon Reply says of no day when the password expires, a Reject gives no words for its reason
 abbrev pub answer_bytes : Answer → List ℕ
 answer_bytes Silent = []
@@ -29,7 +35,7 @@ answer_bytes (Reject r) =
     int32 (pos r.code)
     ∷ words []
     ∷ figure r.message_type
-    ∷ words (said r.client.bytes)
+    ∷ words (client_said r.client)
     ∷ []
     )
 

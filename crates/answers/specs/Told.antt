@@ -3,7 +3,6 @@ use Rattle.std.specs.Prelude.{◌≡◌, ℕ, ℤ, List, [], pos, Some, None, Op
 use Rattle.codes.specs.declared.session.Partition.{Partition}
 use Rattle.codes.specs.declared.session.ReportResponse.{ReportResponse}
 use Rattle.texts.specs.Says.{says}
-use Rattle.layout.specs.Layout.{Content}
 use Rattle.wire.specs.declared.kinds.Channel.TheVariants.{Follower}
 use Rattle.wire.specs.declared.message.Message.{Message}
 use Rattle.wire.specs.declared.message.Message.TheVariants as message
@@ -13,7 +12,7 @@ use Rattle.report_messages.specs.Back.{report_in}
 use Rattle.report_messages.specs.Telling.{told_as, kind_told}
 use Rattle.answers.specs.declared.answer.Answer.{Answer}
 use Rattle.answers.specs.declared.answer.Answer.TheVariants.{Silent, LogonReply, Ack, Reject}
-use Rattle.answers.specs.Bytes.{answer_bytes, report_bytes, end_bytes}
+use Rattle.answers.specs.Bytes.{answer_bytes, client_said, report_bytes, end_bytes}
 
 -- the bytes are the one form of a message of which P holds, and from them a follower reads such a message and no other
 pub record Told (P : Message → Type 0) (bs : List ℕ) : Type 0 where
@@ -30,7 +29,7 @@ Answers (LogonReply code) (message.LogonReply m) = (m.reject_code ≡ code) × (
 Answers (Ack r) (message.MissedMessageRequestAck m) = m.response ≡ r
 Answers (Reject r) (message.Reject m) =
     (m.code ≡ pos r.code) × (says m.reason ≡ []) × (m.message_type ≡ r.message_type)
-    × (m.client_order_id.field.now ≡ r.client.bytes)
+    × (says m.client_order_id ≡ client_said r.client)
 Answers a m = ⊥
 
 abbrev pub AnswerTold : Answer → Type 0

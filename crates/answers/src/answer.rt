@@ -1,9 +1,10 @@
 // What a gateway answers to a message, and its bytes.
 ghost use Rattle.std.specs.Prelude.{◌≡◌, ◌≤◌, [], length, MatchOption};
 ghost use Rattle.texts.specs.Bytes.{said};
+ghost use Rattle.texts.specs.Says.{says};
 ghost use Rattle.answers.specs.declared.answer.Answer.TheVariants as answer;
 ghost use Rattle.answers.specs.declared.sending.TheConstants.{REPLY};
-ghost use Rattle.answers.specs.Bytes.{answer_bytes};
+ghost use Rattle.answers.specs.Bytes.{answer_bytes, client_said};
 ghost use Rattle.answers.specs.Sent.{Sent};
 ghost use Rattle.answers.specs.Told.{Answers, AnswerTold};
 
@@ -13,6 +14,7 @@ use messages::logon_reply::LogonReply;
 use messages::missed_message_request_ack::MissedMessageRequestAck;
 use messages::reject::Reject;
 use texts::fixed::FixedText;
+use texts::text::Text;
 use wire::message::Message;
 
 /// A message that was not taken.
@@ -22,8 +24,8 @@ pub struct Rejection {
     pub code: u8,
     /// Its type byte; 0 where that is not known.
     pub message_type: u8,
-    /// Its Client Order ID; empty where it has none.
-    pub client: FixedText<20>,
+    /// Its Client Order ID, where it has one.
+    pub client: Option<FixedText<20>>,
 }
 
 /// What a gateway answers to a message.
@@ -39,16 +41,32 @@ pub enum Answer {
     Reject(Rejection),
 }
 
-fn nothing() -> FixedText<30>
+fn nothing<const N: usize>() -> FixedText<N>
     ensures { said result.bytes ≡ [] }
 {
     FixedText::empty()
 }
 
+// A Client Order ID, lent, or the text that says nothing.
+fn client_text<'a>(client: &'a Option<FixedText<20>>, nothing: &'a FixedText<20>) -> Text<'a, 20>
+    requires { said nothing.now.bytes ≡ [] }
+    ensures { says result ≡ client_said client.now }
+{
+    match client {
+        Some(client) => client.as_text(),
+        None => nothing.as_text(),
+    }
+}
+
 impl Answer {
     // The message of the answer, if there is one: it gives no words for what no rule names.
-    fn message<'a>(&'a self, nothing: &'a FixedText<30>) -> Option<Message<'a>>
-        requires { said nothing.now.bytes ≡ [] }
+    fn message<'a>(
+        &'a self,
+        nothing: &'a FixedText<30>,
+        nobody: &'a FixedText<20>,
+    ) -> Option<Message<'a>>
+        requires nothing { said nothing.now.bytes ≡ [] }
+        requires nobody { said nobody.now.bytes ≡ [] }
         ensures { MatchOption result (self.now ≡ answer.Silent) (λ m. Answers self.now m) }
     {
         match self {
@@ -66,7 +84,7 @@ impl Answer {
                 code: i32::from(rejection.code),
                 reason: nothing.as_text(),
                 message_type: rejection.message_type,
-                client_order_id: rejection.client.as_text(),
+                client_order_id: client_text(&rejection.client, nobody),
             })),
         }
     }
@@ -79,8 +97,7 @@ impl Answer {
         ensures sent { Sent (answer_bytes self.now) out.old out.new result }
         ensures told { AnswerTold self.now }
     {
-        let nothing = nothing();
-        match self.message(&nothing) {
+        match self.message(&nothing(), &nothing()) {
             Some(message) => send(&message, out),
             None => 0,
         }

@@ -1,15 +1,14 @@
 -- What is written is heard. Assumes nothing.
-use Rattle.std.proofs.Common.{◌≡◌, ℕ, ◌++◌, pos, Some, None, Ok, Option, length, refl, sym, subst, ap, ◌∙◌}
+use Rattle.std.proofs.Common.{◌≡◌, ℕ, pos, Some, None, Ok, Option, refl, sym, subst, ap, ◌∙◌}
 use Rattle.std.specs.Option.{option_map, option_and_then}
 use Rattle.codes.specs.declared.session.Partition.{Partition}
 use Rattle.layout.specs.declared.fault.Fault.TheVariants as fault
-use Rattle.layout.specs.Layout.{Says}
 use Rattle.layout.specs.Writing.{header, encode}
 use Rattle.wire.specs.declared.kinds.Channel.TheVariants.{Follower}
 use Rattle.wire.specs.declared.message.Message.{Message}
 use Rattle.wire.specs.declared.message.Message.TheVariants as message
 use Rattle.wire.specs.Kinds.{letter_of, total_of, table_of, takes}
-use Rattle.wire.specs.Messages.{kind_of, contents_of, opening, after_opening, verdict, written, Holdable}
+use Rattle.wire.specs.Messages.{kind_of, contents_of, after_opening, written}
 use Rattle.wire.proofs.Headers.{opened}
 use Rattle.wire.proofs.Sound.{sound}
 use Rattle.wire.proofs.Trips.{trip}
@@ -21,7 +20,7 @@ use Rattle.report_messages.specs.Back.{report_in}
 use Rattle.report_messages.specs.Telling.{told_as, kind_told}
 use Rattle.follower.specs.declared.heard.Heard.{Heard}
 use Rattle.follower.specs.declared.heard.Heard.TheVariants as heard
-use Rattle.follower.specs.Hearing.{heard as heard_of, heard_from, heard_in, told_from}
+use Rattle.follower.specs.Hearing.{heard as heard_of, heard_from}
 use Rattle.follower.specs.Laws.{WrittenHeard, Tells, ReportsHeard}
 use Rattle.follower.proofs.Hears.{contents_say, heard_by, partition_back}
 

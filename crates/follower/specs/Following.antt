@@ -73,9 +73,10 @@ module _ {A : Type 0} where
 -- one report more is held
 abbrev pub held : Following → Partition → Held → Step Live
 held f p h =
-    answered live.Held (record f { sides = with_at f.sides p (record (at f.sides p) { hold = (at f.sides p).hold ++ h ∷ [] }) })
+    let s = at f.sides p in
+    answered live.Held (record f { sides = with_at f.sides p (record s { hold = s.hold ++ h ∷ [] }) })
 
--- as many are held as there is room for: the one refusal that changes something, since the line counts as lost
+-- as many are held as there is room for: the one refusal that changes something, as a lost line does
 abbrev pub overrun : Following → Step Live
 overrun f = record { answer = Err fault.HoldFull; after = turned false f }
 
@@ -89,10 +90,11 @@ abbrev pub state_for : Following → Heard → Option State
 state_for f (Report p h) = Some (at f.sides p).state
 state_for f h = None
 
--- what comes live: a report at or below its partition's place is there already, and a message without a number is nothing
+-- what comes live: a report at or below its partition's place is there already, a message without a number is nothing
 abbrev pub lived : Following → Heard → Step Live
 lived f (Report p h) =
-    if nat_le (number_of h) (at f.sides p).place then answered live.Already f else live_by (at f.sides p).state f p h
+    if nat_le (number_of h) (at f.sides p).place then answered live.Already f
+    else live_by (at f.sides p).state f p h
 lived f (Ack r) = answered live.Nothing f
 lived f (End r) = answered live.Nothing f
 lived f Reject = answered live.Nothing f
@@ -123,7 +125,8 @@ same p q = partition_code p == partition_code q
 -- a report of a download that runs
 abbrev pub recovered_of : Following → Partition → Held → Step Recovered
 recovered_of f p h =
-    if nat_le (number_of h) (at f.sides p).place then answered recovered.Already f else folded recovered.Folded f p h
+    if nat_le (number_of h) (at f.sides p).place then answered recovered.Already f
+    else folded recovered.Folded f p h
 
 -- a report: with a download it has to be of its partition, and the download has to run
 abbrev pub reported : Following → Stage → Partition → Held → Step Recovered
@@ -131,7 +134,7 @@ reported f Idle p h = refused fault.OutOfTurn f
 reported f (Asked q) p h = if same p q then refused fault.OutOfTurn f else refused fault.Partition f
 reported f (Running q) p h = if same p q then recovered_of f p h else refused fault.Partition f
 
--- what was held is folded behind the reports of the download, and the partition is level; unless one is refused
+-- what was held is folded behind the reports of the download, and the partition is level, unless one is refused
 abbrev pub levelled : Following → Partition → Result Reached FoldRefusal → Step Recovered
 levelled f p (Err e) = refused (fault.Fold e) f
 levelled f p (Ok r) = answered recovered.Ended (record f {

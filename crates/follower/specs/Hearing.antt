@@ -33,7 +33,8 @@ numbered n m = record { sequence = n; told = option_and_then told_of (report_in 
 abbrev pub heard : Message → Heard
 heard (message.ExecutionReport m) = Report m.partition (numbered m.sequence (message.ExecutionReport m))
 heard (message.OrderCancelReject m) = Report m.partition (numbered m.sequence (message.OrderCancelReject m))
-heard (message.OrderMassCancelReport m) = Report m.partition (numbered m.sequence (message.OrderMassCancelReport m))
+heard (message.OrderMassCancelReport m) =
+    Report m.partition (numbered m.sequence (message.OrderMassCancelReport m))
 heard (message.MissedMessageRequestAck m) = Ack m.response
 heard (message.MissedMessageReport m) = End m.response
 heard (message.Reject m) = Reject
@@ -69,8 +70,10 @@ abbrev pub heard_from : Kind → List Content → Heard
 heard_from kind.ExecutionReport vs = numbered_from vs (Some (told_from vs))
 heard_from kind.OrderCancelReject vs = numbered_from vs None
 heard_from kind.OrderMassCancelReport vs = numbered_from vs None
-heard_from kind.MissedMessageRequestAck vs = Ack (value_of ack_response_code ack_responses ack.ServiceUnavailable (nth 0 vs))
-heard_from kind.MissedMessageReport vs = End (value_of report_response_code report_responses ending.Complete (nth 0 vs))
+heard_from kind.MissedMessageRequestAck vs =
+    Ack (value_of ack_response_code ack_responses ack.ServiceUnavailable (nth 0 vs))
+heard_from kind.MissedMessageReport vs =
+    End (value_of report_response_code report_responses ending.Complete (nth 0 vs))
 heard_from kind.Reject vs = Reject
 heard_from k vs = Nothing
 

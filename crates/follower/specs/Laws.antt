@@ -15,7 +15,8 @@ use Rattle.follower.specs.Hearing.{heard as heard_of, heard_in}
 -- in the bytes of a message that a follower takes it hears that message
 abbrev pub WrittenHeard : Type 0
 WrittenHeard =
-    (m : Message) → takes Follower (letter_of (kind_of m)) ≡ Some (kind_of m) → Holdable m → heard_in (written m) ≡ Ok (heard_of m)
+    (m : Message) → takes Follower (letter_of (kind_of m)) ≡ Some (kind_of m) → Holdable m
+    → heard_in (written m) ≡ Ok (heard_of m)
 
 -- a message that tells a report under its number
 pub record Tells (p : Partition) (n : ℕ) (r : Report) (m : Message) : Type 0 where

@@ -22,7 +22,10 @@ FirstFrom k from (Some o) = IsFirst k from o
 -- the one of two that comes first, of those from a number on
 abbrev pub earlier : ℕ → Option Known → Known → Option Known
 earlier from None k = if nat_le from k.number then Some k else None
-earlier from (Some b) k = if nat_lt k.number from then Some b else if nat_lt k.number b.number then Some k else Some b
+earlier from (Some b) k =
+    if nat_lt k.number from then Some b
+    else if nat_lt k.number b.number then Some k
+    else Some b
 
 abbrev pub earlier_of : ℕ → Option Known → Option Known → Option Known
 earlier_of from b None = b

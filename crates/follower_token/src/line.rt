@@ -1,5 +1,9 @@
 // What happens on a desk's line. Every download that is asked comes to its end, since the token of one that has not
 // cannot be let go.
+ghost use Rattle.std.specs.Prelude.{◌≡◌, false};
+ghost use Rattle.follower.specs.declared.stage.Stage.TheVariants.{Idle};
+ghost use Rattle.follower.specs.Owing.{Tied};
+
 use follower::answer::{Live, Recovered};
 use follower::fault::FollowerFault;
 use follower::pending::Pending;
@@ -27,6 +31,11 @@ pub enum Answer {
 }
 
 impl From<Result<Live, FollowerFault>> for Answer {
+    ghost use Rattle.std.specs.Prelude.{◌≡◌, MatchResult};
+    ghost use Rattle.follower_token.specs.declared.line.Answer.TheVariants.{Live, Refused};
+
+    ghost from_gives = { λ r a. MatchResult r (λ x. a ≡ Live x) (λ e. a ≡ Refused e) };
+
     fn from(answer: Result<Live, FollowerFault>) -> Answer {
         match answer {
             Ok(live) => Answer::Live(live),
@@ -36,6 +45,11 @@ impl From<Result<Live, FollowerFault>> for Answer {
 }
 
 impl From<Result<Recovered, FollowerFault>> for Answer {
+    ghost use Rattle.std.specs.Prelude.{◌≡◌, MatchResult};
+    ghost use Rattle.follower_token.specs.declared.line.Answer.TheVariants.{Recovered, Refused};
+
+    ghost from_gives = { λ r a. MatchResult r (λ x. a ≡ Recovered x) (λ e. a ≡ Refused e) };
+
     fn from(answer: Result<Recovered, FollowerFault>) -> Answer {
         match answer {
             Ok(recovered) => Answer::Recovered(recovered),
@@ -45,6 +59,11 @@ impl From<Result<Recovered, FollowerFault>> for Answer {
 }
 
 impl From<Result<usize, FollowerFault>> for Answer {
+    ghost use Rattle.std.specs.Prelude.{◌≡◌, MatchResult};
+    ghost use Rattle.follower_token.specs.declared.line.Answer.TheVariants.{Asked, Refused};
+
+    ghost from_gives = { λ r a. MatchResult r (λ x. a ≡ Asked x) (λ e. a ≡ Refused e) };
+
     fn from(answer: Result<usize, FollowerFault>) -> Answer {
         match answer {
             Ok(len) => Answer::Asked(len),
@@ -68,7 +87,9 @@ fn take(
     event: &Event,
     out: &mut [u8],
     pending: Pending,
-) -> (Answer, Pending) {
+) -> (Answer, Pending)
+    ensures { Tied pending follower.old → Tied result.1 follower.new }
+{
     match event {
         Event::Up => (Answer::Done, follower.up(pending)),
         Event::Lost => (Answer::Done, follower.lost(pending)),
@@ -89,7 +110,10 @@ fn take(
 
 /// Takes what happens on a line, and prints each answer. At the end, and where printing fails, the line is lost, so that
 /// no download is left that was asked.
-pub fn day<R: Print>(rt: &R, follower: &mut Follower, events: &[Event]) -> io::Result<()> {
+pub fn day<R: Print>(rt: &R, follower: &mut Follower, events: &[Event]) -> io::Result<()>
+    ensures down { follower.new.up ≡ false }
+    ensures none { follower.new.download ≡ Idle }
+{
     let mut out = [0; 512];
     let mut pending = Pending::Idle;
     let mut printed = Ok(());

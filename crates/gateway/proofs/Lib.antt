@@ -1,0 +1,3 @@
+pub mod Ends
+pub mod Stored
+pub mod Requested

@@ -1,0 +1,203 @@
+-- What a message gets, and what it leaves. Assumes nothing.
+use Rattle.std.specs.Prelude.{◌≡◌, ℕ, Bool, true, false, List, [], ◌++◌, length, drop, ℤ, pos, negsuc, slice_get, slice_index_or, Some, None, Ok, Err, Option, Result, nat_lt, ◌==◌, if◌then◌else◌}
+use Rattle.answers.specs.Bytes.{answer_bytes}
+use Rattle.answers.specs.declared.answer.Answer.{Answer}
+use Rattle.answers.specs.declared.answer.Answer.TheVariants.{Silent, Ack, Reject}
+use Rattle.answers.specs.declared.sending.TheConstants.{REPLY}
+use Rattle.codes.specs.declared.session.AckResponse.{AckResponse}
+use Rattle.codes.specs.declared.session.Partition.{Partition}
+use Rattle.codes.specs.declared.session.Partition.TheVariants.{One, Two, Three}
+use Rattle.configuration.specs.declared.participant.Participant.{Participant}
+use Rattle.gateway.specs.Faults.{session_number}
+use Rattle.gateway.specs.Lines.{ended, logon, line_closed}
+use Rattle.gateway.specs.State.{State, session, with_session, with_venue, Follows}
+use Rattle.gateway.specs.declared.fault.GatewayFault.{GatewayFault}
+use Rattle.gateway.specs.declared.fault.GatewayFault.TheVariants.{ShortBuffer, NoSuchLine, Session}
+use Rattle.gateway.specs.declared.fault.SessionFault.{SessionFault}
+use Rattle.gateway.specs.declared.fault.SessionFault.TheVariants.{NotLoggedOn, Wire}
+use Rattle.layout.specs.Faults.{fault_number}
+use Rattle.layout.specs.declared.fault.Fault.{Fault}
+use Rattle.layout.specs.declared.fault.Fault.TheVariants as fault
+use Rattle.messages.specs.declared.missed_message_request.MissedMessageRequest.{MissedMessageRequest}
+use Rattle.partitions.specs.PerPartition.{at}
+use Rattle.report_messages.specs.Back.{kept}
+use Rattle.requests.specs.Cancels.{cancel}
+use Rattle.requests.specs.MassCancels.{mass_cancel}
+use Rattle.requests.specs.NewOrders.{new_order}
+use Rattle.requests.specs.Outcomes.{Outcome as Requested}
+use Rattle.requests.specs.Outcomes.Outcome.{Refused, Done}
+use Rattle.requests.specs.Refusals.{turned_number}
+use Rattle.requests.specs.Replaces.{replace}
+use Rattle.requests.specs.declared.refusal.Turned.{Turned}
+use Rattle.sessions.specs.Sessions.{on, requested, recovery_closed, request_number}
+use Rattle.sessions.specs.declared.session.Channel.{Channel}
+use Rattle.sessions.specs.declared.session.Channel.TheVariants.{RealTime, Recovery}
+use Rattle.sessions.specs.declared.session.RequestRefusal.{RequestRefusal}
+use Rattle.sessions.specs.declared.session.SessionState.{SessionState}
+use Rattle.store.specs.Kept.{Kept}
+use Rattle.texts.specs.declared.fixed.FixedText.{FixedText}
+use Rattle.texts.specs.declared.values.Time.{Time}
+use Rattle.wire.specs.Kinds.{letter_of}
+use Rattle.wire.specs.Messages.{kind_of, verdict, Reads}
+use Rattle.wire.specs.declared.kinds.Channel.{Channel as Reader}
+use Rattle.wire.specs.declared.kinds.Channel.TheVariants as reader
+use Rattle.wire.specs.declared.message.Message.{Message}
+use Rattle.wire.specs.declared.message.Message.TheVariants as message
+
+-- an answer, with which no report is appended; or no answer, and at most so many reports
+pub data Outcome : Type 0 where
+  Answered : Answer → State → Outcome
+  Reported : ℕ → State → Outcome
+
+abbrev pub silently : State → Outcome
+silently s = Answered Silent s
+
+abbrev pub answered : Answer × State → Outcome
+answered (a, s) = Answered a s
+
+-- ---- a message that is turned down
+
+-- the Client Order ID of a request
+abbrev pub client_of : Message → Option (FixedText 20)
+client_of (message.NewOrder m) = Some (kept m.client_order_id.text)
+client_of (message.OrderCancelRequest m) = Some (kept m.client_order_id.text)
+client_of (message.OrderCancelReplaceRequest m) = Some (kept m.client_order_id.text)
+client_of (message.OrderMassCancelRequest m) = Some (kept m.client_order_id.text)
+client_of m = None
+
+abbrev pub rejection : ℕ → Message → Answer
+rejection code m = Reject (record { code = code; message_type = letter_of (kind_of m); client = client_of m })
+
+-- the type of what is no message is told where it is one of the channel's
+abbrev pub type_told : Fault → List ℕ → ℕ
+type_told fault.Short bs = 0
+type_told fault.Start bs = 0
+type_told fault.Unknown bs = 0
+type_told fault.Length bs = slice_index_or bs 3 0
+type_told (fault.Field at) bs = slice_index_or bs 3 0
+
+abbrev pub fault_rejection : Fault → List ℕ → Answer
+fault_rejection f bs = Reject (record { code = fault_number f; message_type = type_told f bs; client = None })
+
+-- ---- a message of a line that is logged on
+
+-- a partition by its number
+abbrev pub partition_at : ℕ → Option Partition
+partition_at n = if n == 1 then Some One else if n == 2 then Some Two else if n == 3 then Some Three else None
+
+abbrev pub partition_of : ℤ → Option Partition
+partition_of (pos n) = partition_at n
+partition_of (negsuc n) = None
+
+abbrev pub last_of : Kept → Option Partition → ℕ
+last_of k None = 0
+last_of k (Some p) = length (at k p)
+
+-- what the session makes of a Missed Message Request
+abbrev pub missed_by : Result (SessionState × AckResponse) RequestRefusal → ℕ → MissedMessageRequest → State → Outcome
+missed_by (Err e) line m s = Answered (rejection (request_number e) (message.MissedMessageRequest m)) s
+missed_by (Ok (x, r)) line m s = Answered (Ack r) (with_session s line x)
+
+abbrev pub missed : ℕ → MissedMessageRequest → State → Outcome
+missed line m s =
+    let p = partition_of m.partition in
+    missed_by (requested p m.last.value (last_of s.venue.kept p) (session s line)) line m s
+
+-- only the recovery channel's reader takes one
+abbrev pub missed_on : Channel → ℕ → MissedMessageRequest → State → Outcome
+missed_on Recovery line m s = missed line m s
+missed_on RealTime line m s = silently s
+
+-- the answer to a request, which is turned down or done
+abbrev pub answer_for : Message → Result (Unit {0}) Turned → Answer
+answer_for m (Ok u) = Silent
+answer_for m (Err t) = rejection (turned_number t) m
+
+-- what the orders make of a request
+abbrev pub requested_as : Message → State → Requested → Outcome
+requested_as m s (Refused t) = Answered (rejection (turned_number t) m) s
+requested_as m s (Done most v) = Reported most (with_venue s v)
+
+-- a Logout; the line's marked orders are withdrawn with a real-time one
+abbrev pub logout : Channel → ℕ → Time → State → Outcome
+logout RealTime line t s =
+    let after = line_closed line t s in
+    Reported (ended s.venue after.venue) after
+logout Recovery line t s = silently (with_session s line (recovery_closed (session s line)))
+
+-- the firm of a line's CompID
+abbrev pub firm_of : Option Participant → ℕ
+firm_of None = 0
+firm_of (Some p) = p.firm
+
+abbrev pub firm : State → ℕ → ℕ
+firm s line = firm_of (slice_get s.participants line)
+
+abbrev pub taken : Channel → ℕ → Message → Time → State → Outcome
+taken ch line (message.NewOrder m) t s = requested_as (message.NewOrder m) s (new_order line m t s.venue)
+taken ch line (message.OrderCancelRequest m) t s =
+    requested_as (message.OrderCancelRequest m) s (cancel line m t s.venue)
+taken ch line (message.OrderCancelReplaceRequest m) t s =
+    requested_as (message.OrderCancelReplaceRequest m) s (replace line m t s.venue)
+taken ch line (message.OrderMassCancelRequest m) t s =
+    requested_as (message.OrderMassCancelRequest m) s (mass_cancel s.participants (firm s line) line m t s.venue)
+taken ch line (message.MissedMessageRequest m) t s = missed_on ch line m s
+taken ch line (message.Logout m) t s = logout ch line t s
+taken ch line m t s = silently s
+
+-- any message: only a Logon is taken before a Logon
+abbrev pub heard : Channel → ℕ → Message → Time → State → Outcome
+heard ch line (message.Logon m) t s = answered (logon ch line m s)
+heard ch line m t s =
+    if on ch (session s line) then taken ch line m t s else Answered (rejection (session_number NotLoggedOn) m) s
+
+-- what a caller inside is told: the answer, and the state after it
+abbrev pub Took : Outcome → Answer → State → Type 0
+Took (Answered a u) r w = (r ≡ a) × (w ≡ u)
+Took (Reported most u) r w = (r ≡ Silent) × Follows most u w
+
+-- ---- the call
+
+-- who reads on a channel
+abbrev pub reader_of : Channel → Reader
+reader_of RealTime = reader.RealTime
+reader_of Recovery = reader.Recovery
+
+-- the checks that come before any message is looked at: room for an answer, and the line
+abbrev pub line_fault : ℕ → State → Option GatewayFault
+line_fault line s = if nat_lt line (length s.lines) then None else Some NoSuchLine
+
+abbrev pub call_fault : ℕ → ℕ → State → Option GatewayFault
+call_fault room line s = if nat_lt room REPLY then Some ShortBuffer else line_fault line s
+
+-- a buffer after these bytes were written to its front
+abbrev pub fronted : List ℕ → List ℕ → List ℕ
+fronted bs buffer = bs ++ drop (length bs) buffer
+
+-- a message is read; or what is given is none, and a Reject says so
+abbrev pub Understands : Channel → List ℕ → List ℕ → Result Message SessionFault → List ℕ → Type 0
+Understands ch bs buffer (Ok m) after = Reads (reader_of ch) bs m × (after ≡ buffer)
+Understands ch bs buffer (Err NotLoggedOn) after = ⊥
+Understands ch bs buffer (Err (Wire f)) after =
+    (verdict (reader_of ch) bs ≡ Some f) × (after ≡ fronted (answer_bytes (fault_rejection f bs)) buffer)
+
+-- what the call answers, the state after it, and the buffer after it
+abbrev pub Settled : Outcome → List ℕ → Result ℕ GatewayFault → State → List ℕ → Type 0
+Settled (Answered a u) buffer r w after =
+    (r ≡ Ok (length (answer_bytes a))) × (w ≡ u) × (after ≡ fronted (answer_bytes a) buffer)
+Settled (Reported most u) buffer r w after = (r ≡ Ok 0) × Follows most u w × (after ≡ buffer)
+
+abbrev pub Read : Option Fault → Channel → ℕ → List ℕ → Time → State → List ℕ → Result ℕ GatewayFault → State → List ℕ → Type 0
+Read (Some f) ch line bs t s buffer r w after =
+    (r ≡ Err (Session (Wire f))) × (w ≡ s) × (after ≡ fronted (answer_bytes (fault_rejection f bs)) buffer)
+Read None ch line bs t s buffer r w after =
+    (m : Message) × Reads (reader_of ch) bs m × Settled (heard ch line m t s) buffer r w after
+
+abbrev pub Given : Option GatewayFault → Channel → ℕ → List ℕ → Time → State → List ℕ → Result ℕ GatewayFault → State → List ℕ → Type 0
+Given (Some e) ch line bs t s buffer r w after = (r ≡ Err e) × (w ≡ s) × (after ≡ buffer)
+Given None ch line bs t s buffer r w after = Read (verdict (reader_of ch) bs) ch line bs t s buffer r w after
+
+-- a message given on a channel of a line: the checks, the answer, the state and the buffer after it
+abbrev pub Hears : Channel → ℕ → List ℕ → Time → State → List ℕ → Result ℕ GatewayFault → State → List ℕ → Type 0
+Hears ch line bs t s buffer r w after =
+    Given (call_fault (length buffer) line s) ch line bs t s buffer r w after

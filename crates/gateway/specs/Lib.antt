@@ -1,0 +1,6 @@
+pub mod Faults
+pub mod State
+pub mod Lines
+pub mod Hearing
+pub mod Calls
+pub mod Starting

@@ -1,0 +1,64 @@
+-- What happens to a line. Assumes nothing.
+use Rattle.std.specs.Prelude.{ℕ, ◌-◌, Bool, ◌&&◌, List, length, pos, slice_get, Some, None, Ok, Err, Option, Result, ◌==◌, if◌then◌else◌, true, false}
+use Rattle.std.specs.Str.{bytes_eq}
+use Rattle.answers.specs.declared.answer.Answer.{Answer}
+use Rattle.answers.specs.declared.answer.Answer.TheVariants.{LogonReply}
+use Rattle.configuration.specs.declared.participant.Participant.{Participant}
+use Rattle.gateway.specs.State.{State, session, with_session, with_venue, lasts}
+use Rattle.messages.specs.declared.logon.Logon.{Logon}
+use Rattle.orders.specs.Tables.{open_count}
+use Rattle.orders.specs.declared.row.Row.{Row}
+use Rattle.sessions.specs.Sessions.{logged_on, logon_number, closed}
+use Rattle.sessions.specs.declared.session.Channel.{Channel}
+use Rattle.sessions.specs.declared.session.LogonRefusal.{LogonRefusal}
+use Rattle.sessions.specs.declared.session.SessionState.{SessionState}
+use Rattle.texts.specs.Bytes.{said}
+use Rattle.texts.specs.Says.{says}
+use Rattle.texts.specs.declared.values.Time.{Time}
+use Rattle.gateway.specs.declared.lines.TheConstants.{BAD_CREDENTIALS}
+use Rattle.venue.specs.Selection.{meant, withdrawn_all}
+use Rattle.venue.specs.View.{View}
+use Rattle.venue.specs.declared.selection.Cause.TheVariants.{LineLost}
+
+-- CompID and password are the line's, and no other password is asked for
+abbrev pub is_known : Participant → Logon → Bool
+is_known p m =
+    bytes_eq (says m.comp_id) (said p.name.bytes)
+    && (bytes_eq (says m.password) (said p.password.bytes) && length (says m.new_password) == 0)
+
+abbrev pub admits : Option Participant → Logon → Bool
+admits None m = false
+admits (Some p) m = is_known p m
+
+-- the answer to a Logon, and the session after it
+abbrev pub admitted : Bool → ℕ → State → Result SessionState LogonRefusal → Answer × State
+admitted known line s (Err e) = (LogonReply (pos (logon_number e)), s)
+admitted true line s (Ok x) = (LogonReply (pos 0), with_session s line x)
+admitted false line s (Ok x) = (LogonReply (pos BAD_CREDENTIALS), s)
+
+abbrev pub logon : Channel → ℕ → Logon → State → Answer × State
+logon ch line m s =
+    admitted (admits (slice_get s.participants line) m) line s (logged_on ch (lasts s.venue.kept) (session s line))
+
+-- an open order of a line that is marked to end with it
+abbrev pub ends_with : ℕ → Row → Bool
+ends_with line = meant (λ owner. owner == line) (λ r. true) true
+
+-- the CompID's marked orders expire, if it is configured so
+abbrev pub ends_orders : Option Participant → Bool
+ends_orders None = false
+ends_orders (Some p) = p.ends_orders
+
+abbrev pub without_marked : Bool → ℕ → Time → View → View
+without_marked true line t v = withdrawn_all (ends_with line) LineLost t v
+without_marked false line t v = v
+
+-- how many orders end
+abbrev pub ended : View → View → ℕ
+ended v u = open_count v.rows - open_count u.rows
+
+-- both channels are closed
+abbrev pub line_closed : ℕ → Time → State → State
+line_closed line t s =
+    with_venue (with_session s line (closed (session s line)))
+    (without_marked (ends_orders (slice_get s.participants line)) line t s.venue)

@@ -1,0 +1,40 @@
+-- What a gateway keeps. Assumes nothing.
+use Rattle.std.specs.Prelude.{◌≡◌, ℕ, List, length, replicate, slice_index_or, slice_set}
+use Rattle.codes.specs.declared.session.Partition.TheVariants.{One, Two, Three}
+use Rattle.configuration.specs.declared.participant.Participant.{Participant}
+use Rattle.partitions.specs.PerPartition.{at}
+use Rattle.partitions.specs.declared.per_partition.PerPartition.{PerPartition}
+use Rattle.sessions.specs.Sessions.{fresh as fresh_session}
+use Rattle.sessions.specs.declared.session.SessionState.{SessionState}
+use Rattle.store.specs.Kept.{Kept}
+use Rattle.venue.specs.Steps.{Leaves}
+use Rattle.venue.specs.View.{View}
+
+pub record State : Type 0 where
+  -- the CompIDs; each has the line of its place in the list
+  pub participants : List Participant
+  -- the session of each line
+  pub lines : List SessionState
+  pub venue : View
+
+-- the session of a line
+abbrev pub session : State → ℕ → SessionState
+session s line = slice_index_or s.lines line fresh_session
+
+abbrev pub with_session : State → ℕ → SessionState → State
+with_session s line x = record s { lines = slice_set s.lines line x }
+
+abbrev pub with_venue : State → View → State
+with_venue s v = record s { venue = v }
+
+-- the last number of each partition
+abbrev pub lasts : Kept → PerPartition ℕ
+lasts k = record { one = length (at k One); two = length (at k Two); three = length (at k Three) }
+
+-- of a day that begins: nobody is logged on
+abbrev pub fresh : List Participant → View → State
+fresh ps v = record { participants = ps; lines = replicate (length ps) fresh_session; venue = v }
+
+-- w is u, but for what the matcher does next and for the free places, of which at most so many are used
+abbrev pub Follows : ℕ → State → State → Type 0
+Follows most u w = (w ≡ with_venue u w.venue) × Leaves most u.venue w.venue

@@ -1,0 +1,152 @@
+// The seven calls of a gateway.
+ghost use Rattle.std.specs.Prelude.{◌≡◌, ◌<◌, ◌≤◌, length, Some};
+ghost use Rattle.answers.specs.declared.sending.TheConstants.{REPLY};
+ghost use Rattle.answers.specs.Sent.{Sent};
+ghost use Rattle.gateway.specs.Calls.{Steps, Undoes, Loses, Sends, Recovers, stored_bytes, step_fault};
+ghost use Rattle.gateway.specs.Hearing.{Hears};
+ghost use Rattle.sessions.specs.declared.session.Channel.TheVariants.{RealTime, Recovery};
+
+use crate::fault::{GatewayFault, SessionFault};
+use crate::gateway::Gateway;
+use answers::sending::{write_end, write_report};
+use codes::session::Partition;
+use configuration::participant::Participant;
+use limits::TRADES;
+use matching::matcher::Matcher;
+use orders::trade::TradeRefusal;
+use sessions::download::Recovered;
+use sessions::session::Channel;
+use store::Store;
+use texts::values::Time;
+use venue::step::Step;
+use venue::venue::Venue;
+
+impl<M: Matcher, S: Store> Gateway<M, S> {
+    /// Takes a message on a line's real-time channel, and says how many bytes the answer has at the front of `reply`: 0
+    /// where there is none. The buffer needs 512 bytes; those past the answer stay. A message that is not taken is
+    /// answered with a Reject, a Logon with a Logon Reply; an order's fate is a report, which `send` hands out. Refused
+    /// with 6, 14, or with the wire's 1 to 5, which leave a Reject in `reply` too; the state is then as it was.
+    pub fn real_time_message(
+        &mut self,
+        line: usize,
+        message: &[u8],
+        time: Time,
+        reply: &mut [u8],
+    ) -> Result<usize, GatewayFault>
+        ensures { Hears RealTime line message.now time self.old reply.old result self.new reply.new }
+    {
+        self.hear(Channel::RealTime, line, message, time, reply)
+    }
+
+    /// Takes a message on a line's recovery channel, as `real_time_message` does on the other.
+    pub fn recovery_message(
+        &mut self,
+        line: usize,
+        message: &[u8],
+        time: Time,
+        reply: &mut [u8],
+    ) -> Result<usize, GatewayFault>
+        ensures { Hears Recovery line message.now time self.old reply.old result self.new reply.new }
+    {
+        self.hear(Channel::Recovery, line, message, time, reply)
+    }
+
+    /// Takes one event of the matcher, and says what it was. Refused with 41 or 29.
+    pub fn step(&mut self, time: Time) -> Result<Step, GatewayFault>
+        ensures { Steps time self.old result self.new }
+    {
+        if self.venue.trade_count() >= TRADES as u64 {
+            return Err(GatewayFault::TradesFull);
+        }
+        if self.venue.spare() < 2 {
+            return Err(GatewayFault::NoPlace);
+        }
+        Ok(self.venue.step(time))
+    }
+
+    /// Cancels a trade. Refused with 42, 43 or 29.
+    pub fn cancel_trade(&mut self, trade: u64, time: Time) -> Result<(), GatewayFault>
+        ensures { Undoes trade time self.old result self.new }
+    {
+        match self.venue.trade(trade) {
+            None => Err(GatewayFault::NoSuchTrade),
+            Some(row) if row.cancelled => Err(GatewayFault::AlreadyCancelled),
+            Some(_) if self.venue.spare() < 4 => Err(GatewayFault::NoPlace),
+            Some(_) => {
+                self.venue.undo(trade, time);
+                Ok(())
+            }
+        }
+    }
+
+    /// Closes both channels of a line whose connection is gone; its marked orders expire, if it is configured so.
+    /// Refused with 14 or 10.
+    pub fn line_lost(&mut self, line: usize, time: Time) -> Result<(), GatewayFault>
+        ensures { Loses line time self.old result self.new }
+    {
+        self.check_line(line)?;
+        self.check_on(Channel::RealTime, line)?;
+        self.close_line(line, time);
+        Ok(())
+    }
+
+    // Writes the report of a number to the front of the buffer.
+    fn write_stored(&self, partition: Partition, number: u32, out: &mut [u8]) -> usize
+        requires room { REPLY ≤ length out.old }
+        ensures { Sent (stored_bytes self.now.venue.kept partition number) out.old out.new result }
+    {
+        match self.venue.store().read(partition, number) {
+            Some(entry) => write_report(partition, number, entry.report, out),
+            None => 0,
+        }
+    }
+
+    /// Hands out the next report of the line's CompID on its real-time channel: its bytes, at the front of `out`, and
+    /// how many; 0 where there is none. Refused with 6, 14 or 10.
+    pub fn send(&mut self, line: usize, out: &mut [u8]) -> Result<usize, GatewayFault>
+        ensures { Sends line self.old out.old result self.new out.new }
+    {
+        self.check_call(out.len(), line)?;
+        self.check_on(Channel::RealTime, line)?;
+        let mut session = self.session(line);
+        let next = session.next_live(line, self.venue.store());
+        self.set_session(line, session);
+        match next {
+            Some((partition, number)) => Ok(self.write_stored(partition, number, out)),
+            None => Ok(0),
+        }
+    }
+
+    /// Hands out the next message of the line's download: a report, or the download's end; 0 where none runs. Refused
+    /// with 6, 14 or 10.
+    pub fn send_recovered(&mut self, line: usize, out: &mut [u8]) -> Result<usize, GatewayFault>
+        ensures { Recovers line self.old out.old result self.new out.new }
+    {
+        self.check_call(out.len(), line)?;
+        self.check_on(Channel::Recovery, line)?;
+        let mut session = self.session(line);
+        let next = session.next_recovered(line, self.venue.store());
+        self.set_session(line, session);
+        match next {
+            Some(Recovered::Report(partition, number)) => {
+                Ok(self.write_stored(partition, number, out))
+            }
+            Some(Recovered::Ended(response)) => Ok(write_end(response, out)),
+            None => Ok(0),
+        }
+    }
+
+    /// What the venue keeps: orders, trades, instruments, the matcher and the store, to look at.
+    pub fn venue(&self) -> &Venue<M, S>
+        ensures { result.now ≡ self.now.venue }
+    {
+        &self.venue
+    }
+
+    /// The CompIDs, each with the line of its place.
+    pub fn participants(&self) -> &[Participant]
+        ensures { result.now ≡ self.now.participants }
+    {
+        &self.participants
+    }
+}

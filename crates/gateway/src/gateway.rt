@@ -1,0 +1,151 @@
+// A gateway: what it keeps, how it starts, and its seven calls.
+ghost use Rattle.std.specs.Prelude.{◌≡◌, ◌<◌, length, replicate, IfOk};
+ghost use Rattle.std.specs.Result.{result_err};
+ghost use Rattle.sessions.specs.Sessions.{fresh as fresh_session};
+ghost use Rattle.gateway.specs.Starting.{is_unused};
+
+use crate::fault::{GatewayFault, SessionFault};
+use answers::sending::REPLY;
+use codes::session::Partition;
+use configuration::config::{Config, StartRefusal};
+use configuration::participant::Participant;
+use matching::matcher::Matcher;
+use partitions::per_partition::PerPartition;
+use sessions::session::{Channel, Session};
+use std::alloc::{AllocError, Global};
+use std::marker::Model;
+use store::Store;
+use venue::venue::Venue;
+
+/// A venue's order gateway: in a contract, its CompIDs, the session of each line, and what the venue keeps.
+#[derive(Drop)]
+pub struct Gateway<M: Matcher, S: Store> {
+    pub(crate) participants: Vec<Participant>,
+    pub(crate) sessions: Vec<Session>,
+    pub(crate) venue: Venue<M, S>,
+}
+
+impl<M: Matcher, S: Store> Model for Gateway<M, S> {
+    ghost use Rattle.std.specs.Prelude.{◌≡◌, length};
+    ghost use Rattle.std.specs.Coded.{codes};
+    ghost use Rattle.std.specs.FinMap as map;
+    ghost use Rattle.gateway.specs.State.{State};
+
+    ghost Value = { State };
+
+    ghost coded = { Prim.hlevel (codes, map.code) };
+
+    ghost view = { λ g. record { participants = g.participants.items; lines = g.sessions.items; venue = g.venue } };
+
+    ghost invariant = { λ g. length g.sessions.items ≡ length g.participants.items };
+}
+
+fn new_sessions(alloc: Global, count: usize) -> Result<Vec<Session>, AllocError>
+    ensures { IfOk result (λ v. v.items ≡ replicate count fresh_session) }
+{
+    vec![in alloc; Session::new(); count]
+}
+
+// Whether a store keeps no report.
+fn is_unused<S: Store>(store: &S) -> bool
+    ensures { result ≡ is_unused (S.kept store.now) }
+{
+    store.last(Partition::One) == 0
+        && store.last(Partition::Two) == 0
+        && store.last(Partition::Three) == 0
+}
+
+impl<M: Matcher, S: Store> Gateway<M, S> {
+    ghost use Rattle.gateway.specs.Starting.{is_new, Starts};
+    ghost use Rattle.gateway.specs.Calls.{on_fault};
+    ghost use Rattle.gateway.specs.Hearing.{call_fault, line_fault};
+    ghost use Rattle.gateway.specs.State.{session, with_session, lasts};
+    ghost use Rattle.venue.specs.View.{fresh as fresh_venue};
+
+    /// Starts a day: nobody is logged on. A matcher or a store that holds something is refused; whoever is refused gets
+    /// both back.
+    pub fn start(
+        alloc: Global,
+        config: Config,
+        matcher: M,
+        store: S,
+    ) -> Result<Gateway<M, S>, (StartRefusal, M, S)>
+        ensures { Starts (is_new (M.meaning matcher) (S.kept store)) config.participants.items (fresh_venue config.instruments.items (M.meaning matcher) (M.next matcher) (S.free store)) matcher store result }
+    {
+        if !matcher.is_empty() || !is_unused(&store) {
+            return Err((StartRefusal::NotEmpty, matcher, store));
+        }
+        let Config {
+            participants,
+            instruments,
+        } = config;
+        let Ok(sessions) = new_sessions(alloc, participants.len()) else {
+            return Err((StartRefusal::NoMemory, matcher, store));
+        };
+        match Venue::new(alloc, instruments, matcher, store) {
+            Err((matcher, store)) => Err((StartRefusal::NoMemory, matcher, store)),
+            Ok(venue) => Ok(Gateway {
+                participants,
+                sessions,
+                venue,
+            }),
+        }
+    }
+
+    // The session of a line.
+    pub(crate) fn session(&self, line: usize) -> Session
+        requires { line < length self.now.lines }
+        ensures { result ≡ session self.now line }
+    {
+        self.sessions[line]
+    }
+
+    pub(crate) fn set_session(&mut self, line: usize, session: Session)
+        requires { line < length self.old.lines }
+        ensures { self.new ≡ with_session self.old line session }
+    {
+        self.sessions[line] = session;
+    }
+
+    // The last number of each partition.
+    pub(crate) fn lasts(&self) -> PerPartition<u32>
+        ensures { result ≡ lasts self.now.venue.kept }
+    {
+        PerPartition {
+            one: self.venue.last(Partition::One),
+            two: self.venue.last(Partition::Two),
+            three: self.venue.last(Partition::Three),
+        }
+    }
+
+    // There is such a line.
+    pub(crate) fn check_line(&self, line: usize) -> Result<(), GatewayFault>
+        ensures { result_err result ≡ line_fault line self.now }
+    {
+        if line >= self.sessions.len() {
+            return Err(GatewayFault::NoSuchLine);
+        }
+        Ok(())
+    }
+
+    // The buffer has room for any message, and there is such a line.
+    pub(crate) fn check_call(&self, room: usize, line: usize) -> Result<(), GatewayFault>
+        ensures { result_err result ≡ call_fault room line self.now }
+    {
+        if room < REPLY {
+            return Err(GatewayFault::ShortBuffer);
+        }
+        self.check_line(line)
+    }
+
+    // The line is logged on, on the channel.
+    pub(crate) fn check_on(&self, channel: Channel, line: usize) -> Result<(), GatewayFault>
+        requires { line < length self.now.lines }
+        ensures { result_err result ≡ on_fault channel line self.now }
+    {
+        if !self.session(line).is_on(channel) {
+            return Err(GatewayFault::Session(SessionFault::NotLoggedOn));
+        }
+        Ok(())
+    }
+}

@@ -1,0 +1,239 @@
+// What a message gets, and what it leaves.
+ghost use Rattle.std.specs.Prelude.{◌≡◌, ◌<◌, ◌≤◌, true, length};
+ghost use Rattle.answers.specs.declared.sending.TheConstants.{REPLY};
+ghost use Rattle.report_messages.specs.Back.{kept};
+ghost use Rattle.sessions.specs.Sessions.{on};
+ghost use Rattle.gateway.specs.State.{session};
+ghost use Rattle.gateway.specs.Hearing.{Took, Understands, Hears, answer_for, client_of, fault_rejection, firm_of, firm, heard, last_of, logout, missed_on, partition_of, reader_of, rejection, taken, type_told};
+
+use crate::fault::{GatewayFault, SessionFault};
+use crate::gateway::Gateway;
+use answers::answer::{Answer, Rejection};
+use codes::session::Partition;
+use layout::fault::Fault;
+use matching::matcher::Matcher;
+use messages::missed_message_request::MissedMessageRequest;
+use requests::cancel::cancel;
+use requests::mass_cancel::mass_cancel;
+use requests::new_order::new_order;
+use requests::refusal::Turned;
+use requests::replace::replace;
+use sessions::session::Channel;
+use store::Store;
+use texts::fixed::FixedText;
+use texts::text::Name;
+use texts::values::Time;
+use wire::kinds::Channel as Reader;
+use wire::message::{Message, read};
+
+// Who reads on a channel.
+fn reader_of(channel: Channel) -> Reader
+    ensures { result ≡ reader_of channel }
+{
+    match channel {
+        Channel::RealTime => Reader::RealTime,
+        Channel::Recovery => Reader::Recovery,
+    }
+}
+
+#[tactic(auto, using(report_messages::proofs::Texts::kept_same))]
+fn kept(name: &Name<'_, 20>) -> FixedText<20>
+    ensures { result ≡ kept name.now.text }
+{
+    name.text.keep()
+}
+
+// The Client Order ID of a request.
+fn client_of(m: &Message<'_>) -> Option<FixedText<20>>
+    ensures { result ≡ client_of m.now }
+{
+    match m {
+        Message::NewOrder(m) => Some(kept(&m.client_order_id)),
+        Message::OrderCancelRequest(m) => Some(kept(&m.client_order_id)),
+        Message::OrderCancelReplaceRequest(m) => Some(kept(&m.client_order_id)),
+        Message::OrderMassCancelRequest(m) => Some(kept(&m.client_order_id)),
+        _ => None,
+    }
+}
+
+fn rejection(code: u8, m: &Message<'_>) -> Answer
+    ensures { result ≡ rejection code m.now }
+{
+    Answer::Reject(Rejection {
+        code,
+        message_type: m.kind().letter(),
+        client: client_of(m),
+    })
+}
+
+// The type byte of what is no message, where it is one of the channel's; else 0.
+fn type_told(fault: Fault, bytes: &[u8]) -> u8
+    ensures { result ≡ type_told fault bytes.now }
+{
+    match fault {
+        Fault::Short | Fault::Start | Fault::Unknown => 0,
+        Fault::Length | Fault::Field(_) => bytes.get(3).copied().unwrap_or(0),
+    }
+}
+
+fn fault_rejection(fault: Fault, bytes: &[u8]) -> Answer
+    ensures { result ≡ fault_rejection fault bytes.now }
+{
+    Answer::Reject(Rejection {
+        code: fault.number(),
+        message_type: type_told(fault, bytes),
+        client: None,
+    })
+}
+
+// Reads a message, or answers what is none with a Reject.
+fn understand<'a>(
+    channel: Channel,
+    bytes: &'a [u8],
+    reply: &mut [u8],
+) -> Result<Message<'a>, SessionFault>
+    requires { REPLY ≤ length reply.old }
+    ensures { Understands channel bytes.now reply.old result reply.new }
+{
+    match read(reader_of(channel), bytes) {
+        Ok(message) => Ok(message),
+        Err(fault) => {
+            let _ = fault_rejection(fault, bytes).write(reply);
+            Err(SessionFault::from(fault))
+        }
+    }
+}
+
+// A partition by its number.
+fn partition_of(number: i8) -> Option<Partition>
+    ensures { result ≡ partition_of number }
+{
+    match u8::try_from(number) {
+        Ok(1) => Some(Partition::One),
+        Ok(2) => Some(Partition::Two),
+        Ok(3) => Some(Partition::Three),
+        _ => None,
+    }
+}
+
+// The answer to a request for orders.
+fn answer_for(m: &Message<'_>, done: Result<(), Turned>) -> Answer
+    ensures { result ≡ answer_for m.now done }
+{
+    match done {
+        Ok(()) => Answer::Silent,
+        Err(turned) => rejection(turned.number(), m),
+    }
+}
+
+impl<M: Matcher, S: Store> Gateway<M, S> {
+    fn firm(&self, line: usize) -> u32
+        ensures { result ≡ firm self.now line }
+    {
+        match self.participants.get(line) {
+            Some(participant) => participant.firm,
+            None => 0,
+        }
+    }
+
+    fn last_of(&self, partition: Option<Partition>) -> u32
+        ensures { result ≡ last_of self.now.venue.kept partition }
+    {
+        match partition {
+            Some(partition) => self.venue.last(partition),
+            None => 0,
+        }
+    }
+
+    // A Missed Message Request, on the channel that has them.
+    fn miss(&mut self, channel: Channel, line: usize, m: &MissedMessageRequest) -> Answer
+        requires there { line < length self.old.lines }
+        requires logged_on { on channel (session self.old line) ≡ true }
+        ensures { Took (missed_on channel line m.now self.old) result self.new }
+    {
+        match channel {
+            Channel::RealTime => Answer::Silent,
+            Channel::Recovery => {
+                let partition = partition_of(m.partition);
+                let last = self.last_of(partition);
+                match self.session(line).request(partition, m.last.number(), last) {
+                    Err(e) => rejection(e.number(), &Message::MissedMessageRequest(*m)),
+                    Ok((session, response)) => {
+                        self.set_session(line, session);
+                        Answer::Ack(response)
+                    }
+                }
+            }
+        }
+    }
+
+    // A Logout.
+    fn logout(&mut self, channel: Channel, line: usize, time: Time) -> Answer
+        requires { line < length self.old.lines }
+        ensures { Took (logout channel line time self.old) result self.new }
+    {
+        match channel {
+            Channel::RealTime => self.close_line(line, time),
+            Channel::Recovery => {
+                let session = self.session(line).close_recovery();
+                self.set_session(line, session);
+            }
+        }
+        Answer::Silent
+    }
+
+    // A message of a line that is logged on.
+    #[tactic(auto, using(crate::proofs::Requested::obeyed))]
+    fn obey(&mut self, channel: Channel, line: usize, m: &Message<'_>, time: Time) -> Answer
+        requires there { line < length self.old.lines }
+        requires logged_on { on channel (session self.old line) ≡ true }
+        ensures { Took (taken channel line m.now time self.old) result self.new }
+    {
+        match m {
+            Message::NewOrder(r) => answer_for(m, new_order(&mut self.venue, line, r, time)),
+            Message::OrderCancelRequest(r) => answer_for(m, cancel(&mut self.venue, line, r, time)),
+            Message::OrderCancelReplaceRequest(r) => {
+                answer_for(m, replace(&mut self.venue, line, r, time))
+            }
+            Message::OrderMassCancelRequest(r) => {
+                let firm = self.firm(line);
+                let done = mass_cancel(&mut self.venue, &self.participants, firm, line, r, time);
+                answer_for(m, done)
+            }
+            Message::MissedMessageRequest(r) => self.miss(channel, line, r),
+            Message::Logout(_) => self.logout(channel, line, time),
+            _ => Answer::Silent,
+        }
+    }
+
+    // Any message of a line.
+    fn take(&mut self, channel: Channel, line: usize, m: &Message<'_>, time: Time) -> Answer
+        requires { line < length self.old.lines }
+        ensures { Took (heard channel line m.now time self.old) result self.new }
+    {
+        if let Message::Logon(logon) = m {
+            return self.logon(channel, line, logon);
+        }
+        if !self.session(line).is_on(channel) {
+            return rejection(SessionFault::NotLoggedOn.number(), m);
+        }
+        self.obey(channel, line, m, time)
+    }
+
+    // A message given on a channel of a line.
+    pub(crate) fn hear(
+        &mut self,
+        channel: Channel,
+        line: usize,
+        message: &[u8],
+        time: Time,
+        reply: &mut [u8],
+    ) -> Result<usize, GatewayFault>
+        ensures { Hears channel line message.now time self.old reply.old result self.new reply.new }
+    {
+        self.check_call(reply.len(), line)?;
+        let m = understand(channel, message, reply)?;
+        let answer = self.take(channel, line, &m, time);
+        Ok(answer.write(reply))
+    }
+}

@@ -1,0 +1,9 @@
+pub mod Outcomes
+pub mod Instruments
+pub mod Checks
+pub mod Refusals
+pub mod NewOrders
+pub mod Naming
+pub mod Cancels
+pub mod Replaces
+pub mod MassCancels

@@ -1,0 +1,105 @@
+-- What a New Order gets. Assumes nothing.
+use Rattle.std.specs.Prelude.{ℕ, ◌&&◌, pos, Some, None, Ok, Err, Option, Result, nat_lt, if◌then◌else◌}
+use Rattle.std.specs.Option.{option_map}
+use Rattle.codes.specs.declared.report.Status.TheVariants as status
+use Rattle.matching.specs.Meaning.{serves}
+use Rattle.messages.specs.declared.new_order.NewOrder.{NewOrder}
+use Rattle.orders.specs.declared.row.Ask.{Ask}
+use Rattle.orders.specs.declared.row.Terms.{Terms}
+use Rattle.report_messages.specs.Back.{kept}
+use Rattle.reports.specs.declared.report.Entry.{Entry}
+use Rattle.reports.specs.declared.report.ExecutionReport.{ExecutionReport}
+use Rattle.reports.specs.declared.report.Report.TheVariants.{Execution}
+use Rattle.requests.specs.Checks.{shown, is_plain, is_priced, is_timely, is_own, told_capacity, price_of}
+use Rattle.requests.specs.Instruments.{look_up}
+use Rattle.requests.specs.Outcomes.{Outcome, spare}
+use Rattle.requests.specs.Outcomes.Outcome.{Refused, Done}
+use Rattle.requests.specs.Refusals.{refusal_number, of_accept}
+use Rattle.requests.specs.declared.listing.Listing.{Listing}
+use Rattle.requests.specs.declared.refusal.Refusal.{Refusal}
+use Rattle.requests.specs.declared.refusal.Refusal.TheVariants.{BookNotServed, BadTerms}
+use Rattle.requests.specs.declared.refusal.Turned.TheVariants.{UnknownInstrument, NoPlace}
+use Rattle.terms.specs.Pricing.{order_type_of}
+use Rattle.terms.specs.Target.{book_of}
+use Rattle.terms.specs.declared.execution.Execution.TheVariants.{Rejected}
+use Rattle.texts.specs.Says.{says}
+use Rattle.texts.specs.declared.values.Time.{Time}
+use Rattle.venue.specs.declared.refusal.AcceptRefusal.{AcceptRefusal}
+use Rattle.venue.specs.Steps.{accept_fault, accepted_to, noted}
+use Rattle.venue.specs.View.{View}
+
+-- what it asks for, in shares that can be ordered
+abbrev pub asks : NewOrder → ℕ → Ask
+asks m q = record {
+  client = kept m.client_order_id.text;
+  price = price_of m.pricing;
+  display = m.display_quantity;
+  quantity = q;
+}
+
+abbrev pub ask_of : NewOrder → Option Ask
+ask_of m =
+    if is_priced m.pricing && is_plain m.min_quantity m.passive_only && is_timely m.time_in_force && is_own m.capacity
+    then option_map (asks m) (shown m.quantity m.display_quantity)
+    else None
+
+abbrev pub or_bad : Option Ask → Result Ask Refusal
+or_bad None = Err BadTerms
+or_bad (Some a) = Ok a
+
+-- why it is not accepted, before the orders and the matcher are asked for room
+abbrev pub asked : NewOrder → View → Result Ask Refusal
+asked m v = if serves v.market (book_of m.target) then or_bad (ask_of m) else Err BookNotServed
+
+abbrev pub terms_of : ℕ → ℕ → NewOrder → Terms
+terms_of line place m = record {
+  owner = line;
+  instrument = place;
+  side = m.side;
+  book = book_of m.target;
+  kind = order_type_of m.pricing;
+  time_in_force = m.time_in_force;
+  capacity = told_capacity m.capacity;
+  auto_cancel = m.auto_cancel;
+}
+
+-- the report of an order that is not accepted: it has no number, and nothing of it is open
+abbrev pub rejected : Refusal → Listing → NewOrder → Time → ExecutionReport
+rejected e l m t = record {
+  client = kept m.client_order_id.text;
+  order = None;
+  execution = Rejected (pos (refusal_number e));
+  reference = None;
+  status = status.Rejected;
+  price = record { raw = pos 0 };
+  quantity = pos 0;
+  leaves = pos 0;
+  display = m.display_quantity;
+  symbol = l.instrument.symbol;
+  side = m.side;
+  trade = 0;
+  time = t;
+  book = book_of m.target;
+  capacity = told_capacity m.capacity;
+}
+
+abbrev pub rejection : ℕ → Refusal → Listing → NewOrder → Time → Entry
+rejection line e l m t = record { owner = line; report = Execution (rejected e l m t) }
+
+abbrev pub rejects : ℕ → Refusal → Listing → NewOrder → Time → View → Outcome
+rejects line e l m t v = Done 1 (noted l.instrument.partition (rejection line e l m t) v)
+
+abbrev pub accepts : Option AcceptRefusal → ℕ → Ask → Listing → NewOrder → Time → View → Outcome
+accepts (Some e) line a l m t v = rejects line (of_accept e) l m t v
+accepts None line a l m t v = Done 1 (accepted_to t (terms_of line l.place m) a v)
+
+abbrev pub ordered : Result Ask Refusal → ℕ → Listing → NewOrder → Time → View → Outcome
+ordered (Err e) line l m t v = rejects line e l m t v
+ordered (Ok a) line l m t v = accepts (accept_fault v) line a l m t v
+
+abbrev pub new_order_in : Option Listing → ℕ → NewOrder → Time → View → Outcome
+new_order_in None line m t v = Refused UnknownInstrument
+new_order_in (Some l) line m t v = if nat_lt (spare v) 2 then Refused NoPlace else ordered (asked m v) line l m t v
+
+abbrev pub new_order : ℕ → NewOrder → Time → View → Outcome
+new_order line m t v = new_order_in (look_up v.instruments (says m.symbol)) line m t v

@@ -1,0 +1,98 @@
+// A Cancel Request.
+ghost use Rattle.std.specs.Prelude.{◌≡◌, ◌≤◌, ◌<◌, ◌+◌, Some, IfOk};
+ghost use Rattle.keyed.specs.Numbers.{under};
+ghost use Rattle.orders.specs.Tables.{open_count};
+ghost use Rattle.requests.specs.Cancels.{served, refusal_entry, refuses, named_by, cancel};
+ghost use Rattle.requests.specs.Outcomes.{Gives};
+
+use crate::keeping::kept;
+use crate::listing::{Listing, look_up};
+use crate::naming::Naming;
+use crate::refusal::{Refusal, Turned};
+use codes::order::Book;
+use matching::matcher::Matcher;
+use messages::order_cancel_request::OrderCancelRequest;
+use orders::row::Row;
+use reports::report::{CancelReject, Entry, Report};
+use store::Store;
+use texts::fixed::FixedText;
+use texts::values::Time;
+use venue::venue::Venue;
+
+// An open order that is named, in a book that is served.
+pub(crate) fn served<M: Matcher, S: Store>(
+    venue: &Venue<M, S>,
+    book: Book,
+    naming: &Naming,
+) -> Result<Row, Refusal>
+    ensures value { result ≡ served book naming.now venue.now }
+    ensures there { IfOk result (λ r. under venue.now.rows r.number ≡ Some r) }
+    ensures leaves { IfOk result (λ r. 0 < r.leaves) }
+{
+    if !venue.matcher().serves(book) {
+        return Err(Refusal::BookNotServed);
+    }
+    naming.order(venue)
+}
+
+// Tells that a cancel or a replace is refused.
+pub(crate) fn refuse<M: Matcher, S: Store>(
+    venue: &mut Venue<M, S>,
+    line: usize,
+    refusal: Refusal,
+    client: FixedText<20>,
+    listing: &Listing,
+    time: Time,
+) -> Result<(), Turned>
+    requires { open_count venue.old.rows + 1 ≤ venue.old.free }
+    ensures { Gives (refuses line refusal client listing.now time venue.old) venue.old result venue.new }
+{
+    let report = Report::CancelReject(CancelReject {
+        client,
+        reason: i32::from(refusal.number()),
+        time,
+    });
+    let entry = Entry {
+        owner: line,
+        report,
+    };
+    venue.note(listing.instrument.partition, entry);
+    Ok(())
+}
+
+fn named_by(line: usize, listing: &Listing, m: &OrderCancelRequest<'_>) -> Naming
+    ensures { result ≡ named_by line listing.now m.now }
+{
+    Naming {
+        line,
+        order: m.order_id,
+        original: kept(&m.original_id),
+        place: listing.place,
+        side: m.side,
+        book: m.book,
+    }
+}
+
+/// Cancels an open order of a line's CompID, or reports why not.
+#[tactic(auto, using(crate::proofs::Found::opened))]
+pub fn cancel<M: Matcher, S: Store>(
+    venue: &mut Venue<M, S>,
+    line: usize,
+    m: &OrderCancelRequest<'_>,
+    time: Time,
+) -> Result<(), Turned>
+    ensures { Gives (cancel line m.now time venue.old) venue.old result venue.new }
+{
+    let Some(listing) = look_up(venue.instruments(), m.symbol.as_bytes()) else {
+        return Err(Turned::UnknownInstrument);
+    };
+    let client = kept(&m.client_order_id.text);
+    match served(venue, m.book, &named_by(line, &listing, m)) {
+        Ok(row) => {
+            venue.cancel(row.number, client, time);
+            Ok(())
+        }
+        Err(_) if venue.spare() < 1 => Err(Turned::NoPlace),
+        Err(refusal) => refuse(venue, line, refusal, client, &listing, time),
+    }
+}

@@ -1,0 +1,80 @@
+// The order that a request names.
+ghost use Rattle.std.specs.Prelude.{◌≡◌, ◌<◌, Some, IfOk};
+ghost use Rattle.keyed.specs.Numbers.{under};
+ghost use Rattle.orders.specs.Tables.{owned};
+ghost use Rattle.requests.specs.Naming.{found, agrees, if_agreeing, if_open, named};
+
+use crate::refusal::Refusal;
+use codes::code::Code;
+use codes::order::{Book, Side};
+use matching::matcher::Matcher;
+use orders::order::Order;
+use orders::row::Row;
+use store::Store;
+use texts::fixed::FixedText;
+use texts::identifiers::OrderId;
+use venue::venue::Venue;
+
+/// How a request names an order of a line's CompID: by its Order ID, else by its current client order id; instrument,
+/// side and book have to agree.
+#[derive(Clone, Copy)]
+pub struct Naming {
+    pub line: usize,
+    pub order: Option<OrderId>,
+    pub original: FixedText<20>,
+    /// The instrument's place.
+    pub place: usize,
+    pub side: Side,
+    pub book: Book,
+}
+
+// An order, where it is the line's.
+fn owned(line: usize, order: Option<Order>) -> Option<Row>
+    ensures { result ≡ owned line order }
+{
+    let row = order?.row();
+    if row.terms.owner != line {
+        return None;
+    }
+    Some(row)
+}
+
+impl Naming {
+    fn found<M: Matcher, S: Store>(&self, venue: &Venue<M, S>) -> Option<Row>
+        ensures { result ≡ found self.now.line self.now.order self.now.original venue.now.rows }
+    {
+        match self.order {
+            Some(id) => owned(self.line, venue.order(id.number)),
+            None => {
+                let order = venue.named(self.line, self.original)?;
+                Some(order.row())
+            }
+        }
+    }
+
+    fn agrees(&self, row: &Row) -> bool
+        ensures { result ≡ agrees self.now row.now }
+    {
+        row.terms.instrument == self.place
+            && row.terms.side.byte() == self.side.byte()
+            && row.terms.book.byte() == self.book.byte()
+    }
+
+    /// The order that is named, if it is there, agrees and is open.
+    #[tactic(auto, using(crate::proofs::Found::named_there))]
+    pub fn order<M: Matcher, S: Store>(&self, venue: &Venue<M, S>) -> Result<Row, Refusal>
+        ensures value { result ≡ named self.now venue.now.rows }
+        ensures there { IfOk result (λ r. under venue.now.rows r.number ≡ Some r) }
+        ensures leaves { IfOk result (λ r. 0 < r.leaves) }
+    {
+        venue.sound();
+        let row = self.found(venue).ok_or(Refusal::NoSuchOrder)?;
+        if !self.agrees(&row) {
+            return Err(Refusal::NoSuchOrder);
+        }
+        if row.leaves == 0 {
+            return Err(Refusal::NotOpen);
+        }
+        Ok(row)
+    }
+}

@@ -1,0 +1,138 @@
+// A New Order.
+ghost use Rattle.std.specs.Prelude.{◌≡◌, ◌≤◌, ◌<◌, ◌+◌, length, true, IfSome, IfOk};
+ghost use Rattle.orders.specs.Rows.{orderable};
+ghost use Rattle.orders.specs.Tables.{open_count};
+ghost use Rattle.requests.specs.NewOrders.{asks, ask_of, asked, terms_of, rejected, rejection, rejects, ordered, new_order};
+ghost use Rattle.requests.specs.Outcomes.{Gives};
+ghost use Rattle.requests.specs.Refusals.{refusal_number};
+
+use crate::checks::{is_own, is_plain, is_priced, is_timely, price_of, shown, told_capacity};
+use crate::keeping::kept;
+use crate::listing::{Listing, look_up};
+use crate::refusal::{Refusal, Turned};
+use codes::report::Status;
+use matching::matcher::Matcher;
+use messages::new_order::NewOrder;
+use orders::row::{Ask, Terms};
+use reports::report::{Entry, ExecutionReport, Report};
+use store::Store;
+use terms::execution::Execution;
+use texts::values::{Price, Time};
+use venue::venue::Venue;
+
+// What it asks for; none where that is not taken.
+fn ask_of(m: &NewOrder<'_>) -> Option<Ask>
+    ensures value { result ≡ ask_of m.now }
+    ensures orderable { IfSome result (λ a. orderable a.quantity ≡ true) }
+{
+    let fits = is_priced(m.pricing)
+        && is_plain(m.min_quantity, m.passive_only)
+        && is_timely(m.time_in_force)
+        && is_own(m.capacity);
+    if !fits {
+        return None;
+    }
+    let quantity = shown(m.quantity, m.display_quantity)?;
+    Some(Ask {
+        client: kept(&m.client_order_id.text),
+        price: price_of(m.pricing),
+        display: m.display_quantity,
+        quantity,
+    })
+}
+
+fn terms_of(line: usize, place: usize, m: &NewOrder<'_>) -> Terms
+    ensures { result ≡ terms_of line place m.now }
+{
+    Terms {
+        owner: line,
+        instrument: place,
+        side: m.side,
+        book: m.target.book(),
+        kind: m.pricing.order_type(),
+        time_in_force: m.time_in_force,
+        capacity: told_capacity(m.capacity),
+        auto_cancel: m.auto_cancel,
+    }
+}
+
+fn rejected(refusal: Refusal, listing: &Listing, m: &NewOrder<'_>, time: Time) -> ExecutionReport
+    ensures { result ≡ rejected refusal listing.now m.now time }
+{
+    ExecutionReport {
+        client: kept(&m.client_order_id.text),
+        order: None,
+        execution: Execution::Rejected(i32::from(refusal.number())),
+        reference: None,
+        status: Status::Rejected,
+        price: Price { raw: 0 },
+        quantity: 0,
+        leaves: 0,
+        display: m.display_quantity,
+        symbol: listing.instrument.symbol,
+        side: m.side,
+        trade: 0,
+        time,
+        book: m.target.book(),
+        capacity: told_capacity(m.capacity),
+    }
+}
+
+// Tells that an order is not accepted.
+fn reject<M: Matcher, S: Store>(
+    venue: &mut Venue<M, S>,
+    line: usize,
+    refusal: Refusal,
+    listing: &Listing,
+    m: &NewOrder<'_>,
+    time: Time,
+) -> Result<(), Turned>
+    requires { open_count venue.old.rows + 1 ≤ venue.old.free }
+    ensures { Gives (rejects line refusal listing.now m.now time venue.old) venue.old result venue.new }
+{
+    let report = Report::Execution(rejected(refusal, listing, m, time));
+    let entry = Entry {
+        owner: line,
+        report,
+    };
+    venue.note(listing.instrument.partition, entry);
+    Ok(())
+}
+
+// Why it is not accepted, before there is a place for it; else what it asks for.
+fn asked<M: Matcher, S: Store>(venue: &Venue<M, S>, m: &NewOrder<'_>) -> Result<Ask, Refusal>
+    ensures value { result ≡ asked m.now venue.now }
+    ensures orderable { IfOk result (λ a. orderable a.quantity ≡ true) }
+{
+    if !venue.matcher().serves(m.target.book()) {
+        return Err(Refusal::BookNotServed);
+    }
+    ask_of(m).ok_or(Refusal::BadTerms)
+}
+
+/// Accepts an order of a line's CompID, or reports why not.
+pub fn new_order<M: Matcher, S: Store>(
+    venue: &mut Venue<M, S>,
+    line: usize,
+    m: &NewOrder<'_>,
+    time: Time,
+) -> Result<(), Turned>
+    ensures { Gives (new_order line m.now time venue.old) venue.old result venue.new }
+{
+    let Some(listing) = look_up(venue.instruments(), m.symbol.as_bytes()) else {
+        return Err(Turned::UnknownInstrument);
+    };
+    if venue.spare() < 2 {
+        return Err(Turned::NoPlace);
+    }
+    match asked(venue, m) {
+        Err(refusal) => reject(venue, line, refusal, &listing, m, time),
+        Ok(ask) => {
+            let terms = terms_of(line, listing.place, m);
+            match venue.accept(terms, ask, m.pricing, time) {
+                Ok(_) => Ok(()),
+                Err(e) => reject(venue, line, Refusal::of_accept(e), &listing, m, time),
+            }
+        }
+    }
+}

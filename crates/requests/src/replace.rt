@@ -1,0 +1,113 @@
+// A Cancel/Replace Request.
+ghost use Rattle.std.specs.Prelude.{◌≡◌, ◌≤◌, ◌<◌, ◌+◌, true, Some, IfOk, IfSome};
+ghost use Rattle.keyed.specs.Numbers.{under};
+ghost use Rattle.orders.specs.Rows.{orderable};
+ghost use Rattle.requests.specs.Replaces.{asks, ask_of, above, of_row, named_by, judged, replace};
+ghost use Rattle.requests.specs.Outcomes.{Gives};
+ghost use Rattle.venue.specs.Steps.{Replaceable};
+
+use crate::cancel::{refuse, served};
+use crate::checks::{is_plain, is_timely, may_cost, shown};
+use crate::keeping::kept;
+use crate::listing::{Listing, look_up};
+use crate::naming::Naming;
+use crate::refusal::{Refusal, Turned};
+use codes::code::Code;
+use matching::matcher::Matcher;
+use messages::order_cancel_replace_request::OrderCancelReplaceRequest;
+use orders::row::{Ask, Row};
+use store::Store;
+use texts::values::Time;
+use venue::venue::Venue;
+
+/// An order's number, and what it is to become.
+#[derive(Clone, Copy)]
+pub struct Replacement {
+    pub number: u64,
+    pub ask: Ask,
+}
+
+// What it asks for of an order; none where that is not taken.
+fn ask_of(m: &OrderCancelReplaceRequest<'_>, row: &Row) -> Option<Ask>
+    ensures value { result ≡ ask_of m.now row.now }
+    ensures orderable { IfSome result (λ a. orderable a.quantity ≡ true) }
+{
+    let fits = may_cost(row.terms.kind, m.limit_price)
+        && is_plain(m.min_quantity, m.passive_only)
+        && is_timely(m.time_in_force);
+    if !fits {
+        return None;
+    }
+    let quantity = shown(m.quantity, m.display_quantity)?;
+    Some(Ask {
+        client: kept(&m.client_order_id.text),
+        price: m.limit_price,
+        display: m.display_quantity,
+        quantity,
+    })
+}
+
+fn named_by(line: usize, listing: &Listing, m: &OrderCancelReplaceRequest<'_>) -> Naming
+    ensures { result ≡ named_by line listing.now m.now }
+{
+    Naming {
+        line,
+        order: m.order_id,
+        original: kept(&m.original_id),
+        place: listing.place,
+        side: m.side,
+        book: m.target.book(),
+    }
+}
+
+// The order and what it becomes, or why not.
+#[tactic(auto, using(crate::proofs::Found::replaceable))]
+fn judge<M: Matcher, S: Store>(
+    venue: &Venue<M, S>,
+    line: usize,
+    listing: &Listing,
+    m: &OrderCancelReplaceRequest<'_>,
+) -> Result<Replacement, Refusal>
+    ensures value { result ≡ judged line listing.now m.now venue.now }
+    ensures allowed { IfOk result (λ r. Replaceable venue.now r.number r.ask) }
+{
+    let row = served(venue, m.target.book(), &named_by(line, listing, m))?;
+    if row.terms.time_in_force.byte() != m.time_in_force.byte() {
+        return Err(Refusal::TimeInForceDiffers);
+    }
+    let ask = ask_of(m, &row).ok_or(Refusal::BadTerms)?;
+    if ask.quantity <= row.executed {
+        return Err(Refusal::NotAboveExecuted);
+    }
+    Ok(Replacement {
+        number: row.number,
+        ask,
+    })
+}
+
+/// Replaces quantity, price and client order id of an open order of a line's CompID, or reports why not.
+pub fn replace<M: Matcher, S: Store>(
+    venue: &mut Venue<M, S>,
+    line: usize,
+    m: &OrderCancelReplaceRequest<'_>,
+    time: Time,
+) -> Result<(), Turned>
+    ensures { Gives (replace line m.now time venue.old) venue.old result venue.new }
+{
+    let Some(listing) = look_up(venue.instruments(), m.symbol.as_bytes()) else {
+        return Err(Turned::UnknownInstrument);
+    };
+    if venue.spare() < 1 {
+        return Err(Turned::NoPlace);
+    }
+    match judge(venue, line, &listing, m) {
+        Ok(r) => {
+            venue.replace(r.number, r.ask, time);
+            Ok(())
+        }
+        Err(refusal) => {
+            let client = kept(&m.client_order_id.text);
+            refuse(venue, line, refusal, client, &listing, time)
+        }
+    }
+}
