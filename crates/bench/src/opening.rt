@@ -47,7 +47,13 @@ impl Opening {
         }
     }
 
-    pub fn comp_id(&mut self, name: &str, password: &str, firm: u32, ends: bool) -> Result<(), AllocError> {
+    pub fn comp_id(
+        &mut self,
+        name: &str,
+        password: &str,
+        firm: u32,
+        ends: bool,
+    ) -> Result<(), AllocError> {
         match Participant::new(name.as_bytes(), password.as_bytes(), firm, ends) {
             Ok(participant) => self.participants.push(participant)?,
             Err(_) => self.unfit = true,
@@ -55,7 +61,12 @@ impl Opening {
         Ok(())
     }
 
-    pub fn instrument(&mut self, symbol: &str, segment: &str, partition: u8) -> Result<(), AllocError> {
+    pub fn instrument(
+        &mut self,
+        symbol: &str,
+        segment: &str,
+        partition: u8,
+    ) -> Result<(), AllocError> {
         match Instrument::new(symbol.as_bytes(), segment.as_bytes(), partition) {
             Ok(instrument) => self.instruments.push(instrument)?,
             Err(_) => self.unfit = true,

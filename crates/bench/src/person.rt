@@ -47,7 +47,15 @@ pub fn ask<R: Print + AllocGlobal, M: Matcher, S: Store>(
     let mut message = [0; LONGEST];
     let length = write(&letter.message(), &mut message).unwrap_or(0);
     let bytes = &message[..length.min(LONGEST)];
-    hear(rt, state, gateway, channel(&request), line, state.clock, bytes)
+    hear(
+        rt,
+        state,
+        gateway,
+        channel(&request),
+        line,
+        state.clock,
+        bytes,
+    )
 }
 
 /// Every event of the matcher until there is none.

@@ -50,10 +50,7 @@ fn totals<M: Matcher, S: Store>(gateway: &Gateway<M, S>) -> Totals {
 }
 
 /// Every order, and how many orders, trades and reports there are.
-pub fn orders<R: Print, M: Matcher, S: Store>(
-    rt: &R,
-    gateway: &Gateway<M, S>,
-) -> io::Result<()> {
+pub fn orders<R: Print, M: Matcher, S: Store>(rt: &R, gateway: &Gateway<M, S>) -> io::Result<()> {
     let totals = totals(gateway);
     for place in 0..totals.orders {
         if let Some(order) = gateway.venue().order(place + 1) {
@@ -91,10 +88,7 @@ fn open_orders<M: Matcher, S: Store>(gateway: &Gateway<M, S>) -> usize {
 }
 
 /// What the day came to: orders, trades, reports, and whether the matcher holds just the open shares of the orders.
-pub fn close<R: Print, M: Matcher, S: Store>(
-    rt: &R,
-    gateway: &Gateway<M, S>,
-) -> io::Result<()> {
+pub fn close<R: Print, M: Matcher, S: Store>(rt: &R, gateway: &Gateway<M, S>) -> io::Result<()> {
     let totals = totals(gateway);
     let venue = gateway.venue();
     let one = venue.last(Partition::One);
@@ -107,7 +101,11 @@ pub fn close<R: Print, M: Matcher, S: Store>(
     let held = venue.matcher().open_count();
     match astray(gateway) {
         Some(number) => println!(rt; "the matcher does not hold what is open of order {number}"),
-        None if open != held => println!(rt; "the matcher holds {held} orders, of which {open} are open"),
-        None => println!(rt; "the matcher holds what is open of the {open} open orders, and no more"),
+        None if open != held => println!(rt;
+            "the matcher holds {held} orders, of which {open} are open"
+        ),
+        None => println!(rt;
+            "the matcher holds what is open of the {open} open orders, and no more"
+        ),
     }
 }
