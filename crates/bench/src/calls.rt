@@ -1,0 +1,187 @@
+// The gateway's seven calls, each made and its answer printed.
+use crate::state::{BUFFER, Carried, State};
+use bench_script::answer::{Answer, Trade};
+use bench_script::command::Call;
+use gateway::fault::GatewayFault;
+use gateway::gateway::Gateway;
+use matching::matcher::Matcher;
+use messages::reject::TOTAL;
+use std::io;
+use store::Store;
+use texts::values::Time;
+use venue::step::Step;
+use wire::kinds::Channel;
+
+fn refused<R: Print>(rt: &R, state: &mut State, fault: GatewayFault) -> io::Result<()> {
+    state.tell(rt, Answer::Refused(fault.number()))
+}
+
+// What a call left of a message in a buffer.
+fn front(buffer: &[u8; BUFFER], length: usize) -> &[u8] {
+    &buffer[..length.min(BUFFER)]
+}
+
+/// A message on either channel of a line.
+pub fn hear<R: Print + AllocGlobal, M: Matcher, S: Store>(
+    rt: &R,
+    state: &mut State,
+    gateway: &mut Gateway<M, S>,
+    channel: Channel,
+    line: usize,
+    time: Time,
+    message: &[u8],
+) -> io::Result<()> {
+    let mut reply = [0; BUFFER];
+    let outcome = match channel {
+        Channel::Recovery => gateway.recovery_message(line, message, time, &mut reply),
+        _ => gateway.real_time_message(line, message, time, &mut reply),
+    };
+    match outcome {
+        Ok(0) => state.tell(rt, Answer::Nothing),
+        Ok(length) => state.tell_message(rt, Carried::Answer, front(&reply, length)),
+        Err(fault) => match fault.offset() {
+            Some(offset) => {
+                let carried = Carried::Reject(fault.number(), offset);
+                state.tell_message(rt, carried, front(&reply, usize::from(TOTAL)))
+            }
+            None => refused(rt, state, fault),
+        },
+    }
+}
+
+fn told(step: Step) -> Answer<'static> {
+    match step {
+        Step::Nothing => Answer::Nothing,
+        Step::Expired(number) => Answer::Expired(number),
+        Step::Traded {
+            number,
+            passive,
+            aggressive,
+            quantity,
+            price,
+        } => Answer::Traded(Trade {
+            number,
+            passive,
+            aggressive,
+            quantity,
+            price,
+        }),
+    }
+}
+
+/// One event of the matcher. Says whether another may follow.
+pub fn step<R: Print, M: Matcher, S: Store>(
+    rt: &R,
+    state: &mut State,
+    gateway: &mut Gateway<M, S>,
+    time: Time,
+) -> io::Result<bool> {
+    match gateway.step(time) {
+        Ok(step) => {
+            state.tell(rt, told(step))?;
+            Ok(!matches!(step, Step::Nothing))
+        }
+        Err(fault) => {
+            refused(rt, state, fault)?;
+            Ok(false)
+        }
+    }
+}
+
+fn ended<R: Print>(
+    rt: &R,
+    state: &mut State,
+    outcome: Result<(), GatewayFault>,
+    done: Answer<'_>,
+) -> io::Result<()> {
+    match outcome {
+        Ok(()) => state.tell(rt, done),
+        Err(fault) => refused(rt, state, fault),
+    }
+}
+
+// What a call that sends handed out. Says whether more may follow.
+fn handed<R: Print + AllocGlobal>(
+    rt: &R,
+    state: &mut State,
+    outcome: Result<usize, GatewayFault>,
+    buffer: &[u8; BUFFER],
+) -> io::Result<bool> {
+    match outcome {
+        Ok(0) => {
+            state.tell(rt, Answer::Nothing)?;
+            Ok(false)
+        }
+        Ok(length) => {
+            state.tell_message(rt, Carried::Sent, front(buffer, length))?;
+            Ok(true)
+        }
+        Err(fault) => {
+            refused(rt, state, fault)?;
+            Ok(false)
+        }
+    }
+}
+
+/// The next report of a line's real-time channel. Says whether more may follow.
+pub fn send<R: Print + AllocGlobal, M: Matcher, S: Store>(
+    rt: &R,
+    state: &mut State,
+    gateway: &mut Gateway<M, S>,
+    line: usize,
+) -> io::Result<bool> {
+    let mut out = [0; BUFFER];
+    let outcome = gateway.send(line, &mut out);
+    handed(rt, state, outcome, &out)
+}
+
+/// The next message of a line's download. Says whether more may follow.
+pub fn send_recovered<R: Print + AllocGlobal, M: Matcher, S: Store>(
+    rt: &R,
+    state: &mut State,
+    gateway: &mut Gateway<M, S>,
+    line: usize,
+) -> io::Result<bool> {
+    let mut out = [0; BUFFER];
+    let outcome = gateway.send_recovered(line, &mut out);
+    handed(rt, state, outcome, &out)
+}
+
+/// Makes a call as it stands.
+pub fn make<R: Print + AllocGlobal, M: Matcher, S: Store>(
+    rt: &R,
+    state: &mut State,
+    gateway: &mut Gateway<M, S>,
+    call: Call<'_>,
+) -> io::Result<()> {
+    match call {
+        Call::RealTime(line, time, bytes) => {
+            let message = bytes.to_vec(rt.alloc())?;
+            hear(rt, state, gateway, Channel::RealTime, line, time, &message)
+        }
+        Call::Recovery(line, time, bytes) => {
+            let message = bytes.to_vec(rt.alloc())?;
+            hear(rt, state, gateway, Channel::Recovery, line, time, &message)
+        }
+        Call::Step(time) => {
+            let _more = step(rt, state, gateway, time)?;
+            Ok(())
+        }
+        Call::CancelTrade(number, time) => {
+            let outcome = gateway.cancel_trade(number, time);
+            ended(rt, state, outcome, Answer::Cancelled)
+        }
+        Call::LineLost(line, time) => {
+            let outcome = gateway.line_lost(line, time);
+            ended(rt, state, outcome, Answer::Closed)
+        }
+        Call::Send(line) => {
+            let _more = send(rt, state, gateway, line)?;
+            Ok(())
+        }
+        Call::SendRecovered(line) => {
+            let _more = send_recovered(rt, state, gateway, line)?;
+            Ok(())
+        }
+    }
+}

@@ -1,0 +1,71 @@
+// What a run keeps beside the gateway: the account, the clock, and how messages are shown.
+use bench_script::account::Account;
+use bench_script::answer::{Answer, Payload};
+use bench_script::command::Style;
+use inspector::answer::answer_message;
+use std::io;
+use texts::values::Time;
+use wire::kinds::Channel;
+
+/// The bytes of a buffer that has room for any answer.
+pub const BUFFER: usize = 512;
+
+#[derive(Drop)]
+pub struct State {
+    pub account: Account,
+    pub clock: Time,
+    pub style: Style,
+}
+
+/// How a message comes: as an answer, as one that is sent, or as the Reject of a check with its number and offset.
+#[derive(Clone, Copy)]
+pub enum Carried {
+    Answer,
+    Sent,
+    Reject(u8, usize),
+}
+
+impl Carried {
+    fn with(self, payload: Payload<'_>) -> Answer<'_> {
+        match self {
+            Carried::Answer => Answer::Message(payload),
+            Carried::Sent => Answer::Sent(payload),
+            Carried::Reject(number, offset) => Answer::Rejected(number, offset, payload),
+        }
+    }
+}
+
+impl State {
+    pub fn new() -> State {
+        State {
+            account: Account::new(),
+            clock: Time {
+                seconds: 0,
+                microseconds: 0,
+            },
+            style: Style::Hex,
+        }
+    }
+
+    /// Counts an answer and prints it.
+    pub fn tell<R: Print>(&mut self, rt: &R, answer: Answer<'_>) -> io::Result<()> {
+        self.account.count(&answer);
+        rt.println(answer)
+    }
+
+    /// The same of an answer that carries a message.
+    pub fn tell_message<R: Print + AllocGlobal>(
+        &mut self,
+        rt: &R,
+        carried: Carried,
+        bytes: &[u8],
+    ) -> io::Result<()> {
+        match self.style {
+            Style::Hex => self.tell(rt, carried.with(Payload::Bytes(bytes))),
+            Style::Text => {
+                let shown = answer_message(rt.alloc(), Channel::Follower, bytes)?;
+                self.tell(rt, carried.with(Payload::Text(shown.text.as_str())))
+            }
+        }
+    }
+}

@@ -1,0 +1,196 @@
+// Plays a full day on a gateway, over each matcher and each store, and says how long its calls took.
+#![tactic(auto)]
+
+mod plan;
+mod walk;
+
+use crate::plan::{Asked, BLOCK, Plan, config, made_up};
+use byte_store::codec::LONGEST;
+use codes::session::Partition;
+use console::{About, Task};
+use gateway::gateway::Gateway;
+use limits::REPORTS;
+use lit_book::book::LitBook;
+use matching::matcher::Matcher;
+use matching::tape::{Line, Tape};
+use std::alloc::Global;
+use std::io;
+use std::process::ExitCode;
+use std::rt::Clock;
+use std::time::{Duration, Instant};
+use store::Store;
+use store::records::Records;
+use texts::values::Price;
+
+const ABOUT: About = About {
+    name: "gateway_bench",
+    summary: "Plays a full made-up day of eight CompIDs on a gateway: 256 orders in eight rows, each with its trades, replacements, cancels, sends, downloads, trade cancellations and mass cancels; over the lit book and the tape, and over both stores.",
+    words: "How many calls there were and what the day came to goes to standard output: the same in each run. The time of a call of each kind, in nanoseconds, goes to standard error. Nothing is read.",
+};
+
+// What a row of calls took, in nanoseconds for each.
+fn each(time: Duration, calls: usize) -> u128 {
+    time.as_nanos().checked_div(calls as u128).unwrap_or(0)
+}
+
+fn told<R: Print + Eprint + Clock>(
+    rt: &R,
+    name: &str,
+    what: &str,
+    calls: usize,
+    start: Instant,
+) -> io::Result<()> {
+    let cost = each(start.elapsed(rt)?, calls);
+    println!(rt; "{name}: {calls} calls, {what}")?;
+    eprintln!(rt; "{name}: {cost} ns a call, {what}")
+}
+
+fn row<R: Print + Eprint + Clock, M: Matcher, S: Store>(
+    rt: &R,
+    name: &str,
+    what: &str,
+    gateway: &mut Gateway<M, S>,
+    messages: &[Asked],
+) -> io::Result<()> {
+    let start = Instant::now(rt)?;
+    let calls = walk::hear(gateway, messages);
+    told(rt, name, what, calls, start)
+}
+
+// A row of orders, and then every event that it leads to; says how many calls those took.
+fn order_row<R: Eprint + Clock, M: Matcher, S: Store>(
+    rt: &R,
+    name: &str,
+    place: usize,
+    gateway: &mut Gateway<M, S>,
+    orders: &[Asked],
+) -> io::Result<usize> {
+    let start = Instant::now(rt)?;
+    let calls = walk::hear(gateway, orders);
+    let order = each(start.elapsed(rt)?, calls);
+    let start = Instant::now(rt)?;
+    let calls = walk::step(gateway);
+    let event = each(start.elapsed(rt)?, calls);
+    eprintln!(rt; "{name}: {order} ns an order, {event} ns an event, row {place}")?;
+    Ok(calls)
+}
+
+fn order_rows<R: Print + Eprint + Clock, M: Matcher, S: Store>(
+    rt: &R,
+    name: &str,
+    gateway: &mut Gateway<M, S>,
+    orders: &[Asked],
+) -> io::Result<()> {
+    let mut events: usize = 0;
+    for (place, row) in orders.chunks(BLOCK).enumerate() {
+        events = events.saturating_add(order_row(rt, name, place, gateway, row)?);
+    }
+    let orders = orders.len();
+    println!(rt; "{name}: {orders} calls, orders")?;
+    println!(rt; "{name}: {events} calls, events")
+}
+
+// What goes out: what is sent, and what is downloaded.
+fn outward<R: Print + Eprint + Clock + AllocGlobal, M: Matcher, S: Store>(
+    rt: &R,
+    name: &str,
+    gateway: &mut Gateway<M, S>,
+) -> io::Result<()> {
+    let start = Instant::now(rt)?;
+    let calls = walk::send(gateway);
+    told(rt, name, "sends", calls, start)?;
+    let start = Instant::now(rt)?;
+    let calls = walk::download(rt.alloc(), gateway)?;
+    told(rt, name, "sends of downloads", calls, start)
+}
+
+fn came_to<R: Print, M: Matcher, S: Store>(
+    rt: &R,
+    name: &str,
+    gateway: &Gateway<M, S>,
+) -> io::Result<()> {
+    let venue = gateway.venue();
+    let orders = venue.order_count();
+    let trades = venue.trade_count();
+    let one = venue.last(Partition::One);
+    let two = venue.last(Partition::Two);
+    let three = venue.last(Partition::Three);
+    println!(rt; "{name}: {orders} orders, {trades} trades, reports {one}, {two} and {three}")
+}
+
+fn play<R: Print + Eprint + Clock + AllocGlobal, M: Matcher, S: Store>(
+    rt: &R,
+    name: &str,
+    gateway: &mut Gateway<M, S>,
+    plan: &Plan,
+) -> io::Result<()> {
+    row(rt, name, "logons", gateway, &plan.logons)?;
+    let _calls = walk::hear_recovery(gateway, &plan.logons);
+    order_rows(rt, name, gateway, &plan.orders)?;
+    row(rt, name, "replacements", gateway, &plan.replaces)?;
+    row(rt, name, "cancels", gateway, &plan.cancels)?;
+    let start = Instant::now(rt)?;
+    let calls = walk::undo(gateway);
+    told(rt, name, "trade cancellations", calls, start)?;
+    row(rt, name, "mass cancels", gateway, &plan.mass_cancels)?;
+    outward(rt, name, gateway)?;
+    came_to(rt, name, gateway)
+}
+
+// A day over a matcher and a store that hold nothing.
+fn day<R: Print + Eprint + Clock + AllocGlobal, M: Matcher + Drop, S: Store + Drop>(
+    rt: &R,
+    name: &str,
+    matcher: M,
+    store: S,
+    plan: &Plan,
+) -> io::Result<()> {
+    let Ok(config) = config(rt.alloc()) else {
+        return println!(rt; "{name}: no configuration");
+    };
+    match Gateway::start(rt.alloc(), config, matcher, store) {
+        Ok(mut gateway) => play(rt, name, &mut gateway, plan),
+        Err(_) => println!(rt; "{name}: not started"),
+    }
+}
+
+// A tape that trades each order of the first row sixteen times: as many trades as a day has room for.
+fn tape(heap: Global) -> io::Result<Tape> {
+    let mut lines = Vec::new(heap);
+    for place in 0..512 {
+        lines.push(Line {
+            number: place % 32 + 1,
+            quantity: 5,
+            price: Price {
+                raw: 10_050_000_000,
+            },
+        })?;
+    }
+    Ok(Tape::new(heap, lines)?)
+}
+
+/// Both matchers over both stores.
+struct Bench;
+
+impl Task for Bench {
+    fn work<R: Print + Eprint + Clock + AllocGlobal>(&mut self, rt: &R) -> io::Result<()> {
+        let heap = rt.alloc();
+        let plan = made_up(heap)?;
+        let bytes = REPORTS * LONGEST;
+        let records = Records::new(heap, REPORTS)?;
+        day(rt, "lit book, records", LitBook::new(heap)?, records, &plan)?;
+        let wire = wire_store::new(heap, bytes)?;
+        day(rt, "lit book, wire bytes", LitBook::new(heap)?, wire, &plan)?;
+        let records = Records::new(heap, REPORTS)?;
+        day(rt, "tape, records", tape(heap)?, records, &plan)?;
+        let wire = wire_store::new(heap, bytes)?;
+        day(rt, "tape, wire bytes", tape(heap)?, wire, &plan)
+    }
+}
+
+fn main(rt: HostRuntime) -> ExitCode {
+    let mut bench = Bench;
+    let code = console::run_task(&rt, ABOUT, &mut bench);
+    let Bench = bench;
+    code
+}
