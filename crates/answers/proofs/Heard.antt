@@ -1,13 +1,12 @@
 -- One message at the front of a buffer, and what a follower reads there. Assumes nothing.
-use Rattle.std.proofs.Common.{◌≡◌, ℕ, ℤ, ◌+◌, ◌≤◌, List, ◌++◌, length, drop, slice_index_or, pos, Some, None, Option, refl, sym, ap, ◌∙◌, subst, arith}
+use Rattle.std.proofs.Common.{◌≡◌, ℕ, ℤ, ◌≤◌, List, ◌++◌, drop, slice_index_or, pos, Some, Option, refl, sym, ap, ◌∙◌, subst, arith}
 use Rattle.codes.specs.Session.{partition_code}
 use Rattle.codes.specs.declared.session.Partition.{Partition}
-use Rattle.codes.specs.declared.session.Partition.TheVariants as partition
 use Rattle.codes.specs.declared.session.ReportResponse.{ReportResponse}
 use Rattle.codes.specs.contracts.session.PartitionCode.TheImpl.Laws.{one-law as partition_one}
 use Rattle.layout.specs.Layout.{Content, figure_of, int32_of}
 use Rattle.layout.specs.Layout.Content.{nothing}
-use Rattle.layout.specs.Writing.{header, encode}
+use Rattle.layout.specs.Writing.{header}
 use Rattle.wire.specs.declared.kinds.Channel.TheVariants.{Follower}
 use Rattle.wire.specs.declared.kinds.Kind.{Kind}
 use Rattle.wire.specs.declared.kinds.Kind.TheVariants as kind
