@@ -3,3 +3,8 @@ pub mod Moving
 pub mod Asked
 pub mod Calls
 pub mod Conserving
+pub mod Leading
+pub mod Refused
+pub mod Growing
+pub mod Lines
+pub mod Owning
