@@ -8,3 +8,4 @@ pub mod Refused
 pub mod Growing
 pub mod Lines
 pub mod Owning
+pub mod Firms

@@ -1,6 +1,7 @@
 -- What a venue asks of its gateway, of any call in any state. Assumes nothing.
 use Rattle.std.specs.Prelude.{◌≡◌, ◌≢◌, ℕ, ◌<◌, Bool, true, is_err, length, Some, None, Option}
 use Rattle.codes.specs.declared.session.Partition.{Partition}
+use Rattle.gateway.specs.Hearing.{firm}
 use Rattle.gateway.specs.State.{State, session}
 use Rattle.keyed.specs.Numbers.{under}
 use Rattle.line.specs.Runs.{Does}
@@ -12,6 +13,7 @@ use Rattle.reports.specs.declared.report.Entry.{Entry}
 use Rattle.sessions.specs.Laws.{Grown}
 use Rattle.venue.specs.Ledger.{Ledger}
 use Rattle.venue.specs.Steps.{ledger_of}
+use Rattle.venue.specs.View.{Sound}
 
 -- the line that a call is made on
 abbrev pub line_of : Done → Option ℕ
@@ -57,3 +59,14 @@ Owned s = OfLines (length s.lines) (ledger_of s.venue)
 
 abbrev pub StayOwned : Type 0
 StayOwned = (s : State) (d : Done) (w : State) → Does s d w → Owned s → Owned w
+
+-- an order, if there is one, is of the firm of a line's CompID
+abbrev pub FirmOf : State → ℕ → Option Row → Type 0
+FirmOf s line None = Unit {0}
+FirmOf s line (Some r) = firm s r.terms.owner ≡ firm s line
+
+-- a call on a line leaves the orders of all other firms as they were
+abbrev pub FirmsApart : Type 0
+FirmsApart =
+    (s : State) (d : Done) (w : State) (line n : ℕ) (r : Row) → Sound s.venue → Does s d w → line_of d ≡ Some line
+    → under s.venue.rows n ≡ Some r → firm s r.terms.owner ≢ firm s line → under w.venue.rows n ≡ Some r

@@ -1,5 +1,5 @@
 // What a venue asks of its gateway, proved of the definitions that the calls' contracts cite.
-ghost use Rattle.line.specs.Laws.{LinesApart, RefusedStand, OnlyAppends, StayOwned};
+ghost use Rattle.line.specs.Laws.{FirmsApart, LinesApart, RefusedStand, OnlyAppends, StayOwned};
 
 /// A call on one line changes no other line's session.
 #[tactic(auto, using(crate::proofs::Lines::lines_apart))]
@@ -22,4 +22,11 @@ pub fn reports_are_only_appended()
 #[tactic(auto, using(crate::proofs::Owning::stay_owned))]
 pub fn owners_are_lines()
     ensures { StayOwned }
+{}
+
+/// A call on a line changes no order of another firm: only the matcher's events and a trade that is cancelled reach
+/// across firms.
+#[tactic(auto, using(crate::proofs::Firms::firms_apart))]
+pub fn firms_stay_apart()
+    ensures { FirmsApart }
 {}
