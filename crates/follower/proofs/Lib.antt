@@ -4,3 +4,4 @@ mod Ties
 mod Requests
 mod Written
 mod Firsts
+mod Quiets

@@ -90,7 +90,7 @@ abbrev pub state_for : Following → Heard → Option State
 state_for f (Report p h) = Some (at f.sides p).state
 state_for f h = None
 
--- what comes live: a report at or below its partition's place is there already, a message without a number is nothing
+-- what comes live: a report at or below its partition's place is there already, one without a number is nothing
 abbrev pub lived : Following → Heard → Step Live
 lived f (Report p h) =
     if nat_le (number_of h) (at f.sides p).place then answered live.Already f

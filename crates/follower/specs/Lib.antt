@@ -9,3 +9,4 @@ pub mod Owing
 pub mod Asking
 pub mod Laws
 pub mod Orders
+pub mod Quiet

@@ -14,8 +14,8 @@ pub enum Live {
     Nothing,
 }
 
-/// What became of a message of the recovery channel: it begins or ends the download, or its report was folded before or
-/// is folded now, or it says nothing of a download.
+/// What became of a message of the recovery channel: it begins or ends the download, or its report was folded
+/// before or is folded now, or it says nothing of a download.
 #[derive(Clone, Copy, Debug, PartialEq)]
 pub enum Recovered {
     Begun,

@@ -1,4 +1,5 @@
-// The five calls of a follower. Each takes the token of the download that is owed, and gives back what is owed after it.
+// The five calls of a follower. Each takes the token of the download that is owed, and gives back what is owed
+// after it.
 ghost use Rattle.std.specs.Prelude.{◌≡◌, true, false, length, IfOk};
 ghost use Rattle.follower.specs.declared.pending.Pending.TheVariants.{Idle};
 ghost use Rattle.follower.specs.Following.{turned, live_step, recovered_step};
@@ -18,7 +19,8 @@ use codes::code::Code;
 use codes::session::Partition;
 
 impl Follower {
-    /// The line is up: all partitions are behind, nothing is held, and a download has ended. Places and standings stay.
+    /// The line is up: all partitions are behind, nothing is held, and a download has ended. Places and standings
+    /// stay.
     pub fn up(&mut self, pending: Pending) -> Pending
         ensures after { self.new ≡ turned true self.old }
         ensures token { result ≡ Idle }
@@ -38,8 +40,8 @@ impl Follower {
         pending.end()
     }
 
-    /// Takes a message that came on the real-time channel. A refusal changes nothing, but that a full hold (54) acts as
-    /// `lost`.
+    /// Takes a message that came on the real-time channel. A refusal changes nothing, but that a full hold (54)
+    /// acts as `lost`.
     #[tactic(auto, using(crate::proofs::Ties::live_tied))]
     pub fn live(&mut self, bytes: &[u8], pending: Pending) -> (Result<Live, FollowerFault>, Pending)
         ensures answer { result.0 ≡ (live_step self.old (heard_in bytes.now)).answer }
@@ -69,8 +71,8 @@ impl Follower {
         (answer, pending)
     }
 
-    /// Writes a request for the reports of a partition above its place, and says how many bytes it has; the bytes past it
-    /// stay. A refusal changes nothing, the buffer neither.
+    /// Writes a request for the reports of a partition above its place, and says how many bytes it has; the bytes
+    /// past it stay. A refusal changes nothing, the buffer neither.
     #[tactic(auto, using(crate::proofs::Ties::asked_tied))]
     pub fn ask(
         &mut self,
@@ -83,7 +85,9 @@ impl Follower {
         ensures bytes { out.new ≡ (asks self.old pending partition out.old).out }
         ensures token { result.1 ≡ (asks self.old pending partition out.old).token }
         ensures tie { Tied pending self.old → Tied result.1 self.new }
-        ensures read { IfOk (asking self.old pending partition (length out.old)) (λ p. ReadBack p (at self.old.sides p).place) }
+        ensures read { IfOk
+            (asking self.old pending partition (length out.old))
+            (λ p. ReadBack p (at self.old.sides p).place) }
     {
         match self.asked(partition, out.len(), &pending) {
             Ok(partition) => {

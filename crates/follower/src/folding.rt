@@ -16,7 +16,9 @@ fn fold_one(
     place: Number,
     report: Held,
 ) -> Result<Number, FoldRefusal>
-    ensures { CatchesUp (caught_one partition (reached (known standings.old) place) report) result (known standings.new) }
+    ensures { CatchesUp
+        (caught_one partition (reached (known standings.old) place) report)
+        result (known standings.new) }
 {
     let number = report.number();
     if place.reaches(&number) {
@@ -32,7 +34,9 @@ fn fold_at(
     place: Number,
     report: Option<Held>,
 ) -> Result<Number, FoldRefusal>
-    ensures { CatchesUp (caught_at partition (reached (known standings.old) place) report) result (known standings.new) }
+    ensures { CatchesUp
+        (caught_at partition (reached (known standings.old) place) report)
+        result (known standings.new) }
 {
     match report {
         Some(report) => fold_one(standings, partition, place, report),
@@ -41,14 +45,16 @@ fn fold_at(
 }
 
 // Folds what a queue has, the oldest first, up to the first report that is refused.
-#[tactic(auto, using(crate::proofs::Folds::begins, crate::proofs::Folds::ends, crate::proofs::Folds::folds, crate::proofs::Folds::fails))]
+#[tactic(auto, using(crate::proofs::Folds::begins, crate::proofs::Folds::ends))]
 pub(crate) fn fold_all(
     standings: &mut Standings,
     partition: Partition,
     mut place: Number,
     held: &Queue<'_, Held>,
 ) -> Result<Number, FoldRefusal>
-    ensures { CatchesUp (caught_up partition (reached (known standings.old) place) (elements held.now)) result (known standings.new) }
+    ensures { CatchesUp
+        (caught_up partition (reached (known standings.old) place) (elements held.now))
+        result (known standings.new) }
 {
     for i in 0..held.len() {
         place = fold_at(standings, partition, place, held.get(i))?;

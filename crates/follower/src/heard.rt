@@ -3,15 +3,16 @@ use crate::number::Number;
 use codes::session::{AckResponse, Partition, ReportResponse};
 use reports::standing::Told;
 
-/// A numbered report: its sequence number as the message states it, and what it tells of an order, if it tells of one.
+/// A numbered report: its sequence number as the message states it, and what it tells of an order, if it tells of
+/// one.
 #[derive(Clone, Copy)]
 pub struct Held {
     pub sequence: i32,
     pub told: Option<Told>,
 }
 
-/// What a follower takes from a message: a numbered report of a partition, how a request was answered, how a download
-/// ended, a refusal, or nothing.
+/// What a follower takes from a message: a numbered report of a partition, how a request was answered, how a
+/// download ended, a refusal, or nothing.
 #[derive(Clone, Copy)]
 pub enum Heard {
     Report(Partition, Held),

@@ -13,7 +13,8 @@ use std::marker::Model;
 /// How many reports a partition holds.
 pub const HOLD: usize = 32;
 
-/// The reports that came live while a partition was behind: in a contract the list of them, the first to come in front.
+/// The reports that came live while a partition was behind: in a contract the list of them, the first to come in
+/// front.
 #[derive(Drop)]
 pub struct Hold {
     slots: [Held; HOLD],
@@ -81,7 +82,9 @@ impl Hold {
         place: Number,
     ) -> Result<Number, FoldRefusal>
         ensures same { self.new ≡ self.old }
-        ensures folds { CatchesUp (caught_up partition (reached (known standings.old) place) self.old) result (known standings.new) }
+        ensures folds { CatchesUp
+            (caught_up partition (reached (known standings.old) place) self.old)
+            result (known standings.new) }
     {
         let queue = Queue::resume(&mut self.slots, self.marks);
         let reached = fold_all(standings, partition, place, &queue);

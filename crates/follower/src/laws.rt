@@ -1,5 +1,7 @@
-// What a follower hears of what is written to it, proved of the definitions that the contracts cite.
+// What a follower hears of what is written to it, and what it keeps, proved of the definitions that the contracts
+// cite.
 ghost use Rattle.follower.specs.Laws.{WrittenHeard, ReportsHeard};
+ghost use Rattle.follower.specs.Quiet.{StaysQuiet};
 
 /// In the bytes of a message a follower hears that message.
 pub fn what_is_written_is_heard()
@@ -9,4 +11,10 @@ pub fn what_is_written_is_heard()
 /// In the bytes of a report's message a follower hears that report under its number.
 pub fn reports_are_heard()
     ensures { ReportsHeard }
+{}
+
+/// A partition that is level holds nothing; a follower that is not up is behind in all of them, holds nothing and has no
+/// download.
+pub fn followers_stay_quiet()
+    ensures { StaysQuiet }
 {}

@@ -12,8 +12,8 @@ pub struct Download {
     partition: Partition,
 }
 
-/// What stands beside a follower: no download, or one whose end is owed. It may be dropped only where none is owed, so
-/// that a program that lets an asked download go has no proof.
+/// What stands beside a follower: no download, or one whose end is owed. It may be dropped only where none is owed,
+/// so that a program that lets an asked download go has no proof.
 pub enum Pending {
     Idle,
     Owed(Download),

@@ -20,8 +20,8 @@ impl Follower {
         self.standings.standing(order)
     }
 
-    /// The known order of the lowest number from a given one on, so that one walks through all of them by rising number;
-    /// none where none is known from there on.
+    /// The known order of the lowest number from a given one on, so that one walks through all of them by rising
+    /// number; none where none is known from there on.
     pub fn first_from(&self, from: u64) -> Option<Known>
         ensures { FirstFrom self.now.standings from result }
     {

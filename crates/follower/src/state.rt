@@ -9,8 +9,8 @@ use reports::standings::Standings;
 use std::alloc::{AllocError, Global};
 use std::marker::Model;
 
-/// A desk's own table of what its orders have open: in a contract, what it knows of each order, each partition's place,
-/// state and hold, whether it is up, and the download that is asked or runs.
+/// A desk's own table of what its orders have open: in a contract, what it knows of each order, each partition's
+/// place, state and hold, whether it is up, and the download that is asked or runs.
 #[derive(Drop)]
 pub struct Follower {
     pub(crate) standings: Standings,
@@ -35,8 +35,8 @@ impl Model for Follower {
 }
 
 impl Follower {
-    /// Without orders, all places 0, all partitions behind, not up and with no download. All the memory that it needs is
-    /// reserved here, and no call allocates.
+    /// Without orders, all places 0, all partitions behind, not up and with no download. All the memory that it
+    /// needs is reserved here, and no call allocates.
     pub fn new(alloc: Global) -> Result<Follower, AllocError>
         ensures { IfOk result (λ f. f ≡ start) }
     {

@@ -140,8 +140,8 @@ impl Follower {
         self.fold(partition, report, Recovered::Folded)
     }
 
-    // The download is complete: what is held is folded behind its reports, in a trial that counts only if none of them is
-    // refused.
+    // The download is complete: what is held is folded behind its reports, in a trial that counts only if none of
+    // them is refused.
     fn complete(&mut self, partition: Partition) -> Result<Recovered, FollowerFault>
         ensures answer { result ≡ (completed self.old partition).answer }
         ensures after { self.new ≡ (completed self.old partition).after }
@@ -167,7 +167,8 @@ impl Follower {
         }
     }
 
-    // A Reject ends what is asked or runs; where nothing is, it is an answer to something else, and is nothing here.
+    // A Reject ends what is asked or runs; where nothing is, it is an answer to something else, and is nothing
+    // here.
     fn reject(&mut self) -> Result<Recovered, FollowerFault>
         ensures answer { result ≡ (rejected self.old self.old.download).answer }
         ensures after { self.new ≡ (rejected self.old self.old.download).after }

@@ -10,7 +10,8 @@ use follower::pending::Pending;
 use follower::state::Follower;
 use std::io;
 
-/// A connection begins or ends, a message comes on one of its channels, or the desk asks for a partition's download.
+/// A connection begins or ends, a message comes on one of its channels, or the desk asks for a partition's
+/// download.
 #[derive(Drop)]
 pub enum Event {
     Up,
@@ -108,8 +109,8 @@ fn take(
     }
 }
 
-/// Takes what happens on a line, and prints each answer. At the end, and where printing fails, the line is lost, so that
-/// no download is left that was asked.
+/// Takes what happens on a line, and prints each answer. At the end, and where printing fails, the line is lost, so
+/// that no download is left that was asked.
 pub fn day<R: Print>(rt: &R, follower: &mut Follower, events: &[Event]) -> io::Result<()>
     ensures down { follower.new.up ≡ false }
     ensures none { follower.new.download ≡ Idle }

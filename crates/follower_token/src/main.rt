@@ -1,5 +1,5 @@
-// A day of a desk's follower: reports come live before and after a download, the line is lost, and one message more is
-// held than there is room for.
+// A day of a desk's follower: reports come live before and after a download, the line is lost, and one message more
+// is held than there is room for.
 #![tactic(auto)]
 
 mod line;
@@ -55,7 +55,8 @@ fn first_connection(alloc: Global, events: &mut Vec<Event>) -> Result<(), AllocE
     Ok(())
 }
 
-// The line is lost and comes back: what is asked is refused, and what fills order 3 does not fit, since it is not known.
+// The line is lost and comes back: what is asked is refused, and what fills order 3 does not fit, since it is not
+// known.
 fn second_connection(alloc: Global, events: &mut Vec<Event>) -> Result<(), AllocError> {
     events.push(Event::Lost)?;
     events.push(Event::Ask(1))?;

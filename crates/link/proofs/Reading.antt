@@ -1,5 +1,5 @@
 -- What a gateway reads of a link, and a link of a gateway. Assumes nothing.
-use Rattle.std.proofs.Common.{◌≡◌, ℕ, ℤ, List, Some, None, Ok, Err, Option, Result, MatchOption, OnOk, pos, refl, sym, ap, ◌∙◌, subst}
+use Rattle.std.proofs.Common.{◌≡◌, ℕ, ℤ, List, Some, None, Ok, Err, Option, Result, MatchOption, OnOk, pos, sym, ap, ◌∙◌, subst}
 use Rattle.layout.specs.declared.fault.Fault.{Fault}
 use Rattle.wire.specs.declared.kinds.Channel.TheVariants.{RealTime, Follower}
 use Rattle.wire.specs.declared.message.Message.{Message}

@@ -1,6 +1,5 @@
 -- Logging on: what is written, and what the answer makes of a link. Assumes nothing.
 use Rattle.std.specs.Prelude.{◌≡◌, ◌≢◌, ℕ, ℤ, List, pos, Ok, Err, Result, MatchOption, MatchResult}
-use Rattle.layout.specs.declared.fault.Fault.{Fault}
 use Rattle.messages.specs.declared.logon.Logon.{Logon}
 use Rattle.messages.specs.declared.logout.Logout.{Logout}
 use Rattle.wire.specs.declared.kinds.Channel.TheVariants.{Follower}

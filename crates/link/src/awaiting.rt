@@ -93,7 +93,9 @@ impl Awaiting {
     }
 
     /// The line was lost.
-    pub fn lost(self) -> Offline {
+    pub fn lost(self) -> Offline
+        ensures { result ≡ record {} }
+    {
         Offline
     }
 }

@@ -96,7 +96,9 @@ impl Trading {
     }
 
     /// The line was lost.
-    pub fn lost(self) -> Offline {
+    pub fn lost(self) -> Offline
+        ensures { result ≡ record {} }
+    {
         Offline
     }
 }

@@ -1,5 +1,5 @@
 -- A gateway's answer to a Logon, and what it makes of a link. Assumes nothing.
-use Rattle.std.proofs.Common.{◌≡◌, ℕ, ℤ, List, ◌++◌, length, take, drop, pos, true, is_ok, None, Ok, Err, Option, Result, MatchOption, IsTrue, ◌↔◌, refl, sym, ap, ◌∙◌, subst}
+use Rattle.std.proofs.Common.{◌≡◌, ℕ, ℤ, List, take, drop, pos, is_ok, Ok, Err, Option, Result, MatchOption, IsTrue, ◌↔◌, refl, sym, ap, ◌∙◌, subst}
 use Rattle.std.proofs.lemmas.List.{take_at}
 use Rattle.layout.specs.declared.fault.Fault.{Fault}
 use Rattle.wire.specs.declared.kinds.Channel.TheVariants.{Follower}

@@ -1,0 +1,5 @@
+pub mod Grown
+pub mod Moving
+pub mod Asked
+pub mod Calls
+pub mod Conserving
