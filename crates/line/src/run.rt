@@ -10,8 +10,8 @@ use matching::matcher::Matcher;
 use std::alloc::{AllocError, Global};
 use store::Store;
 
-// One call, and what came back.
-fn make<'a, M: Matcher, S: Store>(gateway: &mut Gateway<M, S>, call: Call<'a>) -> Done<'a>
+/// Makes one call, and says what came back.
+pub fn make<'a, M: Matcher, S: Store>(gateway: &mut Gateway<M, S>, call: Call<'a>) -> Done<'a>
     ensures call { call_of result ≡ call.entry }
     ensures does { Does gateway.old result gateway.new }
 {

@@ -1,0 +1,69 @@
+-- Runs of both ends. Assumes nothing.
+use Rattle.std.specs.Prelude.{◌≡◌, ℕ, true, false, List, [], ◌∷◌, replicate}
+use Rattle.ends.specs.declared.call.Call.{Call}
+use Rattle.ends.specs.declared.call.Call.TheVariants as call
+use Rattle.ends.specs.declared.call.Done.{Done}
+use Rattle.ends.specs.declared.call.Done.TheVariants as done
+use Rattle.follower.specs.Asking.{asks}
+use Rattle.follower.specs.Following.{Following, start, turned, live_step, recovered_step}
+use Rattle.follower.specs.Hearing.{heard_in}
+use Rattle.follower.specs.Owing.{Tied, after_live, after_recovered}
+use Rattle.follower.specs.declared.pending.Pending.{Pending}
+use Rattle.follower.specs.declared.pending.Pending.TheVariants.{Idle}
+use Rattle.follower.specs.declared.request.TheConstants.{BUFFER}
+use Rattle.gateway.specs.State.{State}
+use Rattle.line.specs.Runs as venue
+use Rattle.line.specs.declared.call.Done.{Done as VenueDone}
+use Rattle.venue.specs.View.{Sound}
+
+-- the call that was made
+abbrev pub call_of : Done → Call
+call_of (done.Venue d) = call.Venue (venue.call_of d)
+call_of done.Up = call.Up
+call_of (done.Live bs r) = call.Live bs
+call_of (done.Ask n r) = call.Ask n
+call_of (done.Recovered bs r) = call.Recovered bs
+call_of done.Lost = call.Lost
+
+-- a desk: its follower, and the token of the download that is owed
+pub record Desk : Type 0 where
+  pub follower : Following
+  pub token : Pending
+
+-- a desk that begins
+abbrev pub fresh : Desk
+fresh = record { follower = start; token = Idle }
+
+abbrev pub blank : List ℕ
+blank = replicate BUFFER 0
+
+-- one call: its end moves as its contract has it, and the other stays
+abbrev pub Does : State → Desk → Done → State → Desk → Type 0
+Does s d (done.Venue v) w e = venue.Does s v w × (e ≡ d)
+Does s d done.Up w e = (w ≡ s) × (e ≡ record { follower = turned true d.follower; token = Idle })
+Does s d done.Lost w e = (w ≡ s) × (e ≡ record { follower = turned false d.follower; token = Idle })
+Does s d (done.Live bs r) w e =
+    let step = live_step d.follower (heard_in bs.now) in
+    (w ≡ s) × (r ≡ step.answer) × (e ≡ record { follower = step.after; token = after_live r d.token })
+Does s d (done.Recovered bs r) w e =
+    let step = recovered_step d.follower (heard_in bs.now) in
+    (w ≡ s) × (r ≡ step.answer) × (e ≡ record { follower = step.after; token = after_recovered r d.token })
+Does s d (done.Ask n r) w e =
+    let step = asks d.follower d.token n blank in
+    (w ≡ s) × (r.answer ≡ step.answer) × (r.buffer ≡ step.out) × (e ≡ record { follower = step.after; token = step.token })
+
+-- calls made in turn; after each both ends keep what they are to keep
+abbrev pub Runs : State → Desk → List Done → State → Desk → Type 0
+Runs s d [] w e = (w ≡ s) × (e ≡ d)
+Runs s d (x ∷ xs) w e =
+    (u : State) × (f : Desk) × Does s d x u f × Sound u.venue × Tied f.token f.follower × Runs u f xs w e
+
+-- the gateway's calls among them
+abbrev pub venue_log : List Done → List VenueDone
+venue_log [] = []
+venue_log (done.Venue v ∷ xs) = v ∷ venue_log xs
+venue_log (done.Up ∷ xs) = venue_log xs
+venue_log (done.Live bs r ∷ xs) = venue_log xs
+venue_log (done.Ask n r ∷ xs) = venue_log xs
+venue_log (done.Recovered bs r ∷ xs) = venue_log xs
+venue_log (done.Lost ∷ xs) = venue_log xs

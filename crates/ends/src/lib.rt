@@ -1,0 +1,5 @@
+// Both ends: a gateway and a desk's follower, and any list of the twelve calls on them.
+#![tactic(auto)]
+
+pub mod call;
+pub mod run;
