@@ -25,7 +25,7 @@ use texts::values::Price;
 const ABOUT: About = About {
     name: "gateway_bench",
     summary: "Plays a full made-up day of eight CompIDs on a gateway: 256 orders in eight rows, each with its trades, replacements, cancels, sends, downloads, trade cancellations and mass cancels; over the lit book and the tape, and over both stores.",
-    words: "How many calls there were and what the day came to goes to standard output: the same in each run. The time of a call of each kind, in nanoseconds, goes to standard error. Nothing is read.",
+    words: "How many calls there were and what the day came to goes to standard output: the same in each run. The time of a call of each kind, in nanoseconds, goes to standard error, of the orders and events row by row, and how many calls a second a day had. Nothing is read.",
 };
 
 // What a row of calls took, in nanoseconds for each.
@@ -33,16 +33,18 @@ fn each(time: Duration, calls: usize) -> u128 {
     time.as_nanos().checked_div(calls as u128).unwrap_or(0)
 }
 
+// Prints how many calls a row had, and what each took; says how many.
 fn told<R: Print + Eprint + Clock>(
     rt: &R,
     name: &str,
     what: &str,
     calls: usize,
     start: Instant,
-) -> io::Result<()> {
+) -> io::Result<usize> {
     let cost = each(start.elapsed(rt)?, calls);
     println!(rt; "{name}: {calls} calls, {what}")?;
-    eprintln!(rt; "{name}: {cost} ns a call, {what}")
+    eprintln!(rt; "{name}: {cost} ns a call, {what}")?;
+    Ok(calls)
 }
 
 fn row<R: Print + Eprint + Clock, M: Matcher, S: Store>(
@@ -51,7 +53,7 @@ fn row<R: Print + Eprint + Clock, M: Matcher, S: Store>(
     what: &str,
     gateway: &mut Gateway<M, S>,
     messages: &[Asked],
-) -> io::Result<()> {
+) -> io::Result<usize> {
     let start = Instant::now(rt)?;
     let calls = walk::hear(gateway, messages);
     told(rt, name, what, calls, start)
@@ -80,14 +82,15 @@ fn order_rows<R: Print + Eprint + Clock, M: Matcher, S: Store>(
     name: &str,
     gateway: &mut Gateway<M, S>,
     orders: &[Asked],
-) -> io::Result<()> {
+) -> io::Result<usize> {
     let mut events: usize = 0;
     for (place, row) in orders.chunks(BLOCK).enumerate() {
         events = events.saturating_add(order_row(rt, name, place, gateway, row)?);
     }
     let orders = orders.len();
     println!(rt; "{name}: {orders} calls, orders")?;
-    println!(rt; "{name}: {events} calls, events")
+    println!(rt; "{name}: {events} calls, events")?;
+    Ok(events.saturating_add(orders))
 }
 
 // What goes out: what is sent, and what is downloaded.
@@ -95,13 +98,14 @@ fn outward<R: Print + Eprint + Clock + AllocGlobal, M: Matcher, S: Store>(
     rt: &R,
     name: &str,
     gateway: &mut Gateway<M, S>,
-) -> io::Result<()> {
+) -> io::Result<usize> {
     let start = Instant::now(rt)?;
     let calls = walk::send(gateway);
-    told(rt, name, "sends", calls, start)?;
+    let sends = told(rt, name, "sends", calls, start)?;
     let start = Instant::now(rt)?;
     let calls = walk::download(rt.alloc(), gateway)?;
-    told(rt, name, "sends of downloads", calls, start)
+    let recovered = told(rt, name, "sends of downloads", calls, start)?;
+    Ok(sends.saturating_add(recovered))
 }
 
 fn came_to<R: Print, M: Matcher, S: Store>(
@@ -118,22 +122,47 @@ fn came_to<R: Print, M: Matcher, S: Store>(
     println!(rt; "{name}: {orders} orders, {trades} trades, reports {one}, {two} and {three}")
 }
 
+// What goes in, and the events that it leads to.
+fn inward<R: Print + Eprint + Clock + AllocGlobal, M: Matcher, S: Store>(
+    rt: &R,
+    name: &str,
+    gateway: &mut Gateway<M, S>,
+    plan: &Plan,
+) -> io::Result<usize> {
+    let logons = row(rt, name, "logons", gateway, &plan.logons)?;
+    let recoveries = walk::hear_recovery(gateway, &plan.logons);
+    let orders = order_rows(rt, name, gateway, &plan.orders)?;
+    let replaces = row(rt, name, "replacements", gateway, &plan.replaces)?;
+    let cancels = row(rt, name, "cancels", gateway, &plan.cancels)?;
+    let start = Instant::now(rt)?;
+    let calls = walk::undo(gateway);
+    let undone = told(rt, name, "trade cancellations", calls, start)?;
+    let mass_cancels = row(rt, name, "mass cancels", gateway, &plan.mass_cancels)?;
+    let rows = [
+        logons,
+        recoveries,
+        orders,
+        replaces,
+        cancels,
+        undone,
+        mass_cancels,
+    ];
+    Ok(rows.iter().fold(0, |sum, calls| sum.saturating_add(*calls)))
+}
+
 fn play<R: Print + Eprint + Clock + AllocGlobal, M: Matcher, S: Store>(
     rt: &R,
     name: &str,
     gateway: &mut Gateway<M, S>,
     plan: &Plan,
 ) -> io::Result<()> {
-    row(rt, name, "logons", gateway, &plan.logons)?;
-    let _calls = walk::hear_recovery(gateway, &plan.logons);
-    order_rows(rt, name, gateway, &plan.orders)?;
-    row(rt, name, "replacements", gateway, &plan.replaces)?;
-    row(rt, name, "cancels", gateway, &plan.cancels)?;
     let start = Instant::now(rt)?;
-    let calls = walk::undo(gateway);
-    told(rt, name, "trade cancellations", calls, start)?;
-    row(rt, name, "mass cancels", gateway, &plan.mass_cancels)?;
-    outward(rt, name, gateway)?;
+    let taken = inward(rt, name, gateway, plan)?;
+    let given = outward(rt, name, gateway)?;
+    let calls = taken.saturating_add(given);
+    let cost = each(start.elapsed(rt)?, calls);
+    let rate = 1_000_000_000_u128.checked_div(cost).unwrap_or(0);
+    eprintln!(rt; "{name}: {rate} calls a second over the day")?;
     came_to(rt, name, gateway)
 }
 
