@@ -3,14 +3,16 @@
 
 mod calls;
 mod day;
+mod desk;
 mod opening;
 mod person;
 mod show;
 mod state;
 
 use crate::day::Day;
+use crate::desk::Desk;
 use crate::opening::{Engine, Opening, Shelf};
-use crate::state::State;
+use crate::state::{State, reader};
 use bench_script::answer::Answer;
 use bench_script::bytes::Bytes;
 use bench_script::command;
@@ -25,7 +27,6 @@ use matching::matcher::Matcher;
 use std::io;
 use std::process::ExitCode;
 use store::Store;
-use wire::kinds::Channel;
 
 const ABOUT: About = About {
     name: "bench",
@@ -42,9 +43,10 @@ const ABOUT: About = About {
                    a store of reports; the store where no line says so has 16384 places
   store wire BYTES
                    a store of wire bytes
+  follow LINE      a desk's follower of a line
   start
 
-The calls, as they are. TIME is SECONDS.MICROSECONDS, two whole numbers round a point; HEX is the bytes of a message, - for none:
+The gateway's calls, as they are. TIME is SECONDS.MICROSECONDS, two whole numbers round a point; HEX is the bytes of a message, - for none:
 
   real-time LINE TIME HEX
   recovery LINE TIME HEX
@@ -53,6 +55,14 @@ The calls, as they are. TIME is SECONDS.MICROSECONDS, two whole numbers round a 
   line-lost LINE TIME
   send LINE
   send-recovered LINE
+
+The follower's calls:
+
+  up
+  live HEX
+  ask PARTITION
+  recovered HEX
+  lost
 
 Messages that are built from words and taken in on a line at the time of the clock. QTY and PRICE are whole numbers, a price in
 hundred-millionths; orders are day orders for the lit book, as principal on the house's account:
@@ -76,6 +86,7 @@ And:
   drain LINE       sends all that there is to send
   download LINE    sends all of a download
   orders           shows every order
+  follower         shows how far the follower is, and every order that it knows
   show HEX         shows a message as text
   print hex|text   how the messages of answers are shown
   # ...            a comment; blank lines are passed over too",
@@ -111,15 +122,6 @@ fn obey<R: Print + AllocGlobal, M: Matcher, S: Store>(
     }
 }
 
-// Who reads a message, by its type.
-fn reader(bytes: &[u8]) -> Channel {
-    match bytes.get(3) {
-        Some(b'A' | b'D' | b'F' | b'G' | b'q') => Channel::RealTime,
-        Some(b'M') => Channel::Recovery,
-        _ => Channel::Follower,
-    }
-}
-
 fn show_message<R: Print + AllocGlobal>(rt: &R, bytes: Bytes<'_>) -> io::Result<()> {
     let bytes = bytes.to_vec(rt.alloc())?;
     let shown = answer_message(rt.alloc(), reader(&bytes), &bytes)?;
@@ -127,10 +129,10 @@ fn show_message<R: Print + AllocGlobal>(rt: &R, bytes: Bytes<'_>) -> io::Result<
 }
 
 /// A script as far as it has been played.
-#[derive(Drop)]
 struct Bench {
     opening: Opening,
     day: Option<Day>,
+    desk: Option<Desk>,
     state: State,
 }
 
@@ -147,6 +149,15 @@ impl Bench {
                 None => Err(io::Error::from(io::ErrorKind::OutOfMemory)),
             },
         }
+    }
+
+    // A follower, in the place of one that was there before.
+    fn follow<R: AllocGlobal>(&mut self, rt: &R) -> io::Result<()> {
+        let desk = Desk::new(rt.alloc())?;
+        if let Some(before) = std::mem::replace(&mut self.desk, Some(desk)) {
+            before.close();
+        }
+        Ok(())
     }
 
     // A line of the configuration.
@@ -173,6 +184,7 @@ impl Bench {
             }
             Setup::Records(places) => self.opening.shelf(Shelf::Records(places)),
             Setup::Wire(bytes) => self.opening.shelf(Shelf::Wire(bytes)),
+            Setup::Follow(_) => self.follow(rt)?,
             Setup::Start => return self.start(rt),
         }
         Ok(())
@@ -190,6 +202,14 @@ impl Bench {
                 self.state.style = style;
                 Ok(())
             }
+            Command::Desk(call) => match &mut self.desk {
+                Some(desk) => desk.make(rt, &mut self.state, call),
+                None => rt.println(Misread::NoFollower),
+            },
+            Command::Follower => match &self.desk {
+                Some(desk) => desk.show(rt),
+                None => rt.println(Misread::NoFollower),
+            },
             _ => match &mut self.day {
                 Some(day) => of_day!(day, gateway => obey(rt, &mut self.state, gateway, order)),
                 None => rt.println(Misread::NotStarted),
@@ -232,7 +252,18 @@ fn main(rt: HostRuntime) -> ExitCode {
     let mut bench = Bench {
         opening: Opening::new(rt.alloc()),
         day: None,
+        desk: None,
         state: State::new(),
     };
-    console::run(&rt, ABOUT, &mut bench)
+    let code = console::run(&rt, ABOUT, &mut bench);
+    let Bench {
+        opening: _,
+        day: _,
+        desk,
+        state: _,
+    } = bench;
+    if let Some(desk) = desk {
+        desk.close();
+    }
+    code
 }

@@ -17,12 +17,23 @@ pub struct State {
     pub style: Style,
 }
 
-/// How a message comes: as an answer, as one that is sent, or as the Reject of a check with its number and offset.
+/// How a message comes: as an answer, as one that is sent, as a request that a follower writes, or as the Reject of a check
+/// with its number and offset.
 #[derive(Clone, Copy)]
 pub enum Carried {
     Answer,
     Sent,
+    Request,
     Reject(u8, usize),
+}
+
+/// Who reads a message, by its type.
+pub fn reader(bytes: &[u8]) -> Channel {
+    match bytes.get(3) {
+        Some(b'A' | b'D' | b'F' | b'G' | b'q') => Channel::RealTime,
+        Some(b'M') => Channel::Recovery,
+        _ => Channel::Follower,
+    }
 }
 
 impl Carried {
@@ -30,6 +41,7 @@ impl Carried {
         match self {
             Carried::Answer => Answer::Message(payload),
             Carried::Sent => Answer::Sent(payload),
+            Carried::Request => Answer::Request(payload),
             Carried::Reject(number, offset) => Answer::Rejected(number, offset, payload),
         }
     }
@@ -63,7 +75,7 @@ impl State {
         match self.style {
             Style::Hex => self.tell(rt, carried.with(Payload::Bytes(bytes))),
             Style::Text => {
-                let shown = answer_message(rt.alloc(), Channel::Follower, bytes)?;
+                let shown = answer_message(rt.alloc(), reader(bytes), bytes)?;
                 self.tell(rt, carried.with(Payload::Text(shown.text.as_str())))
             }
         }

@@ -25,3 +25,4 @@ sentence_of why.Segment = codes "not understood: the segment has more than 4 cha
 sentence_of why.ClientId = codes "not understood: the client order id has more than 20 characters, or others than printable ones"
 sentence_of why.NotStarted = codes "not understood: the gateway is not started"
 sentence_of why.Started = codes "not understood: the gateway is started already"
+sentence_of why.NoFollower = codes "not understood: no line is followed"

@@ -35,6 +35,13 @@ name_of verb.Cancel = codes "cancel"
 name_of verb.Replace = codes "replace"
 name_of verb.MassCancel = codes "mass-cancel"
 name_of verb.Missed = codes "missed"
+name_of verb.Follow = codes "follow"
+name_of verb.Up = codes "up"
+name_of verb.Live = codes "live"
+name_of verb.Ask = codes "ask"
+name_of verb.Recovered = codes "recovered"
+name_of verb.Lost = codes "lost"
+name_of verb.Follower = codes "follower"
 
 -- what has this word
 abbrev pub verb_of : List ℕ → Option Verb

@@ -33,6 +33,8 @@ pub enum Misread {
     NotStarted,
     /// The gateway has all its configuration.
     Started,
+    /// What the line asks for needs a follower.
+    NoFollower,
 }
 
 impl Misread {
@@ -67,6 +69,7 @@ impl Misread {
                 "not understood: the client order id has more than 20 characters, or others than printable ones",
             Misread::NotStarted => "not understood: the gateway is not started",
             Misread::Started => "not understood: the gateway is started already",
+            Misread::NoFollower => "not understood: no line is followed",
         }
     }
 }

@@ -33,10 +33,17 @@ pub enum Verb {
     Replace,
     MassCancel,
     Missed,
+    Follow,
+    Up,
+    Live,
+    Ask,
+    Recovered,
+    Lost,
+    Follower,
 }
 
 /// All that a line can ask for.
-pub const VERBS: [Verb; 28] = [
+pub const VERBS: [Verb; 35] = [
     Verb::CompId,
     Verb::Instrument,
     Verb::Matcher,
@@ -65,6 +72,13 @@ pub const VERBS: [Verb; 28] = [
     Verb::Replace,
     Verb::MassCancel,
     Verb::Missed,
+    Verb::Follow,
+    Verb::Up,
+    Verb::Live,
+    Verb::Ask,
+    Verb::Recovered,
+    Verb::Lost,
+    Verb::Follower,
 ];
 
 impl Verb {
@@ -101,6 +115,13 @@ impl Verb {
             Verb::Replace => "replace",
             Verb::MassCancel => "mass-cancel",
             Verb::Missed => "missed",
+            Verb::Follow => "follow",
+            Verb::Up => "up",
+            Verb::Live => "live",
+            Verb::Ask => "ask",
+            Verb::Recovered => "recovered",
+            Verb::Lost => "lost",
+            Verb::Follower => "follower",
         }
     }
 
