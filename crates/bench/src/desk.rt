@@ -2,6 +2,7 @@
 use crate::state::{BUFFER, Carried, State};
 use bench_script::answer::Answer;
 use bench_script::command::Desk as Call;
+use bench_script::compared::Seen;
 use bench_script::listing::{Followed, Place};
 use codes::code::Code;
 use codes::session::Partition;
@@ -15,12 +16,14 @@ use std::{io, mem};
 
 /// A follower, and what it owes. It is not let go, but closed.
 pub struct Desk {
+    /// The line that is followed.
+    pub line: usize,
     follower: Follower,
     pending: Pending,
 }
 
-// What a message became, in a word, or the check that refused it.
-fn became<R: Print>(
+/// What a message became, in a word, or the check that refused it.
+pub fn became<R: Print>(
     rt: &R,
     state: &mut State,
     outcome: Result<&str, FollowerFault>,
@@ -35,8 +38,9 @@ fn became<R: Print>(
 }
 
 impl Desk {
-    pub fn new(heap: Global) -> Result<Desk, AllocError> {
+    pub fn new(heap: Global, line: usize) -> Result<Desk, AllocError> {
         Ok(Desk {
+            line,
             follower: Follower::new(heap)?,
             pending: Pending::Idle,
         })
@@ -45,37 +49,40 @@ impl Desk {
     /// Ends what is owed: the line is lost for good.
     pub fn close(self) {
         let Desk {
+            line: _,
             mut follower,
             pending,
         } = self;
         let _idle = follower.lost(pending);
     }
 
-    fn up(&mut self) {
+    pub fn up<R: Print>(&mut self, rt: &R, state: &mut State) -> io::Result<()> {
         let pending = mem::replace(&mut self.pending, Pending::Idle);
         self.pending = self.follower.up(pending);
+        state.tell(rt, Answer::Up)
     }
 
-    fn lost(&mut self) {
+    pub fn lost<R: Print>(&mut self, rt: &R, state: &mut State) -> io::Result<()> {
         let pending = mem::replace(&mut self.pending, Pending::Idle);
         self.pending = self.follower.lost(pending);
+        state.tell(rt, Answer::Lost)
     }
 
-    fn live(&mut self, message: &[u8]) -> Result<&'static str, FollowerFault> {
+    pub fn live(&mut self, message: &[u8]) -> Result<&'static str, FollowerFault> {
         let pending = mem::replace(&mut self.pending, Pending::Idle);
         let (outcome, pending) = self.follower.live(message, pending);
         self.pending = pending;
         Ok(outcome?.text())
     }
 
-    fn recovered(&mut self, message: &[u8]) -> Result<&'static str, FollowerFault> {
+    pub fn recovered(&mut self, message: &[u8]) -> Result<&'static str, FollowerFault> {
         let pending = mem::replace(&mut self.pending, Pending::Idle);
         let (outcome, pending) = self.follower.recovered(message, pending);
         self.pending = pending;
         Ok(outcome?.text())
     }
 
-    fn ask(&mut self, partition: u8, out: &mut [u8]) -> Result<usize, FollowerFault> {
+    pub fn ask(&mut self, partition: u8, out: &mut [u8]) -> Result<usize, FollowerFault> {
         let pending = mem::replace(&mut self.pending, Pending::Idle);
         let (outcome, pending) = self.follower.ask(partition, out, pending);
         self.pending = pending;
@@ -90,14 +97,8 @@ impl Desk {
         call: Call<'_>,
     ) -> io::Result<()> {
         match call {
-            Call::Up => {
-                self.up();
-                state.tell(rt, Answer::Up)
-            }
-            Call::Lost => {
-                self.lost();
-                state.tell(rt, Answer::Lost)
-            }
+            Call::Up => self.up(rt, state),
+            Call::Lost => self.lost(rt, state),
             Call::Live(bytes) => {
                 let message = bytes.to_vec(rt.alloc())?;
                 became(rt, state, self.live(&message))
@@ -118,20 +119,49 @@ impl Desk {
         }
     }
 
-    fn place(&self, partition: Partition) -> Place {
+    /// Whether a download is asked or runs.
+    pub fn owes(&self) -> bool {
+        self.pending.owed().is_some()
+    }
+
+    pub fn is_level(&self, partition: Partition) -> bool {
+        self.follower.state(partition) == side::State::Level
+    }
+
+    /// The number of the last report of a partition that was folded.
+    pub fn place(&self, partition: Partition) -> u32 {
+        self.follower.place(partition)
+    }
+
+    /// What it knows of an order.
+    pub fn seen(&self, order: u64) -> Option<Seen> {
+        let standing = self.follower.standing(order)?;
+        Some(Seen {
+            status: standing.status.byte(),
+            executed: standing.executed,
+            leaves: standing.leaves,
+        })
+    }
+
+    fn line_of(&self, partition: Partition) -> Place {
         Place {
             partition: partition.byte(),
-            number: self.follower.place(partition),
-            level: self.follower.state(partition) == side::State::Level,
+            number: self.place(partition),
+            level: self.is_level(partition),
             held: self.follower.held(partition),
         }
     }
 
-    /// How far it is in each partition, and every order that it knows.
+    /// How far it is in each partition.
+    pub fn show_places<R: Print>(&self, rt: &R) -> io::Result<()> {
+        rt.println(self.line_of(Partition::One))?;
+        rt.println(self.line_of(Partition::Two))?;
+        rt.println(self.line_of(Partition::Three))
+    }
+
+    /// The same, and every order that it knows.
     pub fn show<R: Print>(&self, rt: &R) -> io::Result<()> {
-        rt.println(self.place(Partition::One))?;
-        rt.println(self.place(Partition::Two))?;
-        rt.println(self.place(Partition::Three))?;
+        self.show_places(rt)?;
         let mut from = 0;
         for _ in 0..self.follower.len() {
             let Some(known) = self.follower.first_from(from) else {

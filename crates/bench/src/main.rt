@@ -1,13 +1,16 @@
 // Plays a script of calls on a gateway, and prints what each was answered.
 #![tactic(auto)]
 
+mod cable;
 mod calls;
 mod day;
 mod desk;
 mod opening;
 mod person;
 mod show;
+mod sides;
 mod state;
+mod under_way;
 
 use crate::day::Day;
 use crate::desk::Desk;
@@ -16,7 +19,7 @@ use crate::state::{State, reader};
 use bench_script::answer::Answer;
 use bench_script::bytes::Bytes;
 use bench_script::command;
-use bench_script::command::{Command, Setup};
+use bench_script::command::{Cable, Command, Setup};
 use bench_script::line::{is_skipped, parted};
 use bench_script::misread::Misread;
 use configuration::config::StartRefusal;
@@ -63,6 +66,17 @@ The follower's calls:
   ask PARTITION
   recovered HEX
   lost
+
+What a person does with the line that is followed, at the time of the clock. What the gateway answers and sends on that line
+is under way to the desk until it is delivered:
+
+  deliver          the next live message comes to the follower
+  deliver recovered
+                   the next message of the recovery channel comes
+  repeat [BACK]    the last live message that came comes once more; with 2 the one before it
+  pull             cuts the cable: what is under way is gone, and both ends are told
+  reconnect        logs on both channels, and the follower is up
+  catch up         asks for each partition and downloads it until it is level
 
 Messages that are built from words and taken in on a line at the time of the clock. QTY and PRICE are whole numbers, a price in
 hundred-millionths; orders are day orders for the lit book, as principal on the house's account:
@@ -122,6 +136,18 @@ fn obey<R: Print + AllocGlobal, M: Matcher, S: Store>(
     }
 }
 
+fn close_day<R: Print, M: Matcher, S: Store>(
+    rt: &R,
+    gateway: &Gateway<M, S>,
+    desk: &Option<Desk>,
+) -> io::Result<()> {
+    show::close(rt, gateway)?;
+    match desk {
+        Some(desk) => sides::close(rt, gateway, desk),
+        None => Ok(()),
+    }
+}
+
 fn show_message<R: Print + AllocGlobal>(rt: &R, bytes: Bytes<'_>) -> io::Result<()> {
     let bytes = bytes.to_vec(rt.alloc())?;
     let shown = answer_message(rt.alloc(), reader(&bytes), &bytes)?;
@@ -152,8 +178,9 @@ impl Bench {
     }
 
     // A follower, in the place of one that was there before.
-    fn follow<R: AllocGlobal>(&mut self, rt: &R) -> io::Result<()> {
-        let desk = Desk::new(rt.alloc())?;
+    fn follow<R: AllocGlobal>(&mut self, rt: &R, line: usize) -> io::Result<()> {
+        let desk = Desk::new(rt.alloc(), line)?;
+        self.state.under_way.follow(line);
         if let Some(before) = std::mem::replace(&mut self.desk, Some(desk)) {
             before.close();
         }
@@ -184,10 +211,21 @@ impl Bench {
             }
             Setup::Records(places) => self.opening.shelf(Shelf::Records(places)),
             Setup::Wire(bytes) => self.opening.shelf(Shelf::Wire(bytes)),
-            Setup::Follow(_) => self.follow(rt)?,
+            Setup::Follow(line) => self.follow(rt, line)?,
             Setup::Start => return self.start(rt),
         }
         Ok(())
+    }
+
+    // What a person does with the line that is followed.
+    fn act<R: Print + AllocGlobal>(&mut self, rt: &R, action: Cable) -> io::Result<()> {
+        let Some(desk) = &mut self.desk else {
+            return rt.println(Misread::NoFollower);
+        };
+        match &mut self.day {
+            Some(day) => of_day!(day, gateway => cable::play(rt, &mut self.state, gateway, desk, action)),
+            None => rt.println(Misread::NotStarted),
+        }
     }
 
     fn play<R: Print + AllocGlobal>(&mut self, rt: &R, order: Command<'_>) -> io::Result<()> {
@@ -206,6 +244,7 @@ impl Bench {
                 Some(desk) => desk.make(rt, &mut self.state, call),
                 None => rt.println(Misread::NoFollower),
             },
+            Command::Cable(action) => self.act(rt, action),
             Command::Follower => match &self.desk {
                 Some(desk) => desk.show(rt),
                 None => rt.println(Misread::NoFollower),
@@ -242,7 +281,7 @@ impl Session for Bench {
             }
         }
         match &self.day {
-            Some(day) => of_day!(day, gateway => show::close(rt, gateway)),
+            Some(day) => of_day!(day, gateway => close_day(rt, gateway, &self.desk)),
             None => Ok(()),
         }
     }
@@ -253,7 +292,7 @@ fn main(rt: HostRuntime) -> ExitCode {
         opening: Opening::new(rt.alloc()),
         day: None,
         desk: None,
-        state: State::new(),
+        state: State::new(rt.alloc()),
     };
     let code = console::run(&rt, ABOUT, &mut bench);
     let Bench {

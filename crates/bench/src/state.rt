@@ -1,8 +1,10 @@
 // What a run keeps beside the gateway: the account, the clock, and how messages are shown.
+use crate::under_way::UnderWay;
 use bench_script::account::Account;
 use bench_script::answer::{Answer, Payload};
 use bench_script::command::Style;
 use inspector::answer::answer_message;
+use std::alloc::Global;
 use std::io;
 use texts::values::Time;
 use wire::kinds::Channel;
@@ -15,6 +17,7 @@ pub struct State {
     pub account: Account,
     pub clock: Time,
     pub style: Style,
+    pub under_way: UnderWay,
 }
 
 /// How a message comes: as an answer, as one that is sent, as a request that a follower writes, or as the Reject of a check
@@ -48,7 +51,7 @@ impl Carried {
 }
 
 impl State {
-    pub fn new() -> State {
+    pub fn new(heap: Global) -> State {
         State {
             account: Account::new(),
             clock: Time {
@@ -56,6 +59,7 @@ impl State {
                 microseconds: 0,
             },
             style: Style::Hex,
+            under_way: UnderWay::new(heap),
         }
     }
 

@@ -18,6 +18,7 @@ sentence_of why.Quantity = codes "not understood: the quantity is not whole, or 
 sentence_of why.Matcher = codes "not understood: the matcher is neither lit nor tape"
 sentence_of why.Store = codes "not understood: the store is neither records nor wire, with one number"
 sentence_of why.Style = codes "not understood: messages are shown as hex or as text"
+sentence_of why.Delivery = codes "not understood: nothing is delivered but live and recovered messages"
 sentence_of why.Tape = codes "not understood: a line of the tape is not ORDER,QTY,PRICE"
 sentence_of why.Scope = codes "not understood: what is cancelled is none of own, firm, instrument and segment"
 sentence_of why.Symbol = codes "not understood: the symbol has more than 6 characters, or others than printable ones"

@@ -42,6 +42,11 @@ name_of verb.Ask = codes "ask"
 name_of verb.Recovered = codes "recovered"
 name_of verb.Lost = codes "lost"
 name_of verb.Follower = codes "follower"
+name_of verb.Deliver = codes "deliver"
+name_of verb.Repeat = codes "repeat"
+name_of verb.Pull = codes "pull"
+name_of verb.Reconnect = codes "reconnect"
+name_of verb.Catch = codes "catch"
 
 -- what has this word
 abbrev pub verb_of : List ℕ → Option Verb

@@ -1,6 +1,6 @@
 // What a line of a script asks for, read from its words.
 ghost use Rattle.std.specs.Prelude.{◌≡◌};
-ghost use Rattle.bench_script.specs.Commands.{alone_of, ask_of, at_time, by_verb, bytes_said, command_of, cancel_of, cancel_trade_of, comp_id_of, firm_of, instrument_of, is_lit, is_played, line_lost_of, live_of, lone_of, marked_of, mass_cancel_of, matcher_of, message_of, missed_of, on_line, order_of, real_time_of, recovered_of, recovery_of, replace_of, scope_of, show_of, store_of, style_of, tape_said};
+ghost use Rattle.bench_script.specs.Commands.{alone_of, ask_of, at_time, by_verb, bytes_said, catch_of, command_of, cancel_of, cancel_trade_of, comp_id_of, deliver_of, firm_of, instrument_of, is_lit, is_played, line_lost_of, live_of, lone_of, marked_of, mass_cancel_of, matcher_of, message_of, missed_of, on_line, order_of, real_time_of, recovered_of, recovery_of, repeat_of, replace_of, scope_of, show_of, store_of, style_of, tape_said};
 
 use crate::bytes::Bytes;
 use crate::misread::Misread;
@@ -59,6 +59,23 @@ pub enum Desk<'a> {
     Ask(u8),
     Recovered(Bytes<'a>),
     Lost,
+}
+
+/// What a person does with the line that is followed.
+#[derive(Clone, Copy, Debug)]
+pub enum Cable {
+    /// The next live message under way comes.
+    Deliver,
+    /// The next message of the recovery channel under way comes.
+    DeliverRecovered,
+    /// A live message that has come comes once more: the last for 1, the one before it for 2.
+    Repeat(usize),
+    /// The line is cut, and what is under way is gone.
+    Pull,
+    /// Both channels are logged on.
+    Reconnect,
+    /// Every partition is downloaded until it is level.
+    CatchUp,
 }
 
 /// What a mass cancel takes, of the CompID or of its firm.
@@ -125,6 +142,7 @@ pub enum Command<'a> {
     Setup(Setup<'a>),
     Call(Call<'a>),
     Desk(Desk<'a>),
+    Cable(Cable),
     /// A message on a line.
     Request(usize, Request<'a>),
     /// Every event of the matcher, until there is none.
@@ -206,6 +224,35 @@ fn ask<'a>(words: &[&'a str]) -> Result<Command<'a>, Misread>
     ensures { result ≡ ask_of words.now }
 {
     Ok(Command::Desk(Desk::Ask(words::partition(lone(words)?)?)))
+}
+
+fn deliver<'a>(words: &[&'a str]) -> Result<Command<'a>, Misread>
+    ensures { result ≡ deliver_of words.now }
+{
+    match *words {
+        [_] => Ok(Command::Cable(Cable::Deliver)),
+        [_, "recovered"] => Ok(Command::Cable(Cable::DeliverRecovered)),
+        _ => Err(Misread::Delivery),
+    }
+}
+
+fn repeat<'a>(words: &[&'a str]) -> Result<Command<'a>, Misread>
+    ensures { result ≡ repeat_of words.now }
+{
+    match *words {
+        [_] => Ok(Command::Cable(Cable::Repeat(1))),
+        [_, back] => Ok(Command::Cable(Cable::Repeat(words::count(back)?))),
+        _ => Err(Misread::Count),
+    }
+}
+
+fn catch_up<'a>(words: &[&'a str]) -> Result<Command<'a>, Misread>
+    ensures { result ≡ catch_of words.now }
+{
+    match *words {
+        [_, "up"] => Ok(Command::Cable(Cable::CatchUp)),
+        _ => Err(Misread::Name),
+    }
 }
 
 fn comp_id<'a>(words: &[&'a str]) -> Result<Command<'a>, Misread>
@@ -499,6 +546,11 @@ fn by_verb<'a>(verb: Verb, words: &'a [&'a str]) -> Result<Command<'a>, Misread>
         Verb::Recovered => recovered(words),
         Verb::Lost => alone(words, Command::Desk(Desk::Lost)),
         Verb::Follower => alone(words, Command::Follower),
+        Verb::Deliver => deliver(words),
+        Verb::Repeat => repeat(words),
+        Verb::Pull => alone(words, Command::Cable(Cable::Pull)),
+        Verb::Reconnect => alone(words, Command::Cable(Cable::Reconnect)),
+        Verb::Catch => catch_up(words),
     }
 }
 

@@ -40,10 +40,15 @@ pub enum Verb {
     Recovered,
     Lost,
     Follower,
+    Deliver,
+    Repeat,
+    Pull,
+    Reconnect,
+    Catch,
 }
 
 /// All that a line can ask for.
-pub const VERBS: [Verb; 35] = [
+pub const VERBS: [Verb; 40] = [
     Verb::CompId,
     Verb::Instrument,
     Verb::Matcher,
@@ -79,6 +84,11 @@ pub const VERBS: [Verb; 35] = [
     Verb::Recovered,
     Verb::Lost,
     Verb::Follower,
+    Verb::Deliver,
+    Verb::Repeat,
+    Verb::Pull,
+    Verb::Reconnect,
+    Verb::Catch,
 ];
 
 impl Verb {
@@ -122,6 +132,11 @@ impl Verb {
             Verb::Recovered => "recovered",
             Verb::Lost => "lost",
             Verb::Follower => "follower",
+            Verb::Deliver => "deliver",
+            Verb::Repeat => "repeat",
+            Verb::Pull => "pull",
+            Verb::Reconnect => "reconnect",
+            Verb::Catch => "catch",
         }
     }
 
