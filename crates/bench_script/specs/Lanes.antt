@@ -1,11 +1,11 @@
 -- The messages of a channel that a script plays. Assumes nothing.
-use Rattle.std.specs.Prelude.{ℕ, ◌-◌, ◌||◌, if◌then◌else◌, List, map, Some, None, Option, nat_lt, ◌==◌, slice_get}
+use Rattle.std.specs.Prelude.{ℕ, ◌-◌, Bool, ◌||◌, if◌then◌else◌, List, map, Some, None, Option, nat_lt, ◌==◌, slice_get, Vec}
 use Rattle.std.specs.Borrow.{Bor}
-use Rattle.bench_script.specs.declared.lane.Lane.{Lane}
+use Rattle.std.specs.declared.alloc.Global.{Global}
 
--- each message that was sent, as its bytes
-abbrev pub sent : Lane → List (List ℕ)
-sent l = map (λ m. m.items) l.messages.items
+-- each message as its bytes
+abbrev pub texts : List (Vec ℕ Global) → List (List ℕ)
+texts messages = map (λ m. m.items) messages
 
 -- of what has come, the last for 1, the one before it for 2
 abbrev pub again : List (List ℕ) → ℕ → ℕ → Option (List ℕ)

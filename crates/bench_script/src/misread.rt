@@ -59,7 +59,8 @@ impl Misread {
             Misread::Store =>
                 "not understood: the store is neither records nor wire, with one number",
             Misread::Style => "not understood: messages are shown as hex or as text",
-            Misread::Delivery => "not understood: nothing is delivered but live and recovered messages",
+            Misread::Delivery =>
+                "not understood: nothing is delivered but live and recovered messages",
             Misread::Tape => "not understood: a line of the tape is not ORDER,QTY,PRICE",
             Misread::Scope =>
                 "not understood: what is cancelled is none of own, firm, instrument and segment",
