@@ -168,7 +168,15 @@ fn ask<R: Print + AllocGlobal, M: Matcher, S: Store>(
             let request = &out[..length.min(BUFFER)];
             state.tell_message(rt, Carried::Request, request)?;
             let clock = state.clock;
-            hear(rt, state, gateway, Channel::Recovery, desk.line, clock, request)
+            hear(
+                rt,
+                state,
+                gateway,
+                Channel::Recovery,
+                desk.line,
+                clock,
+                request,
+            )
         }
         Err(fault) => became(rt, state, Err(fault)),
     }

@@ -223,7 +223,8 @@ impl Bench {
             return rt.println(Misread::NoFollower);
         };
         match &mut self.day {
-            Some(day) => of_day!(day, gateway => cable::play(rt, &mut self.state, gateway, desk, action)),
+            Some(day) =>
+                of_day!(day, gateway => cable::play(rt, &mut self.state, gateway, desk, action)),
             None => rt.println(Misread::NotStarted),
         }
     }

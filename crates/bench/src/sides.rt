@@ -43,5 +43,8 @@ pub fn close<R: Print, M: Matcher, S: Store>(
             }
         }
     }
-    println!(rt; "gateway and follower agree on {agree} of {orders} orders of line {}", desk.line)
+    println!(rt;
+        "gateway and follower agree on {agree} of {orders} orders of line {}",
+        desk.line
+    )
 }
