@@ -80,14 +80,14 @@ fn download_partition<M: Matcher, S: Store>(
     for _ in 0..16 {
         let request = missed(heap, line, partition, last)?;
         let _answer = gateway.recovery_message(line, &request.bytes, NOON, &mut out);
-        let mut sent = 0;
+        let mut sent: u32 = 0;
         for _ in 0..100 {
             calls = calls.saturating_add(1);
             match gateway.send_recovered(line, &mut out) {
                 Ok(0) | Err(_) => break,
                 Ok(5) => {}
                 Ok(_) => {
-                    sent += 1;
+                    sent = sent.saturating_add(1);
                     last = sequence(&out);
                 }
             }

@@ -92,7 +92,7 @@ new_or_bad : (m : NewOrder) (o : Option Ask) (a : Ask) → new.ask_of m ≡ o �
 new_or_bad m None a e h = absurd (cc)
 new_or_bad m (Some b) a e h = let is : b ≡ a = cc in subst (Fits m.quantity) is (new_if m _ b e)
 
-new_served : (m : NewOrder) (b : Bool) (e : Refusal) (a : Ask) → cond b (new.or_bad (new.ask_of m)) (Err e) ≡ Ok a → Fits m.quantity a
+pub new_served : (m : NewOrder) (b : Bool) (e : Refusal) (a : Ask) → cond b (new.or_bad (new.ask_of m)) (Err e) ≡ Ok a → Fits m.quantity a
 new_served m true e a h = new_or_bad m (new.ask_of m) a refl h
 new_served m false e a h = absurd (cc)
 

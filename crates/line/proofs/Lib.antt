@@ -3,3 +3,9 @@ pub mod Moving
 pub mod Asked
 pub mod Calls
 pub mod Conserving
+pub mod Leading
+pub mod Refused
+pub mod Growing
+pub mod Lines
+pub mod Owning
+pub mod Firms

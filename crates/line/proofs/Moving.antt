@@ -50,7 +50,7 @@ there [] i b x e = none-some b e
 there (y ∷ ys) zero b x e = refl
 there (y ∷ ys) (suc i) b x e = there ys i b x e
 
-put_there : (xs : List Row) (n : ℕ) (b x : Row) → under xs n ≡ Some b → under (put_under xs n x) n ≡ Some x
+pub put_there : (xs : List Row) (n : ℕ) (b x : Row) → under xs n ≡ Some b → under (put_under xs n x) n ≡ Some x
 put_there xs zero b x e = none-some b e
 put_there xs (suc n) b x e = there xs n b x e
 

@@ -1,2 +1,3 @@
 pub mod Runs
 pub mod Conservation
+pub mod Laws
