@@ -38,11 +38,17 @@ pub fn hear<R: Print + AllocGlobal, M: Matcher, S: Store>(
     };
     match outcome {
         Ok(0) => state.tell(rt, Answer::Nothing),
-        Ok(length) => state.tell_message(rt, Carried::Answer, front(&reply, length)),
+        Ok(length) => {
+            let message = front(&reply, length);
+            state.under_way.carry(rt.alloc(), channel, line, message)?;
+            state.tell_message(rt, Carried::Answer, message)
+        }
         Err(fault) => match fault.offset() {
             Some(offset) => {
                 let carried = Carried::Reject(fault.number(), offset);
-                state.tell_message(rt, carried, front(&reply, usize::from(TOTAL)))
+                let message = front(&reply, usize::from(TOTAL));
+                state.under_way.carry(rt.alloc(), channel, line, message)?;
+                state.tell_message(rt, carried, message)
             }
             None => refused(rt, state, fault),
         },
@@ -104,6 +110,8 @@ fn ended<R: Print>(
 fn handed<R: Print + AllocGlobal>(
     rt: &R,
     state: &mut State,
+    channel: Channel,
+    line: usize,
     outcome: Result<usize, GatewayFault>,
     buffer: &[u8; BUFFER],
 ) -> io::Result<bool> {
@@ -113,7 +121,9 @@ fn handed<R: Print + AllocGlobal>(
             Ok(false)
         }
         Ok(length) => {
-            state.tell_message(rt, Carried::Sent, front(buffer, length))?;
+            let message = front(buffer, length);
+            state.under_way.carry(rt.alloc(), channel, line, message)?;
+            state.tell_message(rt, Carried::Sent, message)?;
             Ok(true)
         }
         Err(fault) => {
@@ -132,7 +142,7 @@ pub fn send<R: Print + AllocGlobal, M: Matcher, S: Store>(
 ) -> io::Result<bool> {
     let mut out = [0; BUFFER];
     let outcome = gateway.send(line, &mut out);
-    handed(rt, state, outcome, &out)
+    handed(rt, state, Channel::RealTime, line, outcome, &out)
 }
 
 /// The next message of a line's download. Says whether more may follow.
@@ -144,7 +154,19 @@ pub fn send_recovered<R: Print + AllocGlobal, M: Matcher, S: Store>(
 ) -> io::Result<bool> {
     let mut out = [0; BUFFER];
     let outcome = gateway.send_recovered(line, &mut out);
-    handed(rt, state, outcome, &out)
+    handed(rt, state, Channel::Recovery, line, outcome, &out)
+}
+
+/// A line is lost.
+pub fn line_lost<R: Print, M: Matcher, S: Store>(
+    rt: &R,
+    state: &mut State,
+    gateway: &mut Gateway<M, S>,
+    line: usize,
+    time: Time,
+) -> io::Result<()> {
+    let outcome = gateway.line_lost(line, time);
+    ended(rt, state, outcome, Answer::Closed)
 }
 
 /// Makes a call as it stands.
@@ -171,10 +193,7 @@ pub fn make<R: Print + AllocGlobal, M: Matcher, S: Store>(
             let outcome = gateway.cancel_trade(number, time);
             ended(rt, state, outcome, Answer::Cancelled)
         }
-        Call::LineLost(line, time) => {
-            let outcome = gateway.line_lost(line, time);
-            ended(rt, state, outcome, Answer::Closed)
-        }
+        Call::LineLost(line, time) => line_lost(rt, state, gateway, line, time),
         Call::Send(line) => {
             let _more = send(rt, state, gateway, line)?;
             Ok(())

@@ -1,20 +1,25 @@
 // Plays a script of calls on a gateway, and prints what each was answered.
 #![tactic(auto)]
 
+mod cable;
 mod calls;
 mod day;
+mod desk;
 mod opening;
 mod person;
 mod show;
+mod sides;
 mod state;
+mod under_way;
 
 use crate::day::Day;
+use crate::desk::Desk;
 use crate::opening::{Engine, Opening, Shelf};
-use crate::state::State;
+use crate::state::{State, reader};
 use bench_script::answer::Answer;
 use bench_script::bytes::Bytes;
 use bench_script::command;
-use bench_script::command::{Command, Setup};
+use bench_script::command::{Cable, Command, Setup};
 use bench_script::line::{is_skipped, parted};
 use bench_script::misread::Misread;
 use configuration::config::StartRefusal;
@@ -25,7 +30,6 @@ use matching::matcher::Matcher;
 use std::io;
 use std::process::ExitCode;
 use store::Store;
-use wire::kinds::Channel;
 
 const ABOUT: About = About {
     name: "bench",
@@ -42,9 +46,10 @@ const ABOUT: About = About {
                    a store of reports; the store where no line says so has 16384 places
   store wire BYTES
                    a store of wire bytes
+  follow LINE      a desk's follower of a line
   start
 
-The calls, as they are. TIME is SECONDS.MICROSECONDS, two whole numbers round a point; HEX is the bytes of a message, - for none:
+The gateway's calls, as they are. TIME is SECONDS.MICROSECONDS, two whole numbers round a point; HEX is the bytes of a message, - for none:
 
   real-time LINE TIME HEX
   recovery LINE TIME HEX
@@ -53,6 +58,25 @@ The calls, as they are. TIME is SECONDS.MICROSECONDS, two whole numbers round a 
   line-lost LINE TIME
   send LINE
   send-recovered LINE
+
+The follower's calls:
+
+  up
+  live HEX
+  ask PARTITION
+  recovered HEX
+  lost
+
+What a person does with the line that is followed, at the time of the clock. What the gateway answers and sends on that line
+is under way to the desk until it is delivered:
+
+  deliver          the next live message comes to the follower
+  deliver recovered
+                   the next message of the recovery channel comes
+  repeat [BACK]    the last live message that came comes once more; with 2 the one before it
+  pull             cuts the cable: what is under way is gone, and both ends are told
+  reconnect        logs on both channels, and the follower is up
+  catch up         asks for each partition and downloads it until it is level
 
 Messages that are built from words and taken in on a line at the time of the clock. QTY and PRICE are whole numbers, a price in
 hundred-millionths; orders are day orders for the lit book, as principal on the house's account:
@@ -76,6 +100,7 @@ And:
   drain LINE       sends all that there is to send
   download LINE    sends all of a download
   orders           shows every order
+  follower         shows how far the follower is, and every order that it knows
   show HEX         shows a message as text
   print hex|text   how the messages of answers are shown
   # ...            a comment; blank lines are passed over too",
@@ -111,12 +136,15 @@ fn obey<R: Print + AllocGlobal, M: Matcher, S: Store>(
     }
 }
 
-// Who reads a message, by its type.
-fn reader(bytes: &[u8]) -> Channel {
-    match bytes.get(3) {
-        Some(b'A' | b'D' | b'F' | b'G' | b'q') => Channel::RealTime,
-        Some(b'M') => Channel::Recovery,
-        _ => Channel::Follower,
+fn close_day<R: Print, M: Matcher, S: Store>(
+    rt: &R,
+    gateway: &Gateway<M, S>,
+    desk: &Option<Desk>,
+) -> io::Result<()> {
+    show::close(rt, gateway)?;
+    match desk {
+        Some(desk) => sides::close(rt, gateway, desk),
+        None => Ok(()),
     }
 }
 
@@ -127,10 +155,10 @@ fn show_message<R: Print + AllocGlobal>(rt: &R, bytes: Bytes<'_>) -> io::Result<
 }
 
 /// A script as far as it has been played.
-#[derive(Drop)]
 struct Bench {
     opening: Opening,
     day: Option<Day>,
+    desk: Option<Desk>,
     state: State,
 }
 
@@ -147,6 +175,16 @@ impl Bench {
                 None => Err(io::Error::from(io::ErrorKind::OutOfMemory)),
             },
         }
+    }
+
+    // A follower, in the place of one that was there before.
+    fn follow<R: AllocGlobal>(&mut self, rt: &R, line: usize) -> io::Result<()> {
+        let desk = Desk::new(rt.alloc(), line)?;
+        self.state.under_way.follow(line);
+        if let Some(before) = std::mem::replace(&mut self.desk, Some(desk)) {
+            before.close();
+        }
+        Ok(())
     }
 
     // A line of the configuration.
@@ -173,9 +211,22 @@ impl Bench {
             }
             Setup::Records(places) => self.opening.shelf(Shelf::Records(places)),
             Setup::Wire(bytes) => self.opening.shelf(Shelf::Wire(bytes)),
+            Setup::Follow(line) => self.follow(rt, line)?,
             Setup::Start => return self.start(rt),
         }
         Ok(())
+    }
+
+    // What a person does with the line that is followed.
+    fn act<R: Print + AllocGlobal>(&mut self, rt: &R, action: Cable) -> io::Result<()> {
+        let Some(desk) = &mut self.desk else {
+            return rt.println(Misread::NoFollower);
+        };
+        match &mut self.day {
+            Some(day) =>
+                of_day!(day, gateway => cable::play(rt, &mut self.state, gateway, desk, action)),
+            None => rt.println(Misread::NotStarted),
+        }
     }
 
     fn play<R: Print + AllocGlobal>(&mut self, rt: &R, order: Command<'_>) -> io::Result<()> {
@@ -190,6 +241,15 @@ impl Bench {
                 self.state.style = style;
                 Ok(())
             }
+            Command::Desk(call) => match &mut self.desk {
+                Some(desk) => desk.make(rt, &mut self.state, call),
+                None => rt.println(Misread::NoFollower),
+            },
+            Command::Cable(action) => self.act(rt, action),
+            Command::Follower => match &self.desk {
+                Some(desk) => desk.show(rt),
+                None => rt.println(Misread::NoFollower),
+            },
             _ => match &mut self.day {
                 Some(day) => of_day!(day, gateway => obey(rt, &mut self.state, gateway, order)),
                 None => rt.println(Misread::NotStarted),
@@ -222,7 +282,7 @@ impl Session for Bench {
             }
         }
         match &self.day {
-            Some(day) => of_day!(day, gateway => show::close(rt, gateway)),
+            Some(day) => of_day!(day, gateway => close_day(rt, gateway, &self.desk)),
             None => Ok(()),
         }
     }
@@ -232,7 +292,18 @@ fn main(rt: HostRuntime) -> ExitCode {
     let mut bench = Bench {
         opening: Opening::new(rt.alloc()),
         day: None,
-        state: State::new(),
+        desk: None,
+        state: State::new(rt.alloc()),
     };
-    console::run(&rt, ABOUT, &mut bench)
+    let code = console::run(&rt, ABOUT, &mut bench);
+    let Bench {
+        opening: _,
+        day: _,
+        desk,
+        state: _,
+    } = bench;
+    if let Some(desk) = desk {
+        desk.close();
+    }
+    code
 }

@@ -1,8 +1,10 @@
 // What a run keeps beside the gateway: the account, the clock, and how messages are shown.
+use crate::under_way::UnderWay;
 use bench_script::account::Account;
 use bench_script::answer::{Answer, Payload};
 use bench_script::command::Style;
 use inspector::answer::answer_message;
+use std::alloc::Global;
 use std::io;
 use texts::values::Time;
 use wire::kinds::Channel;
@@ -15,14 +17,26 @@ pub struct State {
     pub account: Account,
     pub clock: Time,
     pub style: Style,
+    pub under_way: UnderWay,
 }
 
-/// How a message comes: as an answer, as one that is sent, or as the Reject of a check with its number and offset.
+/// How a message comes: as an answer, as one that is sent, as a request that a follower writes, or as the Reject of a check
+/// with its number and offset.
 #[derive(Clone, Copy)]
 pub enum Carried {
     Answer,
     Sent,
+    Request,
     Reject(u8, usize),
+}
+
+/// Who reads a message, by its type.
+pub fn reader(bytes: &[u8]) -> Channel {
+    match bytes.get(3) {
+        Some(b'A' | b'D' | b'F' | b'G' | b'q') => Channel::RealTime,
+        Some(b'M') => Channel::Recovery,
+        _ => Channel::Follower,
+    }
 }
 
 impl Carried {
@@ -30,13 +44,14 @@ impl Carried {
         match self {
             Carried::Answer => Answer::Message(payload),
             Carried::Sent => Answer::Sent(payload),
+            Carried::Request => Answer::Request(payload),
             Carried::Reject(number, offset) => Answer::Rejected(number, offset, payload),
         }
     }
 }
 
 impl State {
-    pub fn new() -> State {
+    pub fn new(heap: Global) -> State {
         State {
             account: Account::new(),
             clock: Time {
@@ -44,6 +59,7 @@ impl State {
                 microseconds: 0,
             },
             style: Style::Hex,
+            under_way: UnderWay::new(heap),
         }
     }
 
@@ -63,7 +79,7 @@ impl State {
         match self.style {
             Style::Hex => self.tell(rt, carried.with(Payload::Bytes(bytes))),
             Style::Text => {
-                let shown = answer_message(rt.alloc(), Channel::Follower, bytes)?;
+                let shown = answer_message(rt.alloc(), reader(bytes), bytes)?;
                 self.tell(rt, carried.with(Payload::Text(shown.text.as_str())))
             }
         }

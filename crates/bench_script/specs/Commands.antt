@@ -6,9 +6,11 @@ use Rattle.codes.specs.declared.order.Side.{Side}
 use Rattle.codes.specs.declared.order.Side.TheVariants as side
 use Rattle.texts.specs.declared.values.Time.{Time}
 use Rattle.bench_script.specs.declared.bytes.Bytes.{Bytes}
+use Rattle.bench_script.specs.declared.command.Cable.TheVariants as cable
 use Rattle.bench_script.specs.declared.command.Call.TheVariants as call
 use Rattle.bench_script.specs.declared.command.Command.{Command}
 use Rattle.bench_script.specs.declared.command.Command.TheVariants as command
+use Rattle.bench_script.specs.declared.command.Desk.TheVariants as desk
 use Rattle.bench_script.specs.declared.command.Request.TheVariants as request
 use Rattle.bench_script.specs.declared.command.Scope.{Scope}
 use Rattle.bench_script.specs.declared.command.Scope.TheVariants as scope
@@ -66,6 +68,35 @@ alone_of ws c = of_count 1 ws (Ok c)
 -- show HEX
 abbrev pub show_of : Words → Result Command Misread
 show_of ws = (lone_of ws then bytes_said) then λ bytes. Ok (command.Show bytes)
+
+abbrev pub live_of : Words → Result Command Misread
+live_of ws = (lone_of ws then bytes_said) then λ bytes. Ok (command.Desk (desk.Live bytes))
+
+abbrev pub recovered_of : Words → Result Command Misread
+recovered_of ws = (lone_of ws then bytes_said) then λ bytes. Ok (command.Desk (desk.Recovered bytes))
+
+-- ask PARTITION
+abbrev pub ask_of : Words → Result Command Misread
+ask_of ws = (lone_of ws then λ w. part_of w.now) then λ partition. Ok (command.Desk (desk.Ask partition))
+
+-- ---- what a person does with the line that is followed
+
+-- deliver, or deliver recovered
+abbrev pub deliver_of : Words → Result Command Misread
+deliver_of ws =
+    if length ws == 1 then Ok (command.Cable cable.Deliver)
+    else if (length ws == 2) && bytes_eq (text ws 1) (codes "recovered") then Ok (command.Cable cable.DeliverRecovered)
+    else Err why.Delivery
+
+-- repeat, or repeat BACK
+abbrev pub repeat_of : Words → Result Command Misread
+repeat_of ws =
+    if length ws == 1 then Ok (command.Cable (cable.Repeat 1))
+    else of_count 2 ws (number_of (text ws 1) then λ back. Ok (command.Cable (cable.Repeat back)))
+
+-- catch up
+abbrev pub catch_of : Words → Result Command Misread
+catch_of ws = if (length ws == 2) && bytes_eq (text ws 1) (codes "up") then Ok (command.Cable cable.CatchUp) else Err why.Name
 
 -- ---- what a gateway is started with
 
@@ -210,6 +241,18 @@ by_verb verb.Cancel ws = cancel_of ws.now
 by_verb verb.Replace ws = replace_of ws.now
 by_verb verb.MassCancel ws = mass_cancel_of ws.now
 by_verb verb.Missed ws = missed_of ws.now
+by_verb verb.Follow ws = on_line ws.now then λ line. Ok (command.Setup (setup.Follow line))
+by_verb verb.Up ws = alone_of ws.now (command.Desk desk.Up)
+by_verb verb.Live ws = live_of ws.now
+by_verb verb.Ask ws = ask_of ws.now
+by_verb verb.Recovered ws = recovered_of ws.now
+by_verb verb.Lost ws = alone_of ws.now (command.Desk desk.Lost)
+by_verb verb.Follower ws = alone_of ws.now command.Follower
+by_verb verb.Deliver ws = deliver_of ws.now
+by_verb verb.Repeat ws = repeat_of ws.now
+by_verb verb.Pull ws = alone_of ws.now (command.Cable cable.Pull)
+by_verb verb.Reconnect ws = alone_of ws.now (command.Cable cable.Reconnect)
+by_verb verb.Catch ws = catch_of ws.now
 
 abbrev pub of_verb : Option Verb → Bor Words → Result Command Misread
 of_verb None ws = Err why.Name

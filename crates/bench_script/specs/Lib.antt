@@ -8,3 +8,6 @@ pub mod Lines
 pub mod Answers
 pub mod Listings
 pub mod Accounts
+pub mod Comparisons
+pub mod Lanes
+pub mod Remarks

@@ -1,8 +1,10 @@
 -- How orders are listed. Assumes nothing.
-use Rattle.std.specs.Prelude.{ℕ, List, ◌++◌, codes, decimal}
+use Rattle.std.specs.Prelude.{ℕ, Bool, true, false, List, ◌++◌, codes, decimal}
 use Rattle.bench_script.specs.declared.listing.Figures.{Figures}
+use Rattle.bench_script.specs.declared.listing.Followed.{Followed}
 use Rattle.bench_script.specs.declared.listing.Listed.{Listed}
 use Rattle.bench_script.specs.declared.listing.Naming.{Naming}
+use Rattle.bench_script.specs.declared.listing.Place.{Place}
 use Rattle.bench_script.specs.declared.listing.Totals.{Totals}
 
 abbrev pub naming_text : Naming → List ℕ
@@ -20,3 +22,17 @@ listed_text o = naming_text o.naming ++ (codes " " ++ figures_text o.figures)
 
 abbrev pub totals_text : Totals → List ℕ
 totals_text t = codes "orders " ++ (decimal t.orders ++ (codes " trades " ++ (decimal t.trades ++ (codes " reports " ++ decimal t.reports))))
+
+abbrev pub state_text : Bool → List ℕ
+state_text true = codes "level"
+state_text false = codes "behind"
+
+abbrev pub place_text : Place → List ℕ
+place_text p =
+    (codes "partition " ++ (decimal p.partition ++ (codes " place " ++ (decimal p.number ++ codes " "))))
+    ++ (state_text p.level ++ (codes " held " ++ decimal p.held))
+
+abbrev pub followed_text : Followed → List ℕ
+followed_text o =
+    (codes "order " ++ (decimal o.number ++ (codes " partition " ++ (decimal o.partition ++ codes " "))))
+    ++ (codes "status " ++ (decimal o.status ++ (codes " executed " ++ (decimal o.executed ++ (codes " open " ++ decimal o.leaves)))))

@@ -35,6 +35,18 @@ name_of verb.Cancel = codes "cancel"
 name_of verb.Replace = codes "replace"
 name_of verb.MassCancel = codes "mass-cancel"
 name_of verb.Missed = codes "missed"
+name_of verb.Follow = codes "follow"
+name_of verb.Up = codes "up"
+name_of verb.Live = codes "live"
+name_of verb.Ask = codes "ask"
+name_of verb.Recovered = codes "recovered"
+name_of verb.Lost = codes "lost"
+name_of verb.Follower = codes "follower"
+name_of verb.Deliver = codes "deliver"
+name_of verb.Repeat = codes "repeat"
+name_of verb.Pull = codes "pull"
+name_of verb.Reconnect = codes "reconnect"
+name_of verb.Catch = codes "catch"
 
 -- what has this word
 abbrev pub verb_of : List ℕ → Option Verb

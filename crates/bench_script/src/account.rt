@@ -54,7 +54,7 @@ impl Account {
         match *answer {
             Answer::Message(_) => self.answered = self.answered.saturating_add(1),
             Answer::Sent(_) => self.sent = self.sent.saturating_add(1),
-            Answer::Refused(number) => self.refuse(number),
+            Answer::Refused(number) | Answer::RefusedAt(number, _) => self.refuse(number),
             Answer::Rejected(number, _, _) => {
                 self.answered = self.answered.saturating_add(1);
                 self.refuse(number);

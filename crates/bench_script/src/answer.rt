@@ -108,8 +108,18 @@ pub enum Answer<'a> {
     Cancelled,
     /// A line is closed.
     Closed,
+    /// The follower is up.
+    Up,
+    /// Its line is lost.
+    Lost,
+    /// The request that it writes.
+    Request(Payload<'a>),
+    /// What became of a message that it took, in a word.
+    Became(&'a str),
     /// The number of the check that failed.
     Refused(u8),
+    /// The same of a check of a message, with the offset of what failed it.
+    RefusedAt(u8, usize),
     /// The same of a check of a message, with the offset of what failed it and the Reject that answers it.
     Rejected(u8, usize, Payload<'a>),
 }
@@ -127,7 +137,12 @@ impl fmt::Display for Answer<'_> {
             Answer::Traded(trade) => write!(f, "{trade}"),
             Answer::Cancelled => f.write_str("cancelled"),
             Answer::Closed => f.write_str("closed"),
+            Answer::Up => f.write_str("up"),
+            Answer::Lost => f.write_str("lost"),
+            Answer::Request(message) => write!(f, "request {message}"),
+            Answer::Became(word) => f.write_str(word),
             Answer::Refused(number) => write!(f, "refused {number}"),
+            Answer::RefusedAt(number, offset) => write!(f, "refused {number} at {offset}"),
             Answer::Rejected(number, offset, reject) => {
                 write!(f, "refused {number} at {offset} answer {reject}")
             }

@@ -1,6 +1,6 @@
 // What a line of a script asks for, read from its words.
 ghost use Rattle.std.specs.Prelude.{◌≡◌};
-ghost use Rattle.bench_script.specs.Commands.{alone_of, at_time, by_verb, bytes_said, command_of, cancel_of, cancel_trade_of, comp_id_of, firm_of, instrument_of, is_lit, is_played, line_lost_of, lone_of, marked_of, mass_cancel_of, matcher_of, message_of, missed_of, on_line, order_of, real_time_of, recovery_of, replace_of, scope_of, show_of, store_of, style_of, tape_said};
+ghost use Rattle.bench_script.specs.Commands.{alone_of, ask_of, at_time, by_verb, bytes_said, catch_of, command_of, cancel_of, cancel_trade_of, comp_id_of, deliver_of, firm_of, instrument_of, is_lit, is_played, line_lost_of, live_of, lone_of, marked_of, mass_cancel_of, matcher_of, message_of, missed_of, on_line, order_of, real_time_of, recovered_of, recovery_of, repeat_of, replace_of, scope_of, show_of, store_of, style_of, tape_said};
 
 use crate::bytes::Bytes;
 use crate::misread::Misread;
@@ -33,6 +33,8 @@ pub enum Setup<'a> {
     Records(usize),
     /// A store of wire bytes, so many.
     Wire(usize),
+    /// A desk's follower of a line.
+    Follow(usize),
     Start,
 }
 
@@ -46,6 +48,34 @@ pub enum Call<'a> {
     LineLost(usize, Time),
     Send(usize),
     SendRecovered(usize),
+}
+
+/// One of a follower's five calls.
+#[derive(Clone, Copy, Debug)]
+pub enum Desk<'a> {
+    Up,
+    Live(Bytes<'a>),
+    /// The number of a partition, of which there may be none.
+    Ask(u8),
+    Recovered(Bytes<'a>),
+    Lost,
+}
+
+/// What a person does with the line that is followed.
+#[derive(Clone, Copy, Debug)]
+pub enum Cable {
+    /// The next live message under way comes.
+    Deliver,
+    /// The next message of the recovery channel under way comes.
+    DeliverRecovered,
+    /// A live message that has come comes once more: the last for 1, the one before it for 2.
+    Repeat(usize),
+    /// The line is cut, and what is under way is gone.
+    Pull,
+    /// Both channels are logged on.
+    Reconnect,
+    /// Every partition is downloaded until it is level.
+    CatchUp,
 }
 
 /// What a mass cancel takes, of the CompID or of its firm.
@@ -111,6 +141,8 @@ pub enum Style {
 pub enum Command<'a> {
     Setup(Setup<'a>),
     Call(Call<'a>),
+    Desk(Desk<'a>),
+    Cable(Cable),
     /// A message on a line.
     Request(usize, Request<'a>),
     /// Every event of the matcher, until there is none.
@@ -120,6 +152,8 @@ pub enum Command<'a> {
     /// Everything of a line's download.
     Download(usize),
     Orders,
+    /// What the follower knows.
+    Follower,
     Show(Bytes<'a>),
     /// The time of the requests and events that follow.
     Clock(Time),
@@ -172,6 +206,53 @@ fn show<'a>(words: &[&'a str]) -> Result<Command<'a>, Misread>
     ensures { result ≡ show_of words.now }
 {
     Ok(Command::Show(bytes(lone(words)?)?))
+}
+
+fn live<'a>(words: &[&'a str]) -> Result<Command<'a>, Misread>
+    ensures { result ≡ live_of words.now }
+{
+    Ok(Command::Desk(Desk::Live(bytes(lone(words)?)?)))
+}
+
+fn recovered<'a>(words: &[&'a str]) -> Result<Command<'a>, Misread>
+    ensures { result ≡ recovered_of words.now }
+{
+    Ok(Command::Desk(Desk::Recovered(bytes(lone(words)?)?)))
+}
+
+fn ask<'a>(words: &[&'a str]) -> Result<Command<'a>, Misread>
+    ensures { result ≡ ask_of words.now }
+{
+    Ok(Command::Desk(Desk::Ask(words::partition(lone(words)?)?)))
+}
+
+fn deliver<'a>(words: &[&'a str]) -> Result<Command<'a>, Misread>
+    ensures { result ≡ deliver_of words.now }
+{
+    match *words {
+        [_] => Ok(Command::Cable(Cable::Deliver)),
+        [_, "recovered"] => Ok(Command::Cable(Cable::DeliverRecovered)),
+        _ => Err(Misread::Delivery),
+    }
+}
+
+fn repeat<'a>(words: &[&'a str]) -> Result<Command<'a>, Misread>
+    ensures { result ≡ repeat_of words.now }
+{
+    match *words {
+        [_] => Ok(Command::Cable(Cable::Repeat(1))),
+        [_, back] => Ok(Command::Cable(Cable::Repeat(words::count(back)?))),
+        _ => Err(Misread::Count),
+    }
+}
+
+fn catch_up<'a>(words: &[&'a str]) -> Result<Command<'a>, Misread>
+    ensures { result ≡ catch_of words.now }
+{
+    match *words {
+        [_, "up"] => Ok(Command::Cable(Cable::CatchUp)),
+        _ => Err(Misread::Name),
+    }
 }
 
 fn comp_id<'a>(words: &[&'a str]) -> Result<Command<'a>, Misread>
@@ -458,6 +539,18 @@ fn by_verb<'a>(verb: Verb, words: &'a [&'a str]) -> Result<Command<'a>, Misread>
         Verb::Replace => replace(words),
         Verb::MassCancel => mass_cancel(words),
         Verb::Missed => missed(words),
+        Verb::Follow => Ok(Command::Setup(Setup::Follow(on_line(words)?))),
+        Verb::Up => alone(words, Command::Desk(Desk::Up)),
+        Verb::Live => live(words),
+        Verb::Ask => ask(words),
+        Verb::Recovered => recovered(words),
+        Verb::Lost => alone(words, Command::Desk(Desk::Lost)),
+        Verb::Follower => alone(words, Command::Follower),
+        Verb::Deliver => deliver(words),
+        Verb::Repeat => repeat(words),
+        Verb::Pull => alone(words, Command::Cable(Cable::Pull)),
+        Verb::Reconnect => alone(words, Command::Cable(Cable::Reconnect)),
+        Verb::Catch => catch_up(words),
     }
 }
 

@@ -1,6 +1,6 @@
 // The orders of a day, a line each.
 ghost use Rattle.std.specs.Prelude.{◌≡◌, Some};
-ghost use Rattle.bench_script.specs.Listings.{figures_text, listed_text, naming_text, totals_text};
+ghost use Rattle.bench_script.specs.Listings.{figures_text, followed_text, listed_text, naming_text, place_text, state_text, totals_text};
 
 use std::fmt;
 
@@ -78,6 +78,56 @@ impl fmt::Display for Totals {
             f,
             "orders {} trades {} reports {}",
             self.orders, self.trades, self.reports
+        )
+    }
+}
+
+/// How far a follower is in a partition.
+#[derive(Clone, Copy)]
+pub struct Place {
+    /// The number of the partition.
+    pub partition: u8,
+    /// The number of the last report that was folded.
+    pub number: u32,
+    pub level: bool,
+    /// How many reports are held.
+    pub held: usize,
+}
+
+fn state(level: bool) -> &'static str
+    ensures { result.now ≡ state_text level }
+{
+    if level { "level" } else { "behind" }
+}
+
+impl fmt::Display for Place {
+    ghost output = { λ place. Some (place_text place) };
+
+    fn fmt<W: fmt::Write>(&self, f: &mut fmt::Formatter<W>) -> fmt::Result {
+        write!(f, "partition {} place {} ", self.partition, self.number)?;
+        write!(f, "{} held {}", state(self.level), self.held)
+    }
+}
+
+/// An order as a follower knows it; shares executed and open.
+#[derive(Clone, Copy)]
+pub struct Followed {
+    pub number: u64,
+    pub partition: u8,
+    pub status: u8,
+    pub executed: u32,
+    pub leaves: u32,
+}
+
+impl fmt::Display for Followed {
+    ghost output = { λ order. Some (followed_text order) };
+
+    fn fmt<W: fmt::Write>(&self, f: &mut fmt::Formatter<W>) -> fmt::Result {
+        write!(f, "order {} partition {} ", self.number, self.partition)?;
+        write!(
+            f,
+            "status {} executed {} open {}",
+            self.status, self.executed, self.leaves
         )
     }
 }

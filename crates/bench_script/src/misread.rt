@@ -26,6 +26,7 @@ pub enum Misread {
     Store,
     Scope,
     Style,
+    Delivery,
     Symbol,
     Segment,
     ClientId,
@@ -33,6 +34,8 @@ pub enum Misread {
     NotStarted,
     /// The gateway has all its configuration.
     Started,
+    /// What the line asks for needs a follower.
+    NoFollower,
 }
 
 impl Misread {
@@ -56,6 +59,8 @@ impl Misread {
             Misread::Store =>
                 "not understood: the store is neither records nor wire, with one number",
             Misread::Style => "not understood: messages are shown as hex or as text",
+            Misread::Delivery =>
+                "not understood: nothing is delivered but live and recovered messages",
             Misread::Tape => "not understood: a line of the tape is not ORDER,QTY,PRICE",
             Misread::Scope =>
                 "not understood: what is cancelled is none of own, firm, instrument and segment",
@@ -67,6 +72,7 @@ impl Misread {
                 "not understood: the client order id has more than 20 characters, or others than printable ones",
             Misread::NotStarted => "not understood: the gateway is not started",
             Misread::Started => "not understood: the gateway is started already",
+            Misread::NoFollower => "not understood: no line is followed",
         }
     }
 }

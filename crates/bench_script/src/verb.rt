@@ -33,10 +33,22 @@ pub enum Verb {
     Replace,
     MassCancel,
     Missed,
+    Follow,
+    Up,
+    Live,
+    Ask,
+    Recovered,
+    Lost,
+    Follower,
+    Deliver,
+    Repeat,
+    Pull,
+    Reconnect,
+    Catch,
 }
 
 /// All that a line can ask for.
-pub const VERBS: [Verb; 28] = [
+pub const VERBS: [Verb; 40] = [
     Verb::CompId,
     Verb::Instrument,
     Verb::Matcher,
@@ -65,6 +77,18 @@ pub const VERBS: [Verb; 28] = [
     Verb::Replace,
     Verb::MassCancel,
     Verb::Missed,
+    Verb::Follow,
+    Verb::Up,
+    Verb::Live,
+    Verb::Ask,
+    Verb::Recovered,
+    Verb::Lost,
+    Verb::Follower,
+    Verb::Deliver,
+    Verb::Repeat,
+    Verb::Pull,
+    Verb::Reconnect,
+    Verb::Catch,
 ];
 
 impl Verb {
@@ -101,6 +125,18 @@ impl Verb {
             Verb::Replace => "replace",
             Verb::MassCancel => "mass-cancel",
             Verb::Missed => "missed",
+            Verb::Follow => "follow",
+            Verb::Up => "up",
+            Verb::Live => "live",
+            Verb::Ask => "ask",
+            Verb::Recovered => "recovered",
+            Verb::Lost => "lost",
+            Verb::Follower => "follower",
+            Verb::Deliver => "deliver",
+            Verb::Repeat => "repeat",
+            Verb::Pull => "pull",
+            Verb::Reconnect => "reconnect",
+            Verb::Catch => "catch",
         }
     }
 

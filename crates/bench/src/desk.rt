@@ -1,0 +1,185 @@
+// A desk's follower, with the download that it owes: its five calls, each made and its answer printed.
+use crate::state::{BUFFER, Carried, State};
+use bench_script::answer::Answer;
+use bench_script::command::Desk as Call;
+use bench_script::compared::Seen;
+use bench_script::listing::{Followed, Place};
+use codes::code::Code;
+use codes::session::Partition;
+use follower::fault::FollowerFault;
+use follower::pending::Pending;
+use follower::side;
+use follower::state::Follower;
+use reports::standings::Known;
+use std::alloc::{AllocError, Global};
+use std::{io, mem};
+
+/// A follower, and what it owes. It is not let go, but closed.
+pub struct Desk {
+    /// The line that is followed.
+    pub line: usize,
+    follower: Follower,
+    pending: Pending,
+}
+
+/// What a message became, in a word, or the check that refused it.
+pub fn became<R: Print>(
+    rt: &R,
+    state: &mut State,
+    outcome: Result<&str, FollowerFault>,
+) -> io::Result<()> {
+    match outcome {
+        Ok(word) => state.tell(rt, Answer::Became(word)),
+        Err(FollowerFault::Message(fault)) => {
+            state.tell(rt, Answer::RefusedAt(fault.number(), fault.offset()))
+        }
+        Err(fault) => state.tell(rt, Answer::Refused(fault.number())),
+    }
+}
+
+impl Desk {
+    pub fn new(heap: Global, line: usize) -> Result<Desk, AllocError> {
+        Ok(Desk {
+            line,
+            follower: Follower::new(heap)?,
+            pending: Pending::Idle,
+        })
+    }
+
+    /// Ends what is owed: the line is lost for good.
+    pub fn close(self) {
+        let Desk {
+            line: _,
+            mut follower,
+            pending,
+        } = self;
+        let _idle = follower.lost(pending);
+    }
+
+    pub fn up<R: Print>(&mut self, rt: &R, state: &mut State) -> io::Result<()> {
+        let pending = mem::replace(&mut self.pending, Pending::Idle);
+        self.pending = self.follower.up(pending);
+        state.tell(rt, Answer::Up)
+    }
+
+    pub fn lost<R: Print>(&mut self, rt: &R, state: &mut State) -> io::Result<()> {
+        let pending = mem::replace(&mut self.pending, Pending::Idle);
+        self.pending = self.follower.lost(pending);
+        state.tell(rt, Answer::Lost)
+    }
+
+    pub fn live(&mut self, message: &[u8]) -> Result<&'static str, FollowerFault> {
+        let pending = mem::replace(&mut self.pending, Pending::Idle);
+        let (outcome, pending) = self.follower.live(message, pending);
+        self.pending = pending;
+        Ok(outcome?.text())
+    }
+
+    pub fn recovered(&mut self, message: &[u8]) -> Result<&'static str, FollowerFault> {
+        let pending = mem::replace(&mut self.pending, Pending::Idle);
+        let (outcome, pending) = self.follower.recovered(message, pending);
+        self.pending = pending;
+        Ok(outcome?.text())
+    }
+
+    pub fn ask(&mut self, partition: u8, out: &mut [u8]) -> Result<usize, FollowerFault> {
+        let pending = mem::replace(&mut self.pending, Pending::Idle);
+        let (outcome, pending) = self.follower.ask(partition, out, pending);
+        self.pending = pending;
+        outcome
+    }
+
+    /// Makes a call.
+    pub fn make<R: Print + AllocGlobal>(
+        &mut self,
+        rt: &R,
+        state: &mut State,
+        call: Call<'_>,
+    ) -> io::Result<()> {
+        match call {
+            Call::Up => self.up(rt, state),
+            Call::Lost => self.lost(rt, state),
+            Call::Live(bytes) => {
+                let message = bytes.to_vec(rt.alloc())?;
+                became(rt, state, self.live(&message))
+            }
+            Call::Recovered(bytes) => {
+                let message = bytes.to_vec(rt.alloc())?;
+                became(rt, state, self.recovered(&message))
+            }
+            Call::Ask(partition) => {
+                let mut out = [0; BUFFER];
+                match self.ask(partition, &mut out) {
+                    Ok(length) => {
+                        state.tell_message(rt, Carried::Request, &out[..length.min(BUFFER)])
+                    }
+                    Err(fault) => became(rt, state, Err(fault)),
+                }
+            }
+        }
+    }
+
+    /// Whether a download is asked or runs.
+    pub fn owes(&self) -> bool {
+        self.pending.owed().is_some()
+    }
+
+    pub fn is_level(&self, partition: Partition) -> bool {
+        self.follower.state(partition) == side::State::Level
+    }
+
+    /// The number of the last report of a partition that was folded.
+    pub fn place(&self, partition: Partition) -> u32 {
+        self.follower.place(partition)
+    }
+
+    /// What it knows of an order.
+    pub fn seen(&self, order: u64) -> Option<Seen> {
+        let standing = self.follower.standing(order)?;
+        Some(Seen {
+            status: standing.status.byte(),
+            executed: standing.executed,
+            leaves: standing.leaves,
+        })
+    }
+
+    fn line_of(&self, partition: Partition) -> Place {
+        Place {
+            partition: partition.byte(),
+            number: self.place(partition),
+            level: self.is_level(partition),
+            held: self.follower.held(partition),
+        }
+    }
+
+    /// How far it is in each partition.
+    pub fn show_places<R: Print>(&self, rt: &R) -> io::Result<()> {
+        rt.println(self.line_of(Partition::One))?;
+        rt.println(self.line_of(Partition::Two))?;
+        rt.println(self.line_of(Partition::Three))
+    }
+
+    /// The same, and every order that it knows.
+    pub fn show<R: Print>(&self, rt: &R) -> io::Result<()> {
+        self.show_places(rt)?;
+        let mut from = 0;
+        for _ in 0..self.follower.len() {
+            let Some(known) = self.follower.first_from(from) else {
+                break;
+            };
+            rt.println(followed(known))?;
+            from = known.number.saturating_add(1);
+        }
+        Ok(())
+    }
+}
+
+fn followed(known: Known) -> Followed {
+    Followed {
+        number: known.number,
+        partition: known.standing.partition.byte(),
+        status: known.standing.status.byte(),
+        executed: known.standing.executed,
+        leaves: known.standing.leaves,
+    }
+}
