@@ -15,6 +15,7 @@ use Rattle.gateway.specs.declared.fault.GatewayFault.{GatewayFault}
 use Rattle.keyed.specs.Numbers.{under}
 use Rattle.layout.specs.declared.fault.Fault.{Fault}
 use Rattle.line.proofs.Asked.{MovesTo, By, Withdrawals, new_order_moves, cancel_moves, replace_moves, mass_moves, all_moves, expiry_moves}
+use Rattle.line.proofs.Walking.{hears_by, hands_by}
 use Rattle.line.proofs.Moving.{Moving, still, onward, wider, changes}
 use Rattle.line.specs.Conservation.{Move, May, MayBy, MayStep, MayUndo, MayLose}
 use Rattle.line.specs.Runs.{Does, blank}
@@ -117,20 +118,11 @@ Told ch bs m = (x : Message) × Reads (reader_of ch) bs x × MayBy x m.1
 stays : (p : Move → Type 0) (s w : State) → w ≡ s → Moving p s.venue.rows w.venue.rows
 stays p s w e = subst (λ (z : State). Moving p s.venue.rows z.venue.rows) (sym e) (still p s.venue.rows)
 
-read_moves : (o : Option Fault) (ch : Channel) (line : ℕ) (bs : List ℕ) (t : Time) (s : State) (buffer : List ℕ) (r : Result ℕ GatewayFault) (w : State) (after : List ℕ)
-    → Read o ch line bs t s buffer r w after → Moving (Told ch bs) s.venue.rows w.venue.rows
-read_moves (Some f) ch line bs t s buffer r w after (x, e, y) = stays (Told ch bs) s w e
-read_moves None ch line bs t s buffer r w after (m, reads, h) =
-    wider (By m) (Told ch bs) s.venue.rows w.venue.rows (λ x may. (m, reads, may)) (settled (By m) s.venue.rows (heard ch line m t s) buffer r w after (heard_moves ch line m t s) h)
-
-given_moves : (o : Option GatewayFault) (ch : Channel) (line : ℕ) (bs : List ℕ) (t : Time) (s : State) (buffer : List ℕ) (r : Result ℕ GatewayFault) (w : State) (after : List ℕ)
-    → Given o ch line bs t s buffer r w after → Moving (Told ch bs) s.venue.rows w.venue.rows
-given_moves (Some f) ch line bs t s buffer r w after (x, e, y) = stays (Told ch bs) s w e
-given_moves None ch line bs t s buffer r w after h = read_moves (verdict (reader_of ch) bs) ch line bs t s buffer r w after h
-
 hears_moves : (ch : Channel) (line : ℕ) (bs : List ℕ) (t : Time) (s : State) (buffer : List ℕ) (r : Result ℕ GatewayFault) (w : State) (after : List ℕ)
     → Hears ch line bs t s buffer r w after → Moving (Told ch bs) s.venue.rows w.venue.rows
-hears_moves ch line bs t s buffer r w after h = given_moves (call_fault (length buffer) line s) ch line bs t s buffer r w after h
+hears_moves ch line bs t s buffer r w after h =
+    hears_by (λ z. Moving (Told ch bs) s.venue.rows z.venue.rows) s (still (Told ch bs) s.venue.rows) ch line bs t buffer r w after
+    (λ m k reads d. wider (By m) (Told ch bs) s.venue.rows w.venue.rows (λ x may. (m, reads, may)) (settled (By m) s.venue.rows (heard ch line m t s) buffer r w after (heard_moves ch line m t s) d)) h
 
 -- ---- an event of the matcher
 
@@ -186,8 +178,8 @@ lose_moves line t s (Err f) w (x, e) = stays _ s w e
 
 hands_moves : (p : Move → Type 0) (o : Option GatewayFault) (h : Handed) (s : State) (buffer : List ℕ) (r : Result ℕ GatewayFault) (w : State) (after : List ℕ)
     → h.after.venue.rows ≡ s.venue.rows → Hands o h s buffer r w after → Moving p s.venue.rows w.venue.rows
-hands_moves p (Some f) h s buffer r w after k (x, e, y) = stays p s w e
-hands_moves p None h s buffer r w after k (x, e, y) = subst (Moving p s.venue.rows) (sym (ap (λ (z : State). z.venue.rows) e ∙ k)) (still p s.venue.rows)
+hands_moves p o h s buffer r w after k d =
+    hands_by (λ z. Moving p s.venue.rows z.venue.rows) s (still p s.venue.rows) o h buffer r w after (subst (Moving p s.venue.rows) (sym k) (still p s.venue.rows)) d
 
 -- ---- any call
 

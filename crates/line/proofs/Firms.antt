@@ -12,7 +12,7 @@ use Rattle.codes.specs.declared.session.AckResponse.{AckResponse}
 use Rattle.configuration.specs.declared.instrument.Instrument.{Instrument}
 use Rattle.configuration.specs.declared.participant.Participant.{Participant}
 use Rattle.gateway.specs.Calls.{Hands, Handed, send_fault, live_handed, recovery_handed}
-use Rattle.gateway.specs.Hearing.{Outcome, Settled, Read, Given, heard, requested_as, missed_by, missed_on, logout, call_fault, reader_of, firm, firm_of}
+use Rattle.gateway.specs.Hearing.{Outcome, Settled, Hears, heard, requested_as, missed_by, missed_on, logout, call_fault, reader_of, firm, firm_of}
 use Rattle.gateway.specs.Hearing.Outcome.{Answered, Reported}
 use Rattle.gateway.specs.Lines.{admitted, admits, ends_orders, ends_with, without_marked, line_closed}
 use Rattle.gateway.specs.State.{State, session}
@@ -22,6 +22,7 @@ use Rattle.keyed.specs.Numbers.{under}
 use Rattle.layout.specs.declared.fault.Fault.{Fault}
 use Rattle.line.proofs.Moving.{Moving, still, onward, adds, changes}
 use Rattle.line.proofs.Asked.{MovesTo}
+use Rattle.line.proofs.Walking.{hears_by, hands_by}
 use Rattle.line.specs.Conservation.{Move, Moved, Each}
 use Rattle.line.specs.Laws.{FirmOf, FirmsApart, line_of}
 use Rattle.line.specs.Runs.{Does, blank}
@@ -387,20 +388,14 @@ module _ (s : State) (line : ℕ) (sound : Sound s.venue) where
   settled_own (Answered a u) buffer r w out m (x, e, y) = subst (Moving Own s.venue.rows) (sym (ap (λ (z : State). z.venue.rows) e ∙ m)) (still Own s.venue.rows)
   settled_own (Reported most u) buffer r w out m (x, (e, l), y) = subst (Moving Own s.venue.rows) (sym (ap (λ (z : View). z.rows) l.state)) m
 
-  read_own : (o : Option Fault) (ch : Channel) (bs : List ℕ) (t : Time) (buffer : List ℕ) (r : Result ℕ GatewayFault) (w : State) (out : List ℕ)
-      → Read o ch line bs t s buffer r w out → Moving Own s.venue.rows w.venue.rows
-  read_own (Some f) ch bs t buffer r w out (x, e, y) = stays_own w e
-  read_own None ch bs t buffer r w out (m, reads, h) = settled_own (heard ch line m t s) buffer r w out (heard_own ch m t) h
-
-  given_own : (o : Option GatewayFault) (ch : Channel) (bs : List ℕ) (t : Time) (buffer : List ℕ) (r : Result ℕ GatewayFault) (w : State) (out : List ℕ)
-      → Given o ch line bs t s buffer r w out → Moving Own s.venue.rows w.venue.rows
-  given_own (Some f) ch bs t buffer r w out (x, e, y) = stays_own w e
-  given_own None ch bs t buffer r w out h = read_own (verdict (reader_of ch) bs) ch bs t buffer r w out h
+  hears_own : (ch : Channel) (bs : List ℕ) (t : Time) (buffer : List ℕ) (r : Result ℕ GatewayFault) (w : State) (out : List ℕ) → Hears ch line bs t s buffer r w out → Moving Own s.venue.rows w.venue.rows
+  hears_own ch bs t buffer r w out h =
+      hears_by (λ z. Moving Own s.venue.rows z.venue.rows) s (still Own s.venue.rows) ch line bs t buffer r w out (λ m k reads d. settled_own (heard ch line m t s) buffer r w out (heard_own ch m t) d) h
 
   hands_own : (o : Option GatewayFault) (p : Handed) (buffer : List ℕ) (r : Result ℕ GatewayFault) (w : State) (out : List ℕ) → p.after.venue.rows ≡ s.venue.rows → Hands o p s buffer r w out
       → Moving Own s.venue.rows w.venue.rows
-  hands_own (Some f) p buffer r w out k (x, e, y) = stays_own w e
-  hands_own None p buffer r w out k (x, e, y) = subst (Moving Own s.venue.rows) (sym (ap (λ (z : State). z.venue.rows) e ∙ k)) (still Own s.venue.rows)
+  hands_own o p buffer r w out k d =
+      hands_by (λ z. Moving Own s.venue.rows z.venue.rows) s (still Own s.venue.rows) o p buffer r w out (subst (Moving Own s.venue.rows) (sym k) (still Own s.venue.rows)) d
 
 the : (k line : ℕ) → ◌≡◌ {A = Option ℕ} (Some k) (Some line) → k ≡ line
 the k line e = cc
@@ -408,9 +403,9 @@ the k line e = cc
 -- a call on a line changes none but its firm's orders
 line_own : (s : State) (line : ℕ) (d : Done) (w : State) → Sound s.venue → Does s d w → line_of d ≡ Some line → Moving (λ m. FirmOf s line (under s.venue.rows m.0)) s.venue.rows w.venue.rows
 line_own s line (done.RealTime k bs t r) w sound h e =
-    subst (λ l. Moving (λ m. FirmOf s l (under s.venue.rows m.0)) s.venue.rows w.venue.rows) (the k line e) (given_own s k sound (call_fault (length blank) k s) RealTime bs.now t blank r.answer w r.buffer h)
+    subst (λ l. Moving (λ m. FirmOf s l (under s.venue.rows m.0)) s.venue.rows w.venue.rows) (the k line e) (hears_own s k sound RealTime bs.now t blank r.answer w r.buffer h)
 line_own s line (done.Recovery k bs t r) w sound h e =
-    subst (λ l. Moving (λ m. FirmOf s l (under s.venue.rows m.0)) s.venue.rows w.venue.rows) (the k line e) (given_own s k sound (call_fault (length blank) k s) Recovery bs.now t blank r.answer w r.buffer h)
+    subst (λ l. Moving (λ m. FirmOf s l (under s.venue.rows m.0)) s.venue.rows w.venue.rows) (the k line e) (hears_own s k sound Recovery bs.now t blank r.answer w r.buffer h)
 line_own s line (done.Step t r) w sound h e = none-some line e
 line_own s line (done.CancelTrade n t r) w sound h e = none-some line e
 line_own s line (done.LineLost k t (Ok u)) w sound (x, (f, l)) e =

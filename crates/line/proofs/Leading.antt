@@ -24,6 +24,7 @@ use Rattle.gateway.specs.declared.fault.GatewayFault.TheVariants.{ShortBuffer, N
 use Rattle.keyed.proofs.Under.{none-some}
 use Rattle.keyed.specs.Numbers.{under}
 use Rattle.layout.specs.declared.fault.Fault.{Fault}
+use Rattle.line.proofs.Walking.{hears_by, hands_by}
 use Rattle.line.specs.Runs.{Does, blank}
 use Rattle.line.specs.declared.call.Done.{Done}
 use Rattle.line.specs.declared.call.Done.TheVariants as done
@@ -316,20 +317,11 @@ module _ (R : Ledger → Ledger → Type 0) (s : State) (leads : Leads R (length
   abbrev Holds : State → Type 0
   Holds w = R (ledger_of s.venue) (ledger_of w.venue)
 
-  read_leads : (o : Option Fault) (ch : Channel) (line : ℕ) (bs : List ℕ) (t : Time) (buffer : List ℕ) (r : Result ℕ GatewayFault) (w : State) (out : List ℕ) → line < length s.lines
-      → Read o ch line bs t s buffer r w out → Holds w
-  read_leads (Some f) ch line bs t buffer r w out there (x, e, y) = stays R (length s.lines) leads s w e
-  read_leads None ch line bs t buffer r w out there (m, reads, h) =
-      settled_out R (length s.lines) leads line there s (heard ch line m t s) buffer r w out (heard_out R (length s.lines) leads line there ch m t s) h
-
-  given_leads : (o : Option GatewayFault) (ch : Channel) (line : ℕ) (bs : List ℕ) (t : Time) (buffer : List ℕ) (r : Result ℕ GatewayFault) (w : State) (out : List ℕ) → call_fault (length buffer) line s ≡ o
-      → Given o ch line bs t s buffer r w out → Holds w
-  given_leads (Some f) ch line bs t buffer r w out k (x, e, y) = stays R (length s.lines) leads s w e
-  given_leads None ch line bs t buffer r w out k h =
-      read_leads (verdict (reader_of ch) bs) ch line bs t buffer r w out (call_there (length buffer) line s k) h
-
   hears_leads : (ch : Channel) (line : ℕ) (bs : List ℕ) (t : Time) (buffer : List ℕ) (r : Result ℕ GatewayFault) (w : State) (out : List ℕ) → Hears ch line bs t s buffer r w out → Holds w
-  hears_leads ch line bs t buffer r w out h = given_leads (call_fault (length buffer) line s) ch line bs t buffer r w out refl h
+  hears_leads ch line bs t buffer r w out h =
+      hears_by Holds s (leads.same (ledger_of s.venue)) ch line bs t buffer r w out
+      (λ m k reads d. let there = call_there (length buffer) line s k in
+      settled_out R (length s.lines) leads line there s (heard ch line m t s) buffer r w out (heard_out R (length s.lines) leads line there ch m t s) d) h
 
   step_leads : (t : Time) (r : Result Step GatewayFault) (w : State) → Steps t s r w → Holds w
   step_leads t (Ok e) w (x, h, y) = stepped_leads R (length s.lines) leads t s.venue e w.venue h
@@ -350,9 +342,9 @@ module _ (R : Ledger → Ledger → Type 0) (s : State) (leads : Leads R (length
   lose_leads line t (Err f) w (x, e) = stays R (length s.lines) leads s w e
 
   hands_leads : (o : Option GatewayFault) (h : Handed) (buffer : List ℕ) (r : Result ℕ GatewayFault) (w : State) (out : List ℕ) → h.after.venue ≡ s.venue → Hands o h s buffer r w out → Holds w
-  hands_leads (Some f) h buffer r w out k (x, e, y) = stays R (length s.lines) leads s w e
-  hands_leads None h buffer r w out k (x, e, y) =
-      subst (λ (z : View). R (ledger_of s.venue) (ledger_of z)) (sym (ap (λ (z : State). z.venue) e ∙ k)) (leads.same (ledger_of s.venue))
+  hands_leads o h buffer r w out k d =
+      let same = leads.same (ledger_of s.venue) in
+      hands_by Holds s same o h buffer r w out (subst (λ (z : View). R (ledger_of s.venue) (ledger_of z)) (sym k) same) d
 
   pub call_leads : (d : Done) (w : State) → Does s d w → Holds w
   call_leads (done.RealTime line bs t r) w h = hears_leads RealTime line bs.now t blank r.answer w r.buffer h

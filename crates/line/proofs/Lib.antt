@@ -1,4 +1,5 @@
 pub mod Grown
+pub mod Walking
 pub mod Moving
 pub mod Asked
 pub mod Calls

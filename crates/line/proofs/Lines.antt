@@ -5,12 +5,13 @@ use Rattle.std.proofs.lemmas.List.{length-set, get_or-set_other}
 use Rattle.answers.specs.declared.answer.Answer.{Answer}
 use Rattle.codes.specs.declared.session.AckResponse.{AckResponse}
 use Rattle.gateway.specs.Calls.{Hands, Handed, send_fault, live_handed, recovery_handed}
-use Rattle.gateway.specs.Hearing.{Outcome, Settled, Read, Given, heard, requested_as, missed_by, missed_on, logout, call_fault, reader_of}
+use Rattle.gateway.specs.Hearing.{Outcome, Settled, Hears, heard, requested_as, missed_by, missed_on, logout, call_fault, reader_of}
 use Rattle.gateway.specs.Hearing.Outcome.{Answered, Reported}
 use Rattle.gateway.specs.Lines.{admitted, admits}
 use Rattle.gateway.specs.State.{State, session}
 use Rattle.gateway.specs.declared.fault.GatewayFault.{GatewayFault}
 use Rattle.layout.specs.declared.fault.Fault.{Fault}
+use Rattle.line.proofs.Walking.{hears_by, hands_by}
 use Rattle.line.specs.Laws.{LinesApart, line_of}
 use Rattle.line.specs.Runs.{Does, blank}
 use Rattle.line.specs.declared.call.Done.{Done}
@@ -94,20 +95,14 @@ settled_set : (line : ℕ) (s : State) (o : Outcome) (buffer : List ℕ) (r : Re
 settled_set line s (Answered a u) buffer r w out f (x, e, y) = same_set line s u w (ap (λ (z : State). z.lines) e) f
 settled_set line s (Reported most u) buffer r w out f (x, (e, l), y) = same_set line s u w (ap (λ (z : State). z.lines) e) f
 
-read_set : (o : Option Fault) (ch : Channel) (line : ℕ) (bs : List ℕ) (t : Time) (s : State) (buffer : List ℕ) (r : Result ℕ GatewayFault) (w : State) (out : List ℕ)
-    → Read o ch line bs t s buffer r w out → Set line s w
-read_set (Some f) ch line bs t s buffer r w out (x, e, y) = stays_set line s w e
-read_set None ch line bs t s buffer r w out (m, reads, h) = settled_set line s (heard ch line m t s) buffer r w out (heard_set ch line m t s) h
-
-given_set : (o : Option GatewayFault) (ch : Channel) (line : ℕ) (bs : List ℕ) (t : Time) (s : State) (buffer : List ℕ) (r : Result ℕ GatewayFault) (w : State) (out : List ℕ)
-    → Given o ch line bs t s buffer r w out → Set line s w
-given_set (Some f) ch line bs t s buffer r w out (x, e, y) = stays_set line s w e
-given_set None ch line bs t s buffer r w out h = read_set (verdict (reader_of ch) bs) ch line bs t s buffer r w out h
+hears_set : (ch : Channel) (line : ℕ) (bs : List ℕ) (t : Time) (s : State) (buffer : List ℕ) (r : Result ℕ GatewayFault) (w : State) (out : List ℕ)
+    → Hears ch line bs t s buffer r w out → Set line s w
+hears_set ch line bs t s buffer r w out h =
+    hears_by (Set line s) s (inl refl) ch line bs t buffer r w out (λ m k reads d. settled_set line s (heard ch line m t s) buffer r w out (heard_set ch line m t s) d) h
 
 hands_set : (line : ℕ) (o : Option GatewayFault) (p : Handed) (s : State) (buffer : List ℕ) (r : Result ℕ GatewayFault) (w : State) (out : List ℕ)
     → Set line s p.after → Hands o p s buffer r w out → Set line s w
-hands_set line (Some f) p s buffer r w out k (x, e, y) = stays_set line s w e
-hands_set line None p s buffer r w out k (x, e, y) = same_set line s p.after w (ap (λ (z : State). z.lines) e) k
+hands_set line o p s buffer r w out k d = hands_by (Set line s) s (inl refl) o p buffer r w out k d
 
 -- the sessions after a call: on a line only that line's may change
 abbrev pub SetOn : Option ℕ → State → State → Type 0
@@ -115,8 +110,8 @@ SetOn None s w = w.lines ≡ s.lines
 SetOn (Some line) s w = Set line s w
 
 pub call_sets : (s : State) (d : Done) (w : State) → Does s d w → SetOn (line_of d) s w
-call_sets s (done.RealTime line bs t r) w h = given_set (call_fault (length blank) line s) RealTime line bs.now t s blank r.answer w r.buffer h
-call_sets s (done.Recovery line bs t r) w h = given_set (call_fault (length blank) line s) Recovery line bs.now t s blank r.answer w r.buffer h
+call_sets s (done.RealTime line bs t r) w h = hears_set RealTime line bs.now t s blank r.answer w r.buffer h
+call_sets s (done.Recovery line bs t r) w h = hears_set Recovery line bs.now t s blank r.answer w r.buffer h
 call_sets s (done.Step t (Ok e)) w (x, h, y) = ap (λ (z : State). z.lines) y
 call_sets s (done.Step t (Err f)) w (x, e) = ap (λ (z : State). z.lines) e
 call_sets s (done.CancelTrade n t (Ok u)) w (x, (e, l)) = ap (λ (z : State). z.lines) e

@@ -1,12 +1,13 @@
 -- A refused call changes nothing. Assumes nothing.
 use Rattle.std.specs.Prelude.{is_err}
-use Rattle.std.proofs.Common.{◌≡◌, ℕ, true, false, List, Some, None, Option, Ok, Err, Result, length, sym, ap, ◌∙◌}
+use Rattle.std.proofs.Common.{◌≡◌, ℕ, true, false, List, Some, None, Option, Ok, Err, Result, length, refl, sym, ap, ◌∙◌}
 use Rattle.gateway.specs.Calls.{Hands, Handed, send_fault, live_handed, recovery_handed}
-use Rattle.gateway.specs.Hearing.{Outcome, Settled, Read, Given, heard, call_fault, reader_of}
+use Rattle.gateway.specs.Hearing.{Outcome, Settled, Hears, heard, call_fault, reader_of}
 use Rattle.gateway.specs.Hearing.Outcome.{Answered, Reported}
 use Rattle.gateway.specs.State.{State}
 use Rattle.gateway.specs.declared.fault.GatewayFault.{GatewayFault}
 use Rattle.layout.specs.declared.fault.Fault.{Fault}
+use Rattle.line.proofs.Walking.{hears_by}
 use Rattle.line.specs.Laws.{RefusedStand}
 use Rattle.line.specs.Runs.{blank}
 use Rattle.line.specs.declared.call.Done.TheVariants as done
@@ -22,23 +23,16 @@ settled : (o : Outcome) (buffer : List ℕ) (r : Result ℕ GatewayFault) (s w :
 settled (Answered a u) buffer r s w out (x, e, y) h = not_refused r _ x h
 settled (Reported most u) buffer r s w out (x, e, y) h = not_refused r 0 x h
 
-read : (o : Option Fault) (ch : Channel) (line : ℕ) (bs : List ℕ) (t : Time) (s : State) (buffer : List ℕ) (r : Result ℕ GatewayFault) (w : State) (out : List ℕ)
-    → Read o ch line bs t s buffer r w out → is_err r ≡ true → w ≡ s
-read (Some f) ch line bs t s buffer r w out (x, e, y) h = e
-read None ch line bs t s buffer r w out (m, reads, k) h = settled (heard ch line m t s) buffer r s w out k h
-
-given : (o : Option GatewayFault) (ch : Channel) (line : ℕ) (bs : List ℕ) (t : Time) (s : State) (buffer : List ℕ) (r : Result ℕ GatewayFault) (w : State) (out : List ℕ)
-    → Given o ch line bs t s buffer r w out → is_err r ≡ true → w ≡ s
-given (Some f) ch line bs t s buffer r w out (x, e, y) h = e
-given None ch line bs t s buffer r w out k h = read (verdict (reader_of ch) bs) ch line bs t s buffer r w out k h
+hears : (ch : Channel) (line : ℕ) (bs : List ℕ) (t : Time) (s : State) (buffer : List ℕ) (r : Result ℕ GatewayFault) (w : State) (out : List ℕ) → Hears ch line bs t s buffer r w out → is_err r ≡ true → w ≡ s
+hears ch line bs t s buffer r w out k h = hears_by (λ z. z ≡ s) s refl ch line bs t buffer r w out (λ m f reads d. settled (heard ch line m t s) buffer r s w out d h) k
 
 hands : (o : Option GatewayFault) (p : Handed) (s : State) (buffer : List ℕ) (r : Result ℕ GatewayFault) (w : State) (out : List ℕ) → Hands o p s buffer r w out → is_err r ≡ true → w ≡ s
 hands (Some f) p s buffer r w out (x, e, y) h = e
 hands None p s buffer r w out (x, e, y) h = not_refused r _ x h
 
 pub refused_stand : RefusedStand
-refused_stand s (done.RealTime line bs t r) w k h = given (call_fault (length blank) line s) RealTime line bs.now t s blank r.answer w r.buffer k h
-refused_stand s (done.Recovery line bs t r) w k h = given (call_fault (length blank) line s) Recovery line bs.now t s blank r.answer w r.buffer k h
+refused_stand s (done.RealTime line bs t r) w k h = hears RealTime line bs.now t s blank r.answer w r.buffer k h
+refused_stand s (done.Recovery line bs t r) w k h = hears Recovery line bs.now t s blank r.answer w r.buffer k h
 refused_stand s (done.Step t (Err f)) w (x, e) h = e
 refused_stand s (done.Step t (Ok e)) w k h = absurd (cc)
 refused_stand s (done.CancelTrade n t (Err f)) w (x, e) h = e
