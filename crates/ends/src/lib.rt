@@ -2,4 +2,5 @@
 #![tactic(auto)]
 
 pub mod call;
+pub mod laws;
 pub mod run;
