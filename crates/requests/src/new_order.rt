@@ -129,7 +129,7 @@ pub fn new_order<M: Matcher, S: Store>(
         Err(refusal) => reject(venue, line, refusal, &listing, m, time),
         Ok(ask) => {
             let terms = terms_of(line, listing.place, m);
-            match venue.accept(terms, ask, m.pricing, time) {
+            match venue.accept(terms, ask, time) {
                 Ok(_) => Ok(()),
                 Err(e) => reject(venue, line, Refusal::of_accept(e), &listing, m, time),
             }

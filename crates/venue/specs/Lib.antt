@@ -6,3 +6,4 @@ pub mod Flags
 pub mod Selection
 pub mod Inside
 pub mod Laws
+pub mod Asking

@@ -1,10 +1,39 @@
 // What a venue asks of its matcher, where the matcher is sure to do it.
 ghost use Rattle.std.specs.Prelude.{◌≡◌, ◌<◌, true, is_some};
 ghost use Rattle.std.specs.FinMap.{get};
+ghost use Rattle.limits.specs.declared.TheConstants.{INSTRUMENTS};
 ghost use Rattle.matching.specs.Meaning.{closed, resized};
+ghost use Rattle.venue.specs.Asking.{pricing_of, request_of};
 
-use matching::matcher::Matcher;
+use codes::order::OrderType;
+use matching::matcher::{Matcher, Terms as Request};
+use orders::row::{Ask, Terms};
+use terms::pricing::Pricing;
 use texts::values::Price;
+
+fn pricing_of(kind: OrderType, price: Price) -> Pricing
+    ensures { result ≡ pricing_of kind price }
+{
+    match kind {
+        OrderType::Market => Pricing::Market,
+        OrderType::Limit => Pricing::Limit(price),
+    }
+}
+
+// What an order asks of the matcher.
+pub(crate) fn request_of(terms: &Terms, ask: &Ask) -> Request
+    requires { terms.now.instrument < INSTRUMENTS }
+    ensures { result ≡ request_of terms.now ask.now }
+{
+    Request {
+        instrument: terms.instrument as u8,
+        side: terms.side,
+        pricing: pricing_of(terms.kind, ask.price),
+        time_in_force: terms.time_in_force,
+        quantity: ask.quantity,
+        book: terms.book,
+    }
+}
 
 // Ends an open order.
 pub(crate) fn take_out<M: Matcher>(matcher: &mut M, number: u64)

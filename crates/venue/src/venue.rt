@@ -1,7 +1,7 @@
 // A venue: the orders, the trades, a matcher and a store of one day, kept in step.
 ghost use Rattle.std.specs.Prelude.{◌≡◌, ℕ, ◌+◌, ◌-◌, ◌<◌, ◌≤◌, true, length, nat_le, [], None, MatchResult};
 
-use crate::asking::{resize, take_out};
+use crate::asking::{request_of, resize, take_out};
 use crate::refusal::AcceptRefusal;
 use crate::selection::{Cause, Selection};
 use crate::step::Step;
@@ -13,7 +13,7 @@ use codes::session::Partition;
 use configuration::instrument::Instrument;
 use limits::ORDERS;
 use matching::event::Event;
-use matching::matcher::{Matcher, Terms as Request};
+use matching::matcher::Matcher;
 use orders::order::Order;
 use orders::row::{Ask, Ending, Terms};
 use orders::table::Table;
@@ -22,7 +22,6 @@ use reports::report::Entry;
 use std::alloc::Global;
 use std::marker::Model;
 use store::Store;
-use terms::pricing::Pricing;
 use texts::fixed::FixedText;
 use texts::values::Time;
 
@@ -104,7 +103,6 @@ impl<M: Matcher, S: Store> Venue<M, S> {
         &mut self,
         terms: Terms,
         ask: Ask,
-        pricing: Pricing,
         time: Time,
     ) -> Result<u64, AcceptRefusal>
         requires orderable { orderable ask.quantity ≡ true }
@@ -116,15 +114,7 @@ impl<M: Matcher, S: Store> Venue<M, S> {
         if number > ORDERS as u64 {
             return Err(AcceptRefusal::OrdersFull);
         }
-        let request = Request {
-            instrument: terms.instrument as u8,
-            side: terms.side,
-            pricing,
-            time_in_force: terms.time_in_force,
-            quantity: ask.quantity,
-            book: terms.book,
-        };
-        match self.matcher.enter(number, request) {
+        match self.matcher.enter(number, request_of(&terms, &ask)) {
             Err(_) => Err(AcceptRefusal::MatcherFull),
             Ok(()) => {
                 open(
