@@ -65,7 +65,7 @@ impl<M: Matcher, S: Store> Venue<M, S> {
     ghost use Rattle.std.specs.FinMap.{len};
     ghost use Rattle.venue.specs.Selection.{Withdraws, picks, withdrawn_all, withdrawn_if};
     ghost use Rattle.venue.specs.Trading.{Stepped, undone_to};
-    ghost use Rattle.limits.specs.declared.TheConstants.{INSTRUMENTS, TRADES};
+    ghost use Rattle.limits.specs.declared.TheConstants.{INSTRUMENTS, ORDERS, TRADES};
     ghost use Rattle.venue.specs.View.{Sound, IsOpen, fresh};
     ghost use Rattle.venue.specs.Steps.{Accepts, Leaves, Replaceable, Silent, expired, noted, replaced_to, withdrawn};
     ghost use Rattle.orders.specs.declared.row.Ending.TheVariants.{Cancelled};
@@ -99,12 +99,7 @@ impl<M: Matcher, S: Store> Venue<M, S> {
 
     /// Accepts an order: it takes the next number, enters the matcher, and is reported to its owner. A refusal changes
     /// nothing.
-    pub fn accept(
-        &mut self,
-        terms: Terms,
-        ask: Ask,
-        time: Time,
-    ) -> Result<u64, AcceptRefusal>
+    pub fn accept(&mut self, terms: Terms, ask: Ask, time: Time) -> Result<u64, AcceptRefusal>
         requires orderable { orderable ask.quantity ≡ true }
         requires placed { terms.instrument < length self.old.instruments }
         requires spare { open_count self.old.rows + 2 ≤ self.old.free }
@@ -283,9 +278,10 @@ impl<M: Matcher, S: Store> Venue<M, S> {
 
     /// What holds of every venue, for callers: they see the value alone.
     pub fn sound(&self)
-        ensures { Sound self.now }
+        ensures sound { Sound self.now }
+        ensures few { length self.now.rows ≤ ORDERS }
     {
-        let _ = &self.table;
+        let _ = self.table.len();
     }
 
     /// How many places are free beyond those of the open orders' ends.
