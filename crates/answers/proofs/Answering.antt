@@ -8,7 +8,7 @@ use Rattle.wire.specs.declared.kinds.Kind.TheVariants as kind
 use Rattle.wire.specs.declared.message.Message.{Message}
 use Rattle.wire.specs.declared.message.Message.TheVariants as message
 use Rattle.wire.specs.Kinds.{letter_of, takes}
-use Rattle.wire.specs.Messages.{kind_of, written, GivenBack}
+use Rattle.wire.specs.Messages.{kind_of, written, Holdable, GivenBack}
 use Rattle.wire.specs.Plain.{plain}
 use Rattle.answers.specs.declared.answer.Answer.{Answer}
 use Rattle.answers.specs.declared.answer.Answer.TheVariants as answer
@@ -56,8 +56,8 @@ there (answer.LogonReply c) t = t
 there (answer.Ack r) t = t
 there (answer.Reject r) t = t
 
-pub told : (a : Answer) (m : Message) → Answers a m → GivenBack m → AnswerTold a
-told a m h g = there a (heard (Answers a) (answer_bytes a) m (answers_plain a) (taken_by a m h) g h (form a m h))
+pub told : (a : Answer) (m : Message) → Answers a m → Holdable m → GivenBack m → AnswerTold a
+told a m h w g = there a (heard (Answers a) (answer_bytes a) m (answers_plain a) (taken_by a m h) w g h (form a m h))
 
 pub sent : (a : Answer) (m : Message) (n : ℕ) (before after : List ℕ) → Answers a m → Sent (written m) before after n → Sent (answer_bytes a) before after n
 sent a m n before after h s = subst (λ bs. Sent bs before after n) (form a m h) s

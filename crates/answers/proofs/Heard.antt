@@ -45,12 +45,13 @@ sent m n before after h e w =
     (omega (arith, l, e), short k n e, w)
 
 -- what was written is what a follower reads
-pub heard : (P : Message → Type 0) (bs : List ℕ) (m : Message) → ((a b : Message) → plain a ≡ plain b → P b → P a) → takes Follower (letter_of (kind_of m)) ≡ Some (kind_of m) → GivenBack m → P m → written m ≡ bs → Told P bs
-heard P bs m same t g h e =
+pub heard : (P : Message → Type 0) (bs : List ℕ) (m : Message) → ((a b : Message) → plain a ≡ plain b → P b → P a) → takes Follower (letter_of (kind_of m)) ≡ Some (kind_of m) → Holdable m → GivenBack m → P m → written m ≡ bs → Told P bs
+heard P bs m same t w g h e =
     let back = g Follower t in
     record {
       message = m;
       form = e;
+      held = w;
       back = g;
       holds = h;
       taken = ap (verdict Follower) (sym e) ∙ back.0;
@@ -131,10 +132,10 @@ placed p n (report.CancelReject e) (message.OrderMassCancelReport m) h c = cc
 placed p n (report.MassCancel e) (message.OrderMassCancelReport m) h c = at_place m.partition p m.sequence n (figure_at 0 c) (int32_at 1 c)
 placed p n r m h c = cc
 
-pub report_told : (p : Partition) (n : ℕ) (r : Report) (m : Message) → report_in m ≡ Some r → kind_of m ≡ kind_told r → contents_of m ≡ told_as p n r → GivenBack m → ReportTold p n r
-report_told p n r m b k c g =
+pub report_told : (p : Partition) (n : ℕ) (r : Report) (m : Message) → report_in m ≡ Some r → kind_of m ≡ kind_told r → contents_of m ≡ told_as p n r → Holdable m → GivenBack m → ReportTold p n r
+report_told p n r m b k c w g =
     heard (Reports p n r) (report_bytes p n r) m (reports_plain p n r)
-    (subst (λ j. takes Follower (letter_of j) ≡ Some j) (sym k) (follower_takes r)) g
+    (subst (λ j. takes Follower (letter_of j) ≡ Some j) (sym k) (follower_takes r)) w g
     (record { report = b; place = placed p n r m b c; kind = k; contents = c })
     (ap (λ j. message_bytes j (contents_of m)) k ∙ ap (message_bytes (kind_told r)) c)
 
@@ -142,5 +143,6 @@ pub same_told : (p q : Partition) (n k : ℕ) (r s : Report) → ReportTold p n 
 same_told p q n k r s t a b c =
     subst (ReportTold q k) c (subst (λ x. ReportTold q x r) b (subst (λ x. ReportTold x n r) a t))
 
-pub end_told : (r : ReportResponse) → GivenBack (message.MissedMessageReport (record { response = r })) → EndTold r
-end_told r g = heard (Ends r) (end_bytes r) (message.MissedMessageReport (record { response = r })) (ends_plain r) refl g refl refl
+pub end_told : (r : ReportResponse) → Holdable (message.MissedMessageReport (record { response = r }))
+    → GivenBack (message.MissedMessageReport (record { response = r })) → EndTold r
+end_told r w g = heard (Ends r) (end_bytes r) (message.MissedMessageReport (record { response = r })) (ends_plain r) refl w g refl refl

@@ -6,7 +6,7 @@ use Rattle.texts.specs.Says.{says}
 use Rattle.wire.specs.declared.kinds.Channel.TheVariants.{Follower}
 use Rattle.wire.specs.declared.message.Message.{Message}
 use Rattle.wire.specs.declared.message.Message.TheVariants as message
-use Rattle.wire.specs.Messages.{kind_of, contents_of, verdict, written, GivenBack, Reads}
+use Rattle.wire.specs.Messages.{kind_of, contents_of, verdict, written, Holdable, GivenBack, Reads}
 use Rattle.reports.specs.declared.report.Report.{Report}
 use Rattle.report_messages.specs.Back.{report_in}
 use Rattle.report_messages.specs.Telling.{told_as, kind_told}
@@ -18,6 +18,7 @@ use Rattle.answers.specs.Bytes.{answer_bytes, client_said, report_bytes, end_byt
 pub record Told (P : Message → Type 0) (bs : List ℕ) : Type 0 where
   pub message : Message
   pub form : written message ≡ bs
+  pub held : Holdable message
   pub back : GivenBack message
   pub holds : P message
   pub taken : verdict Follower bs ≡ None

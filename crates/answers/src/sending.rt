@@ -1,7 +1,7 @@
 // A report, or the end of a download, written to the front of a caller's buffer that has room for any message.
 ghost use Rattle.std.specs.Prelude.{◌≡◌, ◌<◌, ◌≤◌, length};
 ghost use Rattle.report_messages.specs.declared.telling.TheConstants.{NUMBERS};
-ghost use Rattle.wire.specs.Messages.{written, GivenBack};
+ghost use Rattle.wire.specs.Messages.{written, Holdable, GivenBack};
 ghost use Rattle.answers.specs.Bytes.{report_bytes, end_bytes};
 ghost use Rattle.answers.specs.Sent.{Sent};
 ghost use Rattle.answers.specs.Told.{ReportTold, EndTold};
@@ -19,6 +19,7 @@ pub const REPLY: usize = 512;
 pub(crate) fn send(message: &Message<'_>, out: &mut [u8]) -> usize
     requires { REPLY ≤ length out.old }
     ensures sent { Sent (written message.now) out.old out.new result }
+    ensures held { Holdable message.now }
     ensures back { GivenBack message.now }
 {
     write(message, out).unwrap()
