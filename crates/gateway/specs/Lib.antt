@@ -3,4 +3,5 @@ pub mod State
 pub mod Lines
 pub mod Hearing
 pub mod Calls
+pub mod Telling
 pub mod Starting

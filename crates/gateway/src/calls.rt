@@ -4,6 +4,7 @@ ghost use Rattle.answers.specs.declared.sending.TheConstants.{REPLY};
 ghost use Rattle.answers.specs.Sent.{Sent};
 ghost use Rattle.gateway.specs.Calls.{Steps, Undoes, Loses, Sends, Recovers, stored_bytes, step_fault};
 ghost use Rattle.gateway.specs.Hearing.{Hears};
+ghost use Rattle.gateway.specs.Telling.{RecoverTold, SendTold, StoredTold};
 ghost use Rattle.sessions.specs.declared.session.Channel.TheVariants.{RealTime, Recovery};
 
 use crate::fault::{GatewayFault, SessionFault};
@@ -93,7 +94,8 @@ impl<M: Matcher, S: Store> Gateway<M, S> {
     // Writes the report of a number to the front of the buffer.
     fn write_stored(&self, partition: Partition, number: u32, out: &mut [u8]) -> usize
         requires room { REPLY ≤ length out.old }
-        ensures { Sent (stored_bytes self.now.venue.kept partition number) out.old out.new result }
+        ensures sent { Sent (stored_bytes self.now.venue.kept partition number) out.old out.new result }
+        ensures told { StoredTold self.now.venue.kept partition number }
     {
         match self.venue.store().read(partition, number) {
             Some(entry) => write_report(partition, number, entry.report, out),
@@ -104,7 +106,8 @@ impl<M: Matcher, S: Store> Gateway<M, S> {
     /// Hands out the next report of the line's CompID on its real-time channel: its bytes, at the front of `out`, and
     /// how many; 0 where there is none. Refused with 6, 14 or 10.
     pub fn send(&mut self, line: usize, out: &mut [u8]) -> Result<usize, GatewayFault>
-        ensures { Sends line self.old out.old result self.new out.new }
+        ensures hands { Sends line self.old out.old result self.new out.new }
+        ensures told { SendTold (length out.old) line self.old }
     {
         self.check_call(out.len(), line)?;
         self.check_on(Channel::RealTime, line)?;
@@ -120,7 +123,8 @@ impl<M: Matcher, S: Store> Gateway<M, S> {
     /// Hands out the next message of the line's download: a report, or the download's end; 0 where none runs. Refused
     /// with 6, 14 or 10.
     pub fn send_recovered(&mut self, line: usize, out: &mut [u8]) -> Result<usize, GatewayFault>
-        ensures { Recovers line self.old out.old result self.new out.new }
+        ensures hands { Recovers line self.old out.old result self.new out.new }
+        ensures told { RecoverTold (length out.old) line self.old }
     {
         self.check_call(out.len(), line)?;
         self.check_on(Channel::Recovery, line)?;

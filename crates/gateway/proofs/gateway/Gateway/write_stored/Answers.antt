@@ -2,6 +2,7 @@ use Rattle.std.proofs.Common.{◌≡◌, Some, ap, ◌∙◌, subst}
 use Rattle.answers.specs.Sent.{Sent}
 use Rattle.gateway.specs.Calls.{entry_bytes}
 use Rattle.gateway.specs.State.{State}
+use Rattle.gateway.specs.Telling.{EntryTold}
 use Rattle.gateway.proofs.Stored.{number_fits}
 use Rattle.keyed.specs.Numbers.{under}
 use Rattle.partitions.specs.PerPartition.{at}
@@ -21,4 +22,7 @@ returns-in-Some g c =
     c.store.ensures.kept ∙ ap (λ (s : State). s.venue.kept) c.self.view_is in
     let there : Some c.in-Some.entry ≡ under (at c.args.self.now.venue.kept p) n =
     c.in-Some.ensures ∙ ap (λ (k : Kept). under (at k p) n) kept in
-    subst (λ x. Sent (entry_bytes p n x) c.args.out.now c.write_report.new.out c.write_report.result) there c.write_report.ensures.sent
+    record {
+      sent = subst (λ x. Sent (entry_bytes p n x) c.args.out.now c.write_report.new.out c.write_report.result) there c.write_report.ensures.sent;
+      told = subst (λ x. EntryTold p n x) there c.write_report.ensures.told;
+    }
