@@ -1,9 +1,10 @@
 -- Runs: calls made one after the other. Assumes nothing.
-use Rattle.std.specs.Prelude.{◌≡◌, ℕ, List, [], ◌∷◌, replicate}
+use Rattle.std.specs.Prelude.{◌≡◌, ℕ, List, [], ◌∷◌, length, replicate}
 use Rattle.answers.specs.declared.sending.TheConstants.{REPLY}
 use Rattle.gateway.specs.Calls.{Steps, Undoes, Loses, Sends, Recovers}
 use Rattle.gateway.specs.Hearing.{Hears}
 use Rattle.gateway.specs.State.{State}
+use Rattle.gateway.specs.Telling.{SendTold, RecoverTold}
 use Rattle.line.specs.declared.call.Call.{Call}
 use Rattle.line.specs.declared.call.Call.TheVariants as call
 use Rattle.line.specs.declared.call.Done.{Done}
@@ -34,6 +35,16 @@ Does s (done.CancelTrade n t r) w = Undoes n t s r w
 Does s (done.LineLost line t r) w = Loses line t s r w
 Does s (done.Send line r) w = Sends line s blank r.answer w r.buffer
 Does s (done.SendRecovered line r) w = Recovers line s blank r.answer w r.buffer
+
+-- what a follower reads from the bytes of a call that hands out
+abbrev pub Tells : State → Done → Type 0
+Tells s (done.RealTime line m t r) = Unit {0}
+Tells s (done.Recovery line m t r) = Unit {0}
+Tells s (done.Step t r) = Unit {0}
+Tells s (done.CancelTrade n t r) = Unit {0}
+Tells s (done.LineLost line t r) = Unit {0}
+Tells s (done.Send line r) = SendTold (length blank) line s
+Tells s (done.SendRecovered line r) = RecoverTold (length blank) line s
 
 -- calls made in turn; after each the gateway keeps what it is to keep
 abbrev pub Runs : State → List Done → State → Type 0

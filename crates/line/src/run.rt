@@ -1,7 +1,7 @@
 // Any list of calls on a gateway, each made in turn.
 ghost use Rattle.std.specs.Prelude.{◌≡◌, [], map, IfOk, OnErr};
 ghost use Rattle.line.specs.Conservation.{Conserves};
-ghost use Rattle.line.specs.Runs.{Does, Runs, call_of};
+ghost use Rattle.line.specs.Runs.{Does, Runs, Tells, call_of};
 
 use crate::call::{Call, Done, Reply};
 use answers::sending::REPLY;
@@ -14,6 +14,7 @@ use store::Store;
 pub fn make<'a, M: Matcher, S: Store>(gateway: &mut Gateway<M, S>, call: Call<'a>) -> Done<'a>
     ensures call { call_of result ≡ call.entry }
     ensures does { Does gateway.old result gateway.new }
+    ensures told { Tells gateway.old result }
 {
     let mut buffer = [0; REPLY];
     match call {
