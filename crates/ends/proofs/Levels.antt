@@ -188,7 +188,7 @@ both_false false b h = (refl, h)
 
 all_behind : (s : State) (d : Desk) (xs : List Done) (w : State) (e : Desk) (p : Partition) → Runs s d xs w e → list_any gives xs ≡ false → state_of d p ≡ Behind → state_of e p ≡ Behind
 all_behind s d [] w e p (a, b) g l = ap (λ (y : Desk). state_of y p) b ∙ l
-all_behind s d (x ∷ xs) w e p (u, f, m, k, t, r) g l =
+all_behind s d (x ∷ xs) w e p (u, f, m, h, k, n, t, r) g l =
     let (here, later) = both_false (gives x) (list_any gives xs) g in
     all_behind u f xs w e p r later (one_behind s d x u f p m here l)
 

@@ -1,5 +1,5 @@
 -- Runs of both ends. Assumes nothing.
-use Rattle.std.specs.Prelude.{◌≡◌, ℕ, true, false, List, [], ◌∷◌, replicate}
+use Rattle.std.specs.Prelude.{◌≡◌, ℕ, ◌≤◌, true, false, List, [], ◌∷◌, length, replicate}
 use Rattle.ends.specs.declared.call.Call.{Call}
 use Rattle.ends.specs.declared.call.Call.TheVariants as call
 use Rattle.ends.specs.declared.call.Done.{Done}
@@ -12,6 +12,7 @@ use Rattle.follower.specs.declared.pending.Pending.{Pending}
 use Rattle.follower.specs.declared.pending.Pending.TheVariants.{Idle}
 use Rattle.follower.specs.declared.request.TheConstants.{BUFFER}
 use Rattle.gateway.specs.State.{State}
+use Rattle.limits.specs.declared.TheConstants.{ORDERS}
 use Rattle.line.specs.Runs as venue
 use Rattle.line.specs.declared.call.Done.{Done as VenueDone}
 use Rattle.venue.specs.View.{Sound}
@@ -52,11 +53,21 @@ Does s d (done.Ask n r) w e =
     let step = asks d.follower d.token n blank in
     (w ≡ s) × (r.answer ≡ step.answer) × (r.buffer ≡ step.out) × (e ≡ record { follower = step.after; token = step.token })
 
+-- what a follower reads from the bytes that a gateway's call hands out
+abbrev pub Tells : State → Done → Type 0
+Tells s (done.Venue v) = venue.Tells s v
+Tells s done.Up = Unit {0}
+Tells s (done.Live bs r) = Unit {0}
+Tells s (done.Ask n r) = Unit {0}
+Tells s (done.Recovered bs r) = Unit {0}
+Tells s done.Lost = Unit {0}
+
 -- calls made in turn; after each both ends keep what they are to keep
 abbrev pub Runs : State → Desk → List Done → State → Desk → Type 0
 Runs s d [] w e = (w ≡ s) × (e ≡ d)
 Runs s d (x ∷ xs) w e =
-    (u : State) × (f : Desk) × Does s d x u f × Sound u.venue × Tied f.token f.follower × Runs u f xs w e
+    (u : State) × (f : Desk) × Does s d x u f × Tells s x × Sound u.venue × (length u.venue.rows ≤ ORDERS)
+    × Tied f.token f.follower × Runs u f xs w e
 
 -- the gateway's calls among them
 abbrev pub venue_log : List Done → List VenueDone

@@ -1,6 +1,6 @@
 // Any list of calls on a gateway and a follower, each made in turn.
 ghost use Rattle.std.specs.Prelude.{◌≡◌, map, IfOk};
-ghost use Rattle.ends.specs.Runs.{Does, Runs, call_of, fresh, venue_log};
+ghost use Rattle.ends.specs.Runs.{Does, Runs, Tells, call_of, fresh, venue_log};
 ghost use Rattle.line.specs.Conservation.{Conserves};
 ghost use Rattle.follower.specs.Owing.{Tied};
 ghost use Rattle.gateway.specs.State.{fresh as fresh_state};
@@ -27,6 +27,7 @@ fn make<'a, M: Matcher, S: Store>(
     requires { Tied token follower.old }
     ensures call { call_of result.0 ≡ call.entry }
     ensures does { Does gateway.old (record { follower = follower.old; token = token }) result.0 gateway.new (record { follower = follower.new; token = result.1 }) }
+    ensures told { Tells gateway.old result.0 }
     ensures tie { Tied result.1 follower.new }
 {
     match call {

@@ -2,6 +2,6 @@ mod Folds
 mod Hears
 mod Ties
 mod Requests
-mod Written
+pub mod Written
 mod Firsts
 mod Quiets
