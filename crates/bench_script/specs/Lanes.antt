@@ -1,5 +1,5 @@
 -- The messages of a channel that a script plays. Assumes nothing.
-use Rattle.std.specs.Prelude.{ℕ, ◌-◌, Bool, ◌||◌, if◌then◌else◌, List, map, Some, None, Option, nat_lt, ◌==◌, slice_get, Vec}
+use Rattle.std.specs.Prelude.{ℕ, ◌-◌, ◌||◌, if◌then◌else◌, List, map, Some, None, Option, nat_lt, ◌==◌, slice_get, Vec}
 use Rattle.std.specs.Borrow.{Bor}
 use Rattle.std.specs.declared.alloc.Global.{Global}
 

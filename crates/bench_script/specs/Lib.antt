@@ -11,3 +11,6 @@ pub mod Accounts
 pub mod Comparisons
 pub mod Lanes
 pub mod Remarks
+pub mod Verdicts
+pub mod Cuts
+pub mod Mistakes

@@ -1,6 +1,6 @@
 // What a line of a script asks for, read from its words.
 ghost use Rattle.std.specs.Prelude.{◌≡◌};
-ghost use Rattle.bench_script.specs.Commands.{alone_of, ask_of, at_time, by_verb, bytes_said, catch_of, command_of, cancel_of, cancel_trade_of, comp_id_of, deliver_of, firm_of, instrument_of, is_lit, is_played, line_lost_of, live_of, lone_of, marked_of, mass_cancel_of, matcher_of, message_of, missed_of, on_line, order_of, real_time_of, recovered_of, recovery_of, repeat_of, replace_of, scope_of, show_of, store_of, style_of, tape_said};
+ghost use Rattle.bench_script.specs.Commands.{alone_of, ask_of, at_time, by_verb, bytes_said, catch_of, command_of, cancel_of, cancel_trade_of, comp_id_of, deliver_of, firm_of, instrument_of, is_call, is_lit, is_played, line_lost_of, live_of, lone_of, marked_of, mass_cancel_of, matcher_of, message_of, missed_of, on_line, order_of, real_time_of, recovered_of, recovery_of, repeat_of, replace_of, scope_of, show_of, store_of, style_of, tape_said};
 
 use crate::bytes::Bytes;
 use crate::misread::Misread;
@@ -158,6 +158,20 @@ pub enum Command<'a> {
     /// The time of the requests and events that follow.
     Clock(Time),
     Print(Style),
+}
+
+impl Command<'_> {
+    /// Whether it calls the gateway or the follower.
+    pub fn is_call(&self) -> bool
+        ensures { result ≡ is_call self.now }
+    {
+        match self {
+            Command::Call(_) | Command::Desk(_) | Command::Cable(_) | Command::Request(_, _) =>
+                true,
+            Command::Run | Command::Drain(_) | Command::Download(_) => true,
+            _ => false,
+        }
+    }
 }
 
 // A command of one word.

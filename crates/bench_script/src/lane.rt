@@ -1,5 +1,5 @@
 // The messages of one channel of a line that a script plays: those that have come, and those that are under way.
-ghost use Rattle.std.specs.Prelude.{◌≡◌, ◌+◌, ◌-◌, ◌≤◌, [], ◌∷◌, ◌++◌, length, take, if◌then◌else◌, nat_lt, slice_get, OnOk, OnErr};
+ghost use Rattle.std.specs.Prelude.{◌≡◌, ◌+◌, ◌-◌, ◌≤◌, [], ◌∷◌, ◌++◌, drop, length, take, if◌then◌else◌, nat_lt, slice_get, OnOk, OnErr};
 ghost use Rattle.bench_script.specs.Lanes.{again, now_of, texts};
 
 use std::alloc::{AllocError, Global};
@@ -57,6 +57,13 @@ impl Lane {
             self.came += 1;
         }
         next
+    }
+
+    /// The messages that are under way, in their order.
+    pub fn under_way(&self) -> &[Vec<u8>]
+        ensures { result.now ≡ drop self.now.came self.now.messages.items }
+    {
+        &self.messages[self.came..]
     }
 
     /// The message that was sent last, whether or not it has come.

@@ -1,0 +1,34 @@
+-- Whether both ends of a line agree, partition by partition. Assumes nothing.
+use Rattle.std.specs.Prelude.{ℕ, Bool, ◌&&◌, ◌==◌, if◌then◌else◌, not, List, ◌++◌, length, Some, None, Option, codes, decimal}
+use Rattle.std.specs.List.{list_all}
+use Rattle.bench_script.specs.declared.compared.Compared.{Compared}
+use Rattle.bench_script.specs.declared.verdict.Part.{Part}
+use Rattle.bench_script.specs.declared.verdict.Verdict.{Verdict}
+use Rattle.bench_script.specs.declared.verdict.Verdict.TheVariants as verdict
+use Rattle.bench_script.specs.Comparisons.{agree}
+
+abbrev pub all_agree : List Compared → Bool
+all_agree orders = list_all (λ o. agree o.gateway o.follower) orders
+
+-- the follower knows as many orders as the gateway has, and each of the gateway's with the same figures
+abbrev pub is_even : Part → Bool
+is_even p = (p.known == length p.orders.now) && all_agree p.orders.now
+
+abbrev pub trouble_of : Part → Option Verdict
+trouble_of p =
+    if not p.place.level then Some (verdict.Behind p.place.partition)
+    else if not (is_even p) then Some (verdict.Differ p.place.partition) else None
+
+-- the first trouble, or else what is said where there is none
+abbrev pub first_of : Option Verdict → Verdict → Verdict
+first_of (Some v) w = v
+first_of None w = w
+
+abbrev pub verdict_of : Part → Part → Part → Verdict
+verdict_of one two three = first_of (trouble_of one) (first_of (trouble_of two) (first_of (trouble_of three) verdict.Agree))
+
+abbrev pub verdict_text : Verdict → List ℕ
+verdict_text verdict.Agree = codes "yes"
+verdict_text verdict.NoLine = codes "no: the line is not up again"
+verdict_text (verdict.Behind p) = codes "no: partition " ++ (decimal p ++ codes " is not level")
+verdict_text (verdict.Differ p) = codes "no: partition " ++ (decimal p ++ codes " differs")
