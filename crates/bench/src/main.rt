@@ -1,35 +1,11 @@
 // Plays a script of calls on a gateway, and prints what each was answered.
 #![tactic(auto)]
 
-mod cable;
-mod calls;
-mod day;
-mod desk;
-mod opening;
-mod person;
-mod show;
-mod sides;
-mod state;
-mod under_way;
-
-use crate::day::Day;
-use crate::desk::Desk;
-use crate::opening::{Engine, Opening, Shelf};
-use crate::state::{State, reader};
-use bench_script::answer::Answer;
-use bench_script::bytes::Bytes;
-use bench_script::command;
-use bench_script::command::{Cable, Command, Setup};
-use bench_script::line::{is_skipped, parted};
-use bench_script::misread::Misread;
-use configuration::config::StartRefusal;
+use bench_play::failure::Failure;
+use bench_play::play::Play;
 use console::{About, Session};
-use gateway::gateway::Gateway;
-use inspector::answer::answer_message;
-use matching::matcher::Matcher;
 use std::io;
 use std::process::ExitCode;
-use store::Store;
 
 const ABOUT: About = About {
     name: "bench",
@@ -106,204 +82,31 @@ And:
   # ...            a comment; blank lines are passed over too",
 };
 
-// Each day's gateway, whichever engine and store it has.
-macro_rules! of_day {
-    ($day:expr, $gateway:ident => $work:expr) => {
-        match $day {
-            Day::LitRecords($gateway) => $work,
-            Day::LitWire($gateway) => $work,
-            Day::TapeRecords($gateway) => $work,
-            Day::TapeWire($gateway) => $work,
-        }
-    };
-}
-
-// A line that a started gateway answers.
-fn obey<R: Print + AllocGlobal, M: Matcher, S: Store>(
-    rt: &R,
-    state: &mut State,
-    gateway: &mut Gateway<M, S>,
-    order: Command<'_>,
-) -> io::Result<()> {
-    match order {
-        Command::Call(call) => calls::make(rt, state, gateway, call),
-        Command::Request(line, request) => person::ask(rt, state, gateway, line, request),
-        Command::Run => person::run(rt, state, gateway),
-        Command::Drain(line) => person::drain(rt, state, gateway, line),
-        Command::Download(line) => person::download(rt, state, gateway, line),
-        Command::Orders => show::orders(rt, gateway),
-        _ => Ok(()),
-    }
-}
-
-fn close_day<R: Print, M: Matcher, S: Store>(
-    rt: &R,
-    gateway: &Gateway<M, S>,
-    desk: &Option<Desk>,
-) -> io::Result<()> {
-    show::close(rt, gateway)?;
-    match desk {
-        Some(desk) => sides::close(rt, gateway, desk),
-        None => Ok(()),
-    }
-}
-
-fn show_message<R: Print + AllocGlobal>(rt: &R, bytes: Bytes<'_>) -> io::Result<()> {
-    let bytes = bytes.to_vec(rt.alloc())?;
-    let shown = answer_message(rt.alloc(), reader(&bytes), &bytes)?;
-    rt.println(shown.text.as_str())
-}
-
 /// A script as far as it has been played.
 struct Bench {
-    opening: Opening,
-    day: Option<Day>,
-    desk: Option<Desk>,
-    state: State,
-}
-
-impl Bench {
-    fn start<R: Print + AllocGlobal>(&mut self, rt: &R) -> io::Result<()> {
-        let opening = std::mem::replace(&mut self.opening, Opening::new(rt.alloc()));
-        match Day::start(rt.alloc(), opening) {
-            Ok(day) => {
-                self.day = Some(day);
-                self.state.tell(rt, Answer::Started)
-            }
-            Err(refusal) => match refusal.number() {
-                Some(number) => self.state.tell(rt, Answer::Refused(number)),
-                None => Err(io::Error::from(io::ErrorKind::OutOfMemory)),
-            },
-        }
-    }
-
-    // A follower, in the place of one that was there before.
-    fn follow<R: AllocGlobal>(&mut self, rt: &R, line: usize) -> io::Result<()> {
-        let desk = Desk::new(rt.alloc(), line)?;
-        self.state.under_way.follow(line);
-        if let Some(before) = std::mem::replace(&mut self.desk, Some(desk)) {
-            before.close();
-        }
-        Ok(())
-    }
-
-    // A line of the configuration.
-    fn set_up<R: Print + AllocGlobal>(&mut self, rt: &R, setup: Setup<'_>) -> io::Result<()> {
-        if self.day.is_some() {
-            return rt.println(Misread::Started);
-        }
-        match setup {
-            Setup::CompId {
-                name,
-                password,
-                firm,
-                ends,
-            } => self.opening.comp_id(name, password, firm, ends)?,
-            Setup::Instrument {
-                symbol,
-                segment,
-                partition,
-            } => self.opening.instrument(symbol, segment, partition)?,
-            Setup::Lit => self.opening.engine(Engine::Lit),
-            Setup::Tape(tape) => {
-                let lines = tape.lines(rt.alloc())?;
-                self.opening.engine(Engine::Tape(lines));
-            }
-            Setup::Records(places) => self.opening.shelf(Shelf::Records(places)),
-            Setup::Wire(bytes) => self.opening.shelf(Shelf::Wire(bytes)),
-            Setup::Follow(line) => self.follow(rt, line)?,
-            Setup::Start => return self.start(rt),
-        }
-        Ok(())
-    }
-
-    // What a person does with the line that is followed.
-    fn act<R: Print + AllocGlobal>(&mut self, rt: &R, action: Cable) -> io::Result<()> {
-        let Some(desk) = &mut self.desk else {
-            return rt.println(Misread::NoFollower);
-        };
-        match &mut self.day {
-            Some(day) =>
-                of_day!(day, gateway => cable::play(rt, &mut self.state, gateway, desk, action)),
-            None => rt.println(Misread::NotStarted),
-        }
-    }
-
-    fn play<R: Print + AllocGlobal>(&mut self, rt: &R, order: Command<'_>) -> io::Result<()> {
-        match order {
-            Command::Setup(setup) => self.set_up(rt, setup),
-            Command::Show(bytes) => show_message(rt, bytes),
-            Command::Clock(time) => {
-                self.state.clock = time;
-                Ok(())
-            }
-            Command::Print(style) => {
-                self.state.style = style;
-                Ok(())
-            }
-            Command::Desk(call) => match &mut self.desk {
-                Some(desk) => desk.make(rt, &mut self.state, call),
-                None => rt.println(Misread::NoFollower),
-            },
-            Command::Cable(action) => self.act(rt, action),
-            Command::Follower => match &self.desk {
-                Some(desk) => desk.show(rt),
-                None => rt.println(Misread::NoFollower),
-            },
-            _ => match &mut self.day {
-                Some(day) => of_day!(day, gateway => obey(rt, &mut self.state, gateway, order)),
-                None => rt.println(Misread::NotStarted),
-            },
-        }
-    }
+    play: Play,
 }
 
 impl Session for Bench {
     fn line<R: Print + AllocGlobal>(&mut self, rt: &R, line: &[u8]) -> io::Result<()> {
-        let words = match parted(rt.alloc(), line)? {
-            Some(words) => words,
-            None => return rt.println(Misread::Text),
-        };
-        if is_skipped(&words) {
-            return Ok(());
-        }
-        match command::read(&words) {
-            Ok(order) => self.play(rt, order),
-            Err(misread) => rt.println(misread),
+        match self.play.line(rt, line) {
+            Ok(_) => Ok(()),
+            Err(Failure::Misread(why)) => rt.println(why),
+            Err(Failure::Io(error)) => Err(error),
         }
     }
 
     fn close<R: Print + AllocGlobal>(&mut self, rt: &R) -> io::Result<()> {
-        rt.println(self.state.account)?;
-        for number in 0..=u8::MAX {
-            let count = self.state.account.refused_by(number);
-            if count > 0 {
-                println!(rt; "refused {number}: {count}")?;
-            }
-        }
-        match &self.day {
-            Some(day) => of_day!(day, gateway => close_day(rt, gateway, &self.desk)),
-            None => Ok(()),
-        }
+        self.play.account(rt)
     }
 }
 
 fn main(rt: HostRuntime) -> ExitCode {
     let mut bench = Bench {
-        opening: Opening::new(rt.alloc()),
-        day: None,
-        desk: None,
-        state: State::new(rt.alloc()),
+        play: Play::new(rt.alloc()),
     };
     let code = console::run(&rt, ABOUT, &mut bench);
-    let Bench {
-        opening: _,
-        day: _,
-        desk,
-        state: _,
-    } = bench;
-    if let Some(desk) = desk {
-        desk.close();
-    }
+    let Bench { play } = bench;
+    play.close();
     code
 }

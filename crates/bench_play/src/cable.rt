@@ -1,7 +1,8 @@
 // The line that is followed, as a person plays it: what is under way comes, comes again or is lost, and the follower
 // catches up.
 use crate::calls::{hear, line_lost, send_recovered};
-use crate::desk::{Desk, became};
+use crate::desk::{Desk, became_live, became_recovered, refused};
+use crate::failure::Failure;
 use crate::person;
 use crate::state::{BUFFER, Carried, State};
 use bench_script::command::{Cable, Request};
@@ -22,27 +23,24 @@ pub fn play<R: Print + AllocGlobal, M: Matcher, S: Store>(
     gateway: &mut Gateway<M, S>,
     desk: &mut Desk,
     action: Cable,
-) -> io::Result<()> {
+) -> Result<(), Failure> {
     match action {
         Cable::Deliver => {
-            if deliver(rt, state, desk)? {
-                Ok(())
-            } else {
-                rt.println(Remark::NothingUnderWay)
+            if !deliver(rt, state, desk)? {
+                rt.println(Remark::NothingUnderWay)?;
             }
         }
         Cable::DeliverRecovered => {
-            if deliver_recovered(rt, state, desk)? {
-                Ok(())
-            } else {
-                rt.println(Remark::NothingUnderWay)
+            if !deliver_recovered(rt, state, desk)? {
+                rt.println(Remark::NothingUnderWay)?;
             }
         }
-        Cable::Repeat(back) => repeat(rt, state, desk, back),
-        Cable::Pull => pull(rt, state, gateway, desk),
-        Cable::Reconnect => reconnect(rt, state, gateway, desk),
-        Cable::CatchUp => catch_up(rt, state, gateway, desk),
+        Cable::Repeat(back) => repeat(rt, state, desk, back)?,
+        Cable::Pull => pull(rt, state, gateway, desk)?,
+        Cable::Reconnect => reconnect(rt, state, gateway, desk)?,
+        Cable::CatchUp => catch_up(rt, state, gateway, desk)?,
     }
+    Ok(())
 }
 
 // The next live message comes. Says whether there was one.
@@ -61,7 +59,7 @@ fn deliver_recovered<R: Print>(rt: &R, state: &mut State, desk: &mut Desk) -> io
     }
     if let Some(message) = state.under_way.recovered.again(1) {
         let outcome = desk.recovered(message);
-        became(rt, state, outcome)?;
+        became_recovered(rt, state, outcome)?;
     }
     Ok(true)
 }
@@ -71,7 +69,7 @@ fn repeat<R: Print>(rt: &R, state: &mut State, desk: &mut Desk, back: usize) -> 
     match state.under_way.live.again(back) {
         Some(message) => {
             let outcome = desk.live(message);
-            became(rt, state, outcome)
+            became_live(rt, state, outcome)
         }
         None => rt.println(Remark::NoneCame),
     }
@@ -106,14 +104,15 @@ fn reconnect<R: Print + AllocGlobal, M: Matcher, S: Store>(
     state: &mut State,
     gateway: &mut Gateway<M, S>,
     desk: &mut Desk,
-) -> io::Result<()> {
+) -> Result<(), Failure> {
     person::ask(rt, state, gateway, desk.line, Request::Logon)?;
     if !is_accepted(state) {
         return Ok(());
     }
     person::ask(rt, state, gateway, desk.line, Request::Recover)?;
     state.under_way.cut();
-    desk.up(rt, state)
+    desk.up(rt, state)?;
+    Ok(())
 }
 
 // Downloads each partition in turn until it is level.
@@ -178,7 +177,7 @@ fn ask<R: Print + AllocGlobal, M: Matcher, S: Store>(
                 request,
             )
         }
-        Err(fault) => became(rt, state, Err(fault)),
+        Err(fault) => refused(rt, state, fault),
     }
 }
 

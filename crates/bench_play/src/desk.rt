@@ -6,6 +6,7 @@ use bench_script::compared::Seen;
 use bench_script::listing::{Followed, Place};
 use codes::code::Code;
 use codes::session::Partition;
+use follower::answer::{Live, Recovered};
 use follower::fault::FollowerFault;
 use follower::pending::Pending;
 use follower::side;
@@ -22,18 +23,43 @@ pub struct Desk {
     pending: Pending,
 }
 
-/// What a message became, in a word, or the check that refused it.
-pub fn became<R: Print>(
-    rt: &R,
-    state: &mut State,
-    outcome: Result<&str, FollowerFault>,
-) -> io::Result<()> {
-    match outcome {
-        Ok(word) => state.tell(rt, Answer::Became(word)),
-        Err(FollowerFault::Message(fault)) => {
+/// A call that was refused.
+pub fn refused<R: Print>(rt: &R, state: &mut State, fault: FollowerFault) -> io::Result<()> {
+    match fault {
+        FollowerFault::Message(fault) => {
             state.tell(rt, Answer::RefusedAt(fault.number(), fault.offset()))
         }
-        Err(fault) => state.tell(rt, Answer::Refused(fault.number())),
+        fault => state.tell(rt, Answer::Refused(fault.number())),
+    }
+}
+
+/// What a message that came live became, in a word, or the check that refused it.
+pub fn became_live<R: Print>(
+    rt: &R,
+    state: &mut State,
+    outcome: Result<Live, FollowerFault>,
+) -> io::Result<()> {
+    match outcome {
+        Ok(live) => {
+            state.came.live(live);
+            state.tell(rt, Answer::Became(live.text()))
+        }
+        Err(fault) => refused(rt, state, fault),
+    }
+}
+
+/// The same of a message of the recovery channel.
+pub fn became_recovered<R: Print>(
+    rt: &R,
+    state: &mut State,
+    outcome: Result<Recovered, FollowerFault>,
+) -> io::Result<()> {
+    match outcome {
+        Ok(recovered) => {
+            state.came.recovered(recovered);
+            state.tell(rt, Answer::Became(recovered.text()))
+        }
+        Err(fault) => refused(rt, state, fault),
     }
 }
 
@@ -68,18 +94,18 @@ impl Desk {
         state.tell(rt, Answer::Lost)
     }
 
-    pub fn live(&mut self, message: &[u8]) -> Result<&'static str, FollowerFault> {
+    pub fn live(&mut self, message: &[u8]) -> Result<Live, FollowerFault> {
         let pending = mem::replace(&mut self.pending, Pending::Idle);
         let (outcome, pending) = self.follower.live(message, pending);
         self.pending = pending;
-        Ok(outcome?.text())
+        outcome
     }
 
-    pub fn recovered(&mut self, message: &[u8]) -> Result<&'static str, FollowerFault> {
+    pub fn recovered(&mut self, message: &[u8]) -> Result<Recovered, FollowerFault> {
         let pending = mem::replace(&mut self.pending, Pending::Idle);
         let (outcome, pending) = self.follower.recovered(message, pending);
         self.pending = pending;
-        Ok(outcome?.text())
+        outcome
     }
 
     pub fn ask(&mut self, partition: u8, out: &mut [u8]) -> Result<usize, FollowerFault> {
@@ -101,11 +127,11 @@ impl Desk {
             Call::Lost => self.lost(rt, state),
             Call::Live(bytes) => {
                 let message = bytes.to_vec(rt.alloc())?;
-                became(rt, state, self.live(&message))
+                became_live(rt, state, self.live(&message))
             }
             Call::Recovered(bytes) => {
                 let message = bytes.to_vec(rt.alloc())?;
-                became(rt, state, self.recovered(&message))
+                became_recovered(rt, state, self.recovered(&message))
             }
             Call::Ask(partition) => {
                 let mut out = [0; BUFFER];
@@ -113,7 +139,7 @@ impl Desk {
                     Ok(length) => {
                         state.tell_message(rt, Carried::Request, &out[..length.min(BUFFER)])
                     }
-                    Err(fault) => became(rt, state, Err(fault)),
+                    Err(fault) => refused(rt, state, fault),
                 }
             }
         }
@@ -122,6 +148,10 @@ impl Desk {
     /// Whether a download is asked or runs.
     pub fn owes(&self) -> bool {
         self.pending.owed().is_some()
+    }
+
+    pub fn is_up(&self) -> bool {
+        self.follower.is_up()
     }
 
     pub fn is_level(&self, partition: Partition) -> bool {
@@ -143,7 +173,24 @@ impl Desk {
         })
     }
 
-    fn line_of(&self, partition: Partition) -> Place {
+    /// How many orders of a partition it knows.
+    pub fn known(&self, partition: Partition) -> usize {
+        let mut count: usize = 0;
+        let mut from = 0;
+        for _ in 0..self.follower.len() {
+            let Some(known) = self.follower.first_from(from) else {
+                break;
+            };
+            if known.standing.partition == partition {
+                count = count.saturating_add(1);
+            }
+            from = known.number.saturating_add(1);
+        }
+        count
+    }
+
+    /// How far it is in a partition.
+    pub fn place_in(&self, partition: Partition) -> Place {
         Place {
             partition: partition.byte(),
             number: self.place(partition),
@@ -154,9 +201,9 @@ impl Desk {
 
     /// How far it is in each partition.
     pub fn show_places<R: Print>(&self, rt: &R) -> io::Result<()> {
-        rt.println(self.line_of(Partition::One))?;
-        rt.println(self.line_of(Partition::Two))?;
-        rt.println(self.line_of(Partition::Three))
+        rt.println(self.place_in(Partition::One))?;
+        rt.println(self.place_in(Partition::Two))?;
+        rt.println(self.place_in(Partition::Three))
     }
 
     /// The same, and every order that it knows.

@@ -1,5 +1,6 @@
 // Messages that a person asks for: built from words, and taken in as any other.
 use crate::calls::{hear, send, send_recovered, step};
+use crate::failure::Failure;
 use crate::state::State;
 use bench_messages::letter::Letter;
 use bench_messages::session::Sender;
@@ -39,10 +40,10 @@ pub fn ask<R: Print + AllocGlobal, M: Matcher, S: Store>(
     gateway: &mut Gateway<M, S>,
     line: usize,
     request: Request<'_>,
-) -> io::Result<()> {
+) -> Result<(), Failure> {
     let letter = match Letter::of(&request, &sender(gateway, line)) {
         Ok(letter) => letter,
-        Err(misread) => return rt.println(misread),
+        Err(why) => return Err(Failure::Misread(why)),
     };
     let mut message = [0; LONGEST];
     let length = write(&letter.message(), &mut message).unwrap_or(0);
@@ -55,7 +56,8 @@ pub fn ask<R: Print + AllocGlobal, M: Matcher, S: Store>(
         line,
         state.clock,
         bytes,
-    )
+    )?;
+    Ok(())
 }
 
 /// Every event of the matcher until there is none.

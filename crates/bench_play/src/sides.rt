@@ -1,10 +1,13 @@
 // Both ends of the line that is followed, side by side.
 use crate::desk::Desk;
 use bench_script::compared::{Compared, Seen};
+use bench_script::verdict::{Part, Verdict};
 use codes::code::Code;
+use codes::session::Partition;
 use gateway::gateway::Gateway;
 use matching::matcher::Matcher;
 use orders::order::Order;
+use std::alloc::{AllocError, Global};
 use std::io;
 use store::Store;
 
@@ -47,4 +50,57 @@ pub fn close<R: Print, M: Matcher, S: Store>(
         "gateway and follower agree on {agree} of {orders} orders of line {}",
         desk.line
     )
+}
+
+// The orders of the CompID whose reports are in a partition, on both sides.
+fn orders_in<M: Matcher, S: Store>(
+    heap: Global,
+    gateway: &Gateway<M, S>,
+    desk: &Desk,
+    partition: Partition,
+) -> Result<Vec<Compared>, AllocError> {
+    let venue = gateway.venue();
+    let mut orders = Vec::new(heap);
+    for place in 0..venue.order_count() {
+        if let Some(order) = venue.order(place + 1)
+            && order.row().terms.owner == desk.line
+            && let Some(instrument) = venue.instruments().get(order.row().terms.instrument)
+            && instrument.partition == partition
+        {
+            orders.push(compared(order, desk))?;
+        }
+    }
+    Ok(orders)
+}
+
+fn part<'a>(desk: &Desk, partition: Partition, orders: &'a [Compared]) -> Part<'a> {
+    Part {
+        place: desk.place_in(partition),
+        known: desk.known(partition),
+        orders,
+    }
+}
+
+/// How many orders of its CompID are compared, and whether both ends agree.
+pub fn verdict<M: Matcher, S: Store>(
+    heap: Global,
+    gateway: &Gateway<M, S>,
+    desk: &Desk,
+) -> Result<(usize, Verdict), AllocError> {
+    if !desk.is_up() {
+        return Ok((0, Verdict::NoLine));
+    }
+    let one = orders_in(heap, gateway, desk, Partition::One)?;
+    let two = orders_in(heap, gateway, desk, Partition::Two)?;
+    let three = orders_in(heap, gateway, desk, Partition::Three)?;
+    let count = one
+        .len()
+        .saturating_add(two.len())
+        .saturating_add(three.len());
+    let verdict = Verdict::of(
+        part(desk, Partition::One, &one),
+        part(desk, Partition::Two, &two),
+        part(desk, Partition::Three, &three),
+    );
+    Ok((count, verdict))
 }

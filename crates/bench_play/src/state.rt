@@ -1,4 +1,5 @@
 // What a run keeps beside the gateway: the account, the clock, and how messages are shown.
+use crate::came::Came;
 use crate::under_way::UnderWay;
 use bench_script::account::Account;
 use bench_script::answer::{Answer, Payload};
@@ -18,6 +19,7 @@ pub struct State {
     pub clock: Time,
     pub style: Style,
     pub under_way: UnderWay,
+    pub came: Came,
 }
 
 /// How a message comes: as an answer, as one that is sent, as a request that a follower writes, or as the Reject of a check
@@ -60,6 +62,7 @@ impl State {
             },
             style: Style::Hex,
             under_way: UnderWay::new(heap),
+            came: Came::new(),
         }
     }
 
