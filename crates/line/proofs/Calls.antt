@@ -7,13 +7,12 @@ use Rattle.changes.specs.declared.change.Undone.{Undone}
 use Rattle.codes.specs.declared.report.Liquidity.TheVariants.{Added, Removed}
 use Rattle.codes.specs.declared.session.AckResponse.{AckResponse}
 use Rattle.gateway.specs.Calls.{Steps, Undoes, Loses, Hands, Handed, send_fault, live_handed, recovery_handed}
-use Rattle.gateway.specs.Hearing.{Outcome, Settled, Read, Given, Hears, heard, requested_as, missed_by, missed_on, logout, call_fault, reader_of, firm}
+use Rattle.gateway.specs.Hearing.{Outcome, Settled, Hears, heard, requested_as, missed_by, missed_on, logout, reader_of, firm}
 use Rattle.gateway.specs.Hearing.Outcome.{Answered, Reported}
 use Rattle.gateway.specs.Lines.{admitted, admits, ends_orders, ends_with, without_marked, line_closed}
 use Rattle.gateway.specs.State.{State, session}
 use Rattle.gateway.specs.declared.fault.GatewayFault.{GatewayFault}
 use Rattle.keyed.specs.Numbers.{under}
-use Rattle.layout.specs.declared.fault.Fault.{Fault}
 use Rattle.line.proofs.Asked.{MovesTo, By, Withdrawals, new_order_moves, cancel_moves, replace_moves, mass_moves, all_moves, expiry_moves}
 use Rattle.line.proofs.Walking.{hears_by, hands_by}
 use Rattle.line.proofs.Moving.{Moving, still, onward, wider, changes}
@@ -42,7 +41,7 @@ use Rattle.venue.specs.declared.selection.Cause.TheVariants.{LineLost}
 use Rattle.venue.specs.declared.step.Step.{Step}
 use Rattle.venue.specs.declared.step.Step.TheVariants.{Nothing, Expired, Traded}
 use Rattle.venue.specs.declared.trading.Deal.{Deal}
-use Rattle.wire.specs.Messages.{Reads, verdict}
+use Rattle.wire.specs.Messages.{Reads}
 use Rattle.wire.specs.declared.message.Message.{Message}
 use Rattle.wire.specs.declared.message.Message.TheVariants as message
 

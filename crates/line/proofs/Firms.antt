@@ -12,14 +12,13 @@ use Rattle.codes.specs.declared.session.AckResponse.{AckResponse}
 use Rattle.configuration.specs.declared.instrument.Instrument.{Instrument}
 use Rattle.configuration.specs.declared.participant.Participant.{Participant}
 use Rattle.gateway.specs.Calls.{Hands, Handed, send_fault, live_handed, recovery_handed}
-use Rattle.gateway.specs.Hearing.{Outcome, Settled, Hears, heard, requested_as, missed_by, missed_on, logout, call_fault, reader_of, firm, firm_of}
+use Rattle.gateway.specs.Hearing.{Outcome, Settled, Hears, heard, requested_as, missed_by, missed_on, logout, firm, firm_of}
 use Rattle.gateway.specs.Hearing.Outcome.{Answered, Reported}
 use Rattle.gateway.specs.Lines.{admitted, admits, ends_orders, ends_with, without_marked, line_closed}
 use Rattle.gateway.specs.State.{State, session}
 use Rattle.gateway.specs.declared.fault.GatewayFault.{GatewayFault}
 use Rattle.keyed.proofs.Under.{none-some, under-others}
 use Rattle.keyed.specs.Numbers.{under}
-use Rattle.layout.specs.declared.fault.Fault.{Fault}
 use Rattle.line.proofs.Moving.{Moving, still, onward, adds, changes}
 use Rattle.line.proofs.Asked.{MovesTo}
 use Rattle.line.proofs.Walking.{hears_by, hands_by}
@@ -77,7 +76,6 @@ use Rattle.venue.specs.View.{View, Sound}
 use Rattle.venue.specs.declared.refusal.AcceptRefusal.{AcceptRefusal}
 use Rattle.venue.specs.declared.selection.Cause.{Cause}
 use Rattle.venue.specs.declared.selection.Cause.TheVariants.{Request, LineLost}
-use Rattle.wire.specs.Messages.{verdict}
 use Rattle.wire.specs.declared.message.Message.{Message}
 use Rattle.wire.specs.declared.message.Message.TheVariants as message
 

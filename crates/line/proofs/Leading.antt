@@ -15,7 +15,7 @@ use Rattle.configuration.specs.declared.instrument.Instrument.{Instrument}
 use Rattle.configuration.specs.declared.participant.Participant.{Participant}
 use Rattle.answers.specs.declared.sending.TheConstants.{REPLY}
 use Rattle.gateway.specs.Calls.{first, Steps, Undoes, Loses, Hands, Handed, send_fault, live_handed, recovery_handed}
-use Rattle.gateway.specs.Hearing.{Outcome, Settled, Read, Given, Hears, heard, requested_as, missed_by, missed_on, logout, call_fault, line_fault, reader_of, firm}
+use Rattle.gateway.specs.Hearing.{Outcome, Settled, Hears, heard, requested_as, missed_by, missed_on, logout, call_fault, line_fault, firm}
 use Rattle.gateway.specs.Hearing.Outcome.{Answered, Reported}
 use Rattle.gateway.specs.Lines.{admitted, admits, ends_orders, ends_with, without_marked, line_closed}
 use Rattle.gateway.specs.State.{State, session}
@@ -23,7 +23,6 @@ use Rattle.gateway.specs.declared.fault.GatewayFault.{GatewayFault}
 use Rattle.gateway.specs.declared.fault.GatewayFault.TheVariants.{ShortBuffer, NoSuchLine}
 use Rattle.keyed.proofs.Under.{none-some}
 use Rattle.keyed.specs.Numbers.{under}
-use Rattle.layout.specs.declared.fault.Fault.{Fault}
 use Rattle.line.proofs.Walking.{hears_by, hands_by}
 use Rattle.line.specs.Runs.{Does, blank}
 use Rattle.line.specs.declared.call.Done.{Done}
@@ -75,7 +74,6 @@ use Rattle.venue.specs.declared.selection.Cause.TheVariants.{Request, LineLost}
 use Rattle.venue.specs.declared.step.Step.{Step}
 use Rattle.venue.specs.declared.step.Step.TheVariants.{Nothing, Expired as Ended, Traded}
 use Rattle.venue.specs.declared.trading.Deal.{Deal}
-use Rattle.wire.specs.Messages.{verdict}
 use Rattle.wire.specs.declared.message.Message.{Message}
 use Rattle.wire.specs.declared.message.Message.TheVariants as message
 
@@ -307,11 +305,15 @@ there_or : (line : ℕ) (s : State) (b : Bool) → nat_lt line (length s.lines) 
 there_or line s true h e = ltb-true line (length s.lines) h
 there_or line s false h e = none-some NoSuchLine (sym e)
 
-line_there : (line : ℕ) (s : State) → line_fault line s ≡ None → line < length s.lines
+pub line_there : (line : ℕ) (s : State) → line_fault line s ≡ None → line < length s.lines
 line_there line s e = there_or line s (nat_lt line (length s.lines)) refl e
 
-call_there : (room line : ℕ) (s : State) → call_fault room line s ≡ None → line < length s.lines
+pub call_there : (room line : ℕ) (s : State) → call_fault room line s ≡ None → line < length s.lines
 call_there room line s e = line_there line s (short_or line s (nat_lt room REPLY) e)
+
+pub first_none : (f g : Option GatewayFault) → first f g ≡ None → f ≡ None
+first_none None g e = refl
+first_none (Some x) g e = e
 
 module _ (R : Ledger → Ledger → Type 0) (s : State) (leads : Leads R (length s.lines)) where
   abbrev Holds : State → Type 0
@@ -330,10 +332,6 @@ module _ (R : Ledger → Ledger → Type 0) (s : State) (leads : Leads R (length
   undo_leads : (n : ℕ) (t : Time) (r : Result (Unit {0}) GatewayFault) (w : State) → Undoes n t s r w → Holds w
   undo_leads n t (Ok u) w (x, (e, l)) = left_out R (length s.lines) leads s.venue _ w.venue 4 l (trade_leads R (length s.lines) leads t n (under s.venue.trades n) s.venue)
   undo_leads n t (Err f) w (x, e) = stays R (length s.lines) leads s w e
-
-  first_none : (f g : Option GatewayFault) → first f g ≡ None → f ≡ None
-  first_none None g e = refl
-  first_none (Some x) g e = e
 
   lose_leads : (line : ℕ) (t : Time) (r : Result (Unit {0}) GatewayFault) (w : State) → Loses line t s r w → Holds w
   lose_leads line t (Ok u) w (x, (e, l)) =

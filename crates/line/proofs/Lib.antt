@@ -10,3 +10,4 @@ pub mod Growing
 pub mod Lines
 pub mod Owning
 pub mod Firms
+pub mod Effects

@@ -5,12 +5,11 @@ use Rattle.std.proofs.lemmas.List.{length-set, get_or-set_other}
 use Rattle.answers.specs.declared.answer.Answer.{Answer}
 use Rattle.codes.specs.declared.session.AckResponse.{AckResponse}
 use Rattle.gateway.specs.Calls.{Hands, Handed, send_fault, live_handed, recovery_handed}
-use Rattle.gateway.specs.Hearing.{Outcome, Settled, Hears, heard, requested_as, missed_by, missed_on, logout, call_fault, reader_of}
+use Rattle.gateway.specs.Hearing.{Outcome, Settled, Hears, heard, requested_as, missed_by, missed_on, logout}
 use Rattle.gateway.specs.Hearing.Outcome.{Answered, Reported}
 use Rattle.gateway.specs.Lines.{admitted, admits}
 use Rattle.gateway.specs.State.{State, session}
 use Rattle.gateway.specs.declared.fault.GatewayFault.{GatewayFault}
-use Rattle.layout.specs.declared.fault.Fault.{Fault}
 use Rattle.line.proofs.Walking.{hears_by, hands_by}
 use Rattle.line.specs.Laws.{LinesApart, line_of}
 use Rattle.line.specs.Runs.{Does, blank}
@@ -26,7 +25,6 @@ use Rattle.sessions.specs.declared.session.LogonRefusal.{LogonRefusal}
 use Rattle.sessions.specs.declared.session.RequestRefusal.{RequestRefusal}
 use Rattle.sessions.specs.declared.session.SessionState.{SessionState}
 use Rattle.texts.specs.declared.values.Time.{Time}
-use Rattle.wire.specs.Messages.{verdict}
 use Rattle.wire.specs.declared.message.Message.{Message}
 use Rattle.wire.specs.declared.message.Message.TheVariants as message
 

@@ -2,11 +2,10 @@
 use Rattle.std.specs.Prelude.{is_err}
 use Rattle.std.proofs.Common.{◌≡◌, ℕ, true, false, List, Some, None, Option, Ok, Err, Result, length, refl, sym, ap, ◌∙◌}
 use Rattle.gateway.specs.Calls.{Hands, Handed, send_fault, live_handed, recovery_handed}
-use Rattle.gateway.specs.Hearing.{Outcome, Settled, Hears, heard, call_fault, reader_of}
+use Rattle.gateway.specs.Hearing.{Outcome, Settled, Hears, heard}
 use Rattle.gateway.specs.Hearing.Outcome.{Answered, Reported}
 use Rattle.gateway.specs.State.{State}
 use Rattle.gateway.specs.declared.fault.GatewayFault.{GatewayFault}
-use Rattle.layout.specs.declared.fault.Fault.{Fault}
 use Rattle.line.proofs.Walking.{hears_by}
 use Rattle.line.specs.Laws.{RefusedStand}
 use Rattle.line.specs.Runs.{blank}
@@ -14,7 +13,6 @@ use Rattle.line.specs.declared.call.Done.TheVariants as done
 use Rattle.sessions.specs.declared.session.Channel.{Channel}
 use Rattle.sessions.specs.declared.session.Channel.TheVariants.{RealTime, Recovery}
 use Rattle.texts.specs.declared.values.Time.{Time}
-use Rattle.wire.specs.Messages.{verdict}
 
 not_refused : {A : Type 0} (r : Result ℕ GatewayFault) (n : ℕ) → r ≡ Ok n → is_err r ≡ true → A
 not_refused r n e h = absurd (let z : false ≡ true = sym (ap is_err e) ∙ h in cc)
