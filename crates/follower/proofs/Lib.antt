@@ -4,4 +4,4 @@ mod Ties
 mod Requests
 pub mod Written
 mod Firsts
-mod Quiets
+pub mod Quiets

@@ -1,5 +1,5 @@
 -- What a request for orders gets, as the gateway's answer. Assumes nothing.
-use Rattle.std.proofs.Common.{◌≡◌, Some, None, Ok, Err, Result, refl, sym, ap, ◌∙◌}
+use Rattle.std.proofs.Common.{◌≡◌, None, Ok, Err, Result, refl, sym, ap, ◌∙◌}
 use Rattle.std.specs.Result.{result_err}
 use Rattle.keyed.proofs.Under.{none-some}
 use Rattle.answers.specs.declared.answer.Answer.{Answer}

@@ -1,5 +1,5 @@
 -- The calls beside the two that take messages. Assumes nothing.
-use Rattle.std.specs.Prelude.{◌≡◌, ℕ, List, [], length, Some, None, Ok, Err, Option, Result, nat_le, nat_lt, if◌then◌else◌}
+use Rattle.std.specs.Prelude.{◌≡◌, ℕ, List, [], length, Some, None, Ok, Err, Option, Result, nat_lt, if◌then◌else◌}
 use Rattle.answers.specs.Bytes.{report_bytes, end_bytes}
 use Rattle.codes.specs.declared.session.Partition.{Partition}
 use Rattle.gateway.specs.Hearing.{call_fault, line_fault, fronted}
@@ -25,7 +25,6 @@ use Rattle.sessions.specs.declared.session.Channel.{Channel}
 use Rattle.sessions.specs.declared.session.Channel.TheVariants.{RealTime, Recovery}
 use Rattle.store.specs.Kept.{Kept}
 use Rattle.texts.specs.declared.values.Time.{Time}
-use Rattle.venue.specs.Steps.{Leaves}
 use Rattle.venue.specs.Trading.{Stepped, undone_to}
 use Rattle.venue.specs.View.{View}
 use Rattle.venue.specs.declared.step.Step.{Step}

@@ -1,5 +1,5 @@
 -- What a message gets, and what it leaves. Assumes nothing.
-use Rattle.std.specs.Prelude.{◌≡◌, ℕ, Bool, true, false, List, [], ◌++◌, length, drop, ℤ, pos, negsuc, slice_get, slice_index_or, Some, None, Ok, Err, Option, Result, nat_lt, ◌==◌, if◌then◌else◌}
+use Rattle.std.specs.Prelude.{◌≡◌, ℕ, List, ◌++◌, length, drop, ℤ, pos, negsuc, slice_get, slice_index_or, Some, None, Ok, Err, Option, Result, nat_lt, ◌==◌, if◌then◌else◌}
 use Rattle.answers.specs.Bytes.{answer_bytes}
 use Rattle.answers.specs.declared.answer.Answer.{Answer}
 use Rattle.answers.specs.declared.answer.Answer.TheVariants.{Silent, Ack, Reject}

@@ -1,5 +1,5 @@
 -- How a gateway starts. Assumes nothing.
-use Rattle.std.specs.Prelude.{◌≡◌, ℕ, Bool, true, false, ◌&&◌, List, length, Ok, Err, Result, ◌==◌}
+use Rattle.std.specs.Prelude.{◌≡◌, Bool, true, false, ◌&&◌, List, length, Ok, Err, Result, ◌==◌}
 use Rattle.std.specs.FinMap.{len}
 use Rattle.codes.specs.declared.session.Partition.TheVariants.{One, Two, Three}
 use Rattle.configuration.specs.declared.config.StartRefusal.{StartRefusal}

@@ -1,5 +1,5 @@
 -- The order that a request names stands under its number. Assumes nothing.
-use Rattle.std.specs.Prelude.{find, reverse, is_some, is_none, nat_lt, not}
+use Rattle.std.specs.Prelude.{find, reverse, is_some, is_none, not}
 use Rattle.changes.specs.Changes.{after, where_allowed}
 use Rattle.changes.specs.declared.change.Change.TheVariants.{Replace}
 use Rattle.orders.specs.Orders.{replace_fault}
@@ -10,7 +10,7 @@ use Rattle.venue.specs.Steps.{Replaceable}
 use Rattle.std.proofs.lemmas.List.{reverse-append}
 use Rattle.std.proofs.lemmas.List.Folds.{find-append}
 use Rattle.std.proofs.lemmas.Bool.{and_parts, eqb-true, lt-ltb}
-use Rattle.std.proofs.Common.{◌≡◌, Bool, cond, false, ℕ, zero, suc, ◌+◌, ◌<◌, true, ◌&&◌, eqb, leb, List, [], ◌∷◌, Some, None, Option, sym, refl, ap, ◌∙◌, subst, arith}
+use Rattle.std.proofs.Common.{◌≡◌, Bool, cond, false, ℕ, suc, ◌+◌, ◌<◌, true, ◌&&◌, eqb, leb, List, [], ◌∷◌, Some, None, Option, sym, ap, ◌∙◌, arith}
 use Rattle.std.specs.List.{slice_get}
 use Rattle.std.specs.Option.{option_or}
 use Rattle.keyed.proofs.Under.{none-some}

@@ -1,6 +1,6 @@
 -- Steps after steps: reports that touch no order, and withdrawals behind them. Assumes nothing.
 use Rattle.std.specs.Prelude.{nat_lt}
-use Rattle.std.proofs.Common.{◌≡◌, ℕ, suc, ◌+◌, ◌-◌, ◌≤◌, Bool, true, false, cond, List, Some, Ok, sym, refl, ap, ◌∙◌, subst, arith}
+use Rattle.std.proofs.Common.{◌≡◌, ℕ, ◌+◌, ◌-◌, ◌≤◌, Bool, true, false, cond, List, Some, Ok, sym, refl, ap, ◌∙◌, subst, arith}
 use Rattle.codes.specs.declared.order.Book.{Book}
 use Rattle.matching.specs.Meaning.{serves}
 use Rattle.messages.specs.declared.order_mass_cancel_request.OrderMassCancelRequest.{OrderMassCancelRequest}

@@ -1,5 +1,5 @@
 -- What an order may ask for. Assumes nothing.
-use Rattle.std.specs.Prelude.{ℕ, Bool, true, false, ◌&&◌, ℤ, pos, negsuc, Some, None, Option, int_lt, if◌then◌else◌}
+use Rattle.std.specs.Prelude.{ℕ, Bool, true, false, ℤ, pos, negsuc, Some, None, Option, int_lt, if◌then◌else◌}
 use Rattle.std.specs.Ordering.{int_eq}
 use Rattle.codes.specs.declared.order.OrderCapacity.{OrderCapacity}
 use Rattle.codes.specs.declared.order.OrderCapacity.TheVariants as capacity

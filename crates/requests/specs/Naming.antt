@@ -1,8 +1,6 @@
 -- The order that a request names. Assumes nothing.
 use Rattle.std.specs.Prelude.{ℕ, Bool, ◌&&◌, List, Some, None, Ok, Err, Option, Result, ◌==◌, if◌then◌else◌}
 use Rattle.codes.specs.Order.{book_code, side_code}
-use Rattle.codes.specs.declared.order.Book.{Book}
-use Rattle.codes.specs.declared.order.Side.{Side}
 use Rattle.keyed.specs.Numbers.{under}
 use Rattle.orders.specs.Tables.{latest, owned}
 use Rattle.orders.specs.declared.row.Row.{Row}

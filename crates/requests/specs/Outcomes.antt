@@ -1,5 +1,5 @@
 -- What a request gets, and what it leaves. Assumes nothing.
-use Rattle.std.specs.Prelude.{◌≡◌, ℕ, ◌-◌, None, Err, Option, Result}
+use Rattle.std.specs.Prelude.{◌≡◌, ℕ, ◌-◌, None, Err, Result}
 use Rattle.std.specs.Result.{result_err}
 use Rattle.orders.specs.Tables.{open_count}
 use Rattle.requests.specs.declared.refusal.Turned.{Turned}

@@ -1,6 +1,6 @@
-use Rattle.std.proofs.Common.{ap, sym, ◌∙◌, subst}
+use Rattle.std.proofs.Common.{subst}
 use Rattle.requests.proofs.Sweeping.{swept_all}
-use Rattle.venue.specs.Selection.{is_owner, in_scope, meant, picks, withdrawn_all, Withdraws}
+use Rattle.venue.specs.Selection.{is_owner, in_scope, meant, withdrawn_all, Withdraws}
 use Rattle.venue.specs.declared.selection.Cause.TheVariants.{Request}
 use Rattle.requests.proofs.mass_cancel.in_all.Goals as goal
 
