@@ -1,3 +1,15 @@
 pub mod Grown
 pub mod Levels
+pub mod Caught
+pub mod Flights
+pub mod Carrying
+pub mod Sendings
+pub mod Keeping
+pub mod Living
+pub mod Given
+pub mod Follows
 pub mod Heard
+pub mod Serves
+pub mod Requested
+pub mod Agreeing
+pub mod Levelling

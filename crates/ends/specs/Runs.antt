@@ -1,10 +1,10 @@
 -- Runs of both ends. Assumes nothing.
-use Rattle.std.specs.Prelude.{◌≡◌, ℕ, ◌≤◌, true, false, List, [], ◌∷◌, length, replicate}
+use Rattle.std.specs.Prelude.{◌≡◌, ℕ, ◌≤◌, true, false, List, [], ◌∷◌, length, replicate, IfOk}
 use Rattle.ends.specs.declared.call.Call.{Call}
 use Rattle.ends.specs.declared.call.Call.TheVariants as call
 use Rattle.ends.specs.declared.call.Done.{Done}
 use Rattle.ends.specs.declared.call.Done.TheVariants as done
-use Rattle.follower.specs.Asking.{asks}
+use Rattle.follower.specs.Asking.{asks, asking, ReadBack}
 use Rattle.follower.specs.Following.{Following, start, turned, live_step, recovered_step}
 use Rattle.follower.specs.Hearing.{heard_in}
 use Rattle.follower.specs.Owing.{Tied, after_live, after_recovered}
@@ -14,6 +14,7 @@ use Rattle.follower.specs.declared.request.TheConstants.{BUFFER}
 use Rattle.gateway.specs.State.{State}
 use Rattle.limits.specs.declared.TheConstants.{ORDERS}
 use Rattle.line.specs.Runs as venue
+use Rattle.partitions.specs.PerPartition.{at}
 use Rattle.line.specs.declared.call.Done.{Done as VenueDone}
 use Rattle.venue.specs.View.{Sound}
 
@@ -53,20 +54,21 @@ Does s d (done.Ask n r) w e =
     let step = asks d.follower d.token n blank in
     (w ≡ s) × (r.answer ≡ step.answer) × (r.buffer ≡ step.out) × (e ≡ record { follower = step.after; token = step.token })
 
--- what a follower reads from the bytes that a gateway's call hands out
-abbrev pub Tells : State → Done → Type 0
-Tells s (done.Venue v) = venue.Tells s v
-Tells s done.Up = Unit {0}
-Tells s (done.Live bs r) = Unit {0}
-Tells s (done.Ask n r) = Unit {0}
-Tells s (done.Recovered bs r) = Unit {0}
-Tells s done.Lost = Unit {0}
+-- what is read at the other end: by a follower from what a gateway's call hands out, and by a gateway from a request
+abbrev pub Tells : State → Desk → Done → Type 0
+Tells s d (done.Venue v) = venue.Tells s v
+Tells s d (done.Ask n r) =
+    IfOk (asking d.follower d.token n (length blank)) (λ p. ReadBack p (at d.follower.sides p).place)
+Tells s d done.Up = Unit {0}
+Tells s d (done.Live bs r) = Unit {0}
+Tells s d (done.Recovered bs r) = Unit {0}
+Tells s d done.Lost = Unit {0}
 
 -- calls made in turn; after each both ends keep what they are to keep
 abbrev pub Runs : State → Desk → List Done → State → Desk → Type 0
 Runs s d [] w e = (w ≡ s) × (e ≡ d)
 Runs s d (x ∷ xs) w e =
-    (u : State) × (f : Desk) × Does s d x u f × Tells s x × Sound u.venue × (length u.venue.rows ≤ ORDERS)
+    (u : State) × (f : Desk) × Does s d x u f × Tells s d x × Sound u.venue × (length u.venue.rows ≤ ORDERS)
     × Tied f.token f.follower × Runs u f xs w e
 
 -- the gateway's calls among them

@@ -1,5 +1,6 @@
 // What a desk asks of its follower, proved of the definitions that the calls' contracts cite.
 ghost use Rattle.ends.specs.Laws.{StaysBehind, StaysLevel};
+ghost use Rattle.ends.specs.Agreement.{DownloadsLevel};
 
 /// A partition goes from level to behind by up, by lost and by a full hold alone.
 #[tactic(auto, using(crate::proofs::Levels::stays_level))]
@@ -11,4 +12,9 @@ pub fn levels_stay()
 #[tactic(auto, using(crate::proofs::Levels::stays_behind))]
 pub fn nothing_given_is_behind()
     ensures { StaysBehind }
+{}
+
+/// After any log that the line allows: a partition is level once its download has come to the end that says complete.
+pub fn downloads_make_level()
+    ensures { DownloadsLevel }
 {}

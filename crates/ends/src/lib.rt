@@ -1,6 +1,7 @@
 // Both ends: a gateway and a desk's follower, and any list of the twelve calls on them.
 #![tactic(auto)]
 
+pub mod allowed;
 pub mod call;
 pub mod laws;
 pub mod run;

@@ -2,6 +2,7 @@ use Rattle.std.specs.Prelude.{◌<◌, ◌≤◌, [], ◌∷◌, ◌++◌, map, 
 use Rattle.std.proofs.Common.{sym, ap, ◌∙◌, subst, arith, rules}
 use Rattle.std.proofs.lemmas.List.{map_push, take_more}
 use Rattle.ends.specs.Runs.{call_of, fresh, venue_log, Runs}
+use Rattle.ends.proofs.Agreeing.{agrees}
 use Rattle.ends.proofs.Grown.{runs_more, all_conserved}
 use Rattle.gateway.specs.State.{State}
 use Rattle.line.specs.Conservation.{Conserves}
@@ -33,3 +34,8 @@ returns-clause-conserved g c =
     let begun = c.in-Ok-start.ensures.1 in
     subst (λ s. Conserves s (venue_log c.loop-call.log.items) c.loop-call.gateway) begun
     (all_conserved _ fresh c.loop-call.log.items _ _ (ap (λ (s : State). s.venue.rows) begun) c.loop-call.invariant.runs)
+
+pub returns-clause-agreed : goal.returns-clause-agreed
+returns-clause-agreed g c =
+    let begun = c.in-Ok-start.ensures.1 in
+    λ line allowed. agrees line _ _ c.loop-call.log.items _ _ (subst (λ s. Runs s fresh c.loop-call.log.items c.loop-call.gateway (record { follower = c.loop-call.follower; token = c.loop-call.token })) begun c.loop-call.invariant.runs) allowed
