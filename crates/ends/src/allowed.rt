@@ -1,4 +1,11 @@
 // What the line of a follower's CompID allows.
+ghost use Rattle.std.specs.Prelude.{◌≡◌, IfOk};
+ghost use Rattle.ends.specs.Allowed.{after_log, quiet};
+ghost use Rattle.ends.specs.Deciding.{verdict};
+
+use crate::call::Done;
+use crate::watch::Watch;
+use std::alloc::{AllocError, Global};
 
 /// Why the line does not allow a call: an accepted Logon while the follower is up, an up with no new accepted Logon, a
 /// report given live that is not the next under way, something given on the recovery channel that is neither the next
@@ -10,4 +17,21 @@ pub enum Breach {
     LiveOutOfTurn,
     RecoveredOutOfTurn,
     NotAsked,
+}
+
+/// Whether the line of a CompID allows a log, or the first breach. Want of memory is its one error.
+pub fn line_allows(
+    alloc: Global,
+    line: usize,
+    log: &[Done<'_>],
+) -> Result<Result<(), Breach>, AllocError>
+    ensures { IfOk result (λ r. r ≡ verdict (after_log line log.now quiet)) }
+{
+    let mut watch = Watch::quiet(alloc);
+    for done in log {
+        if let Err(breach) = watch.after_call(line, done)? {
+            return Ok(Err(breach));
+        }
+    }
+    Ok(Ok(()))
 }

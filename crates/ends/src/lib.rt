@@ -4,4 +4,7 @@
 pub mod allowed;
 pub mod call;
 pub mod laws;
+mod replies;
 pub mod run;
+mod under_way;
+mod watch;
