@@ -21,7 +21,7 @@ calls the gateway or the desk, or does something with the cable, is a call. What
 
 A run: gateway and desk start anew, the script is played up to a call, and the cable is pulled. The line is logged on again. What
 was under way comes late, up to 32 messages of it; the desk downloads each partition; and all that was under way comes late once
-more, so that each report comes twice at the least. Then the desk's table is compared with the gateway's. The table's columns:
+more, so that no report of it comes only once. Then the desk's table is compared with the gateway's. The table's columns:
 
   cut          which run it is
   line, after  the line of the script behind which the cable is pulled, and what it says
