@@ -50,6 +50,7 @@ is under way to the desk until it is delivered:
   deliver recovered
                    the next message of the recovery channel comes
   repeat [BACK]    the last live message that came comes once more; with 2 the one before it
+  repeat recovered the last message of the recovery channel that came comes once more
   pull             cuts the cable: what is under way is gone, and both ends are told
   reconnect        logs on both channels, and the follower is up
   catch up         asks for each partition and downloads it until it is level

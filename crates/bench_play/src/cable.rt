@@ -1,10 +1,10 @@
 // The line that is followed, as a person plays it: what is under way comes, comes again or is lost, and the follower
 // catches up.
 use crate::calls::{hear, line_lost, send_recovered};
-use crate::desk::{Desk, became_live, became_recovered, refused};
+use crate::desk::Desk;
 use crate::failure::Failure;
 use crate::person;
-use crate::state::{BUFFER, Carried, State};
+use crate::state::{State, front};
 use bench_script::command::{Cable, Request};
 use bench_script::remark::Remark;
 use codes::code::Code;
@@ -36,6 +36,7 @@ pub fn play<R: Print + AllocGlobal, M: Matcher, S: Store>(
             }
         }
         Cable::Repeat(back) => repeat(rt, state, desk, back)?,
+        Cable::RepeatRecovered => repeat_recovered(rt, state, desk)?,
         Cable::Pull => pull(rt, state, gateway, desk)?,
         Cable::Reconnect => reconnect(rt, state, gateway, desk)?,
         Cable::CatchUp => catch_up(rt, state, gateway, desk)?,
@@ -44,7 +45,7 @@ pub fn play<R: Print + AllocGlobal, M: Matcher, S: Store>(
 }
 
 // The next live message comes. Says whether there was one.
-fn deliver<R: Print>(rt: &R, state: &mut State, desk: &mut Desk) -> io::Result<bool> {
+fn deliver<R: Print + AllocGlobal>(rt: &R, state: &mut State, desk: &mut Desk) -> io::Result<bool> {
     if !state.under_way.live.come() {
         return Ok(false);
     }
@@ -53,23 +54,44 @@ fn deliver<R: Print>(rt: &R, state: &mut State, desk: &mut Desk) -> io::Result<b
 }
 
 // The same of the recovery channel.
-fn deliver_recovered<R: Print>(rt: &R, state: &mut State, desk: &mut Desk) -> io::Result<bool> {
+fn deliver_recovered<R: Print + AllocGlobal>(
+    rt: &R,
+    state: &mut State,
+    desk: &mut Desk,
+) -> io::Result<bool> {
     if !state.under_way.recovered.come() {
         return Ok(false);
     }
-    if let Some(message) = state.under_way.recovered.again(1) {
-        let outcome = desk.recovered(message);
-        became_recovered(rt, state, outcome)?;
-    }
+    repeat_recovered(rt, state, desk)?;
     Ok(true)
 }
 
 // A message that came live comes, once more.
-fn repeat<R: Print>(rt: &R, state: &mut State, desk: &mut Desk, back: usize) -> io::Result<()> {
+fn repeat<R: Print + AllocGlobal>(
+    rt: &R,
+    state: &mut State,
+    desk: &mut Desk,
+    back: usize,
+) -> io::Result<()> {
     match state.under_way.live.again(back) {
         Some(message) => {
-            let outcome = desk.live(message);
-            became_live(rt, state, outcome)
+            let message = Vec::from_slice(rt.alloc(), message)?;
+            desk.live(rt, state, &message)
+        }
+        None => rt.println(Remark::NoneCame),
+    }
+}
+
+// The message of the recovery channel that came last comes, once more.
+fn repeat_recovered<R: Print + AllocGlobal>(
+    rt: &R,
+    state: &mut State,
+    desk: &mut Desk,
+) -> io::Result<()> {
+    match state.under_way.recovered.again(1) {
+        Some(message) => {
+            let message = Vec::from_slice(rt.alloc(), message)?;
+            desk.recovered(rt, state, &message)
         }
         None => rt.println(Remark::NoneCame),
     }
@@ -161,24 +183,20 @@ fn ask<R: Print + AllocGlobal, M: Matcher, S: Store>(
     desk: &mut Desk,
     partition: Partition,
 ) -> io::Result<()> {
-    let mut out = [0; BUFFER];
-    match desk.ask(partition.byte(), &mut out) {
-        Ok(length) => {
-            let request = &out[..length.min(BUFFER)];
-            state.tell_message(rt, Carried::Request, request)?;
-            let clock = state.clock;
-            hear(
-                rt,
-                state,
-                gateway,
-                Channel::Recovery,
-                desk.line,
-                clock,
-                request,
-            )
-        }
-        Err(fault) => refused(rt, state, fault),
-    }
+    let asked = desk.ask(rt, state, partition.byte())?;
+    let Ok(length) = asked.answer else {
+        return Ok(());
+    };
+    let clock = state.clock;
+    hear(
+        rt,
+        state,
+        gateway,
+        Channel::Recovery,
+        desk.line,
+        clock,
+        front(&asked.buffer, length),
+    )
 }
 
 // A download that is owed to its end, or as far as it comes.

@@ -1,11 +1,14 @@
 // The gateway's seven calls, each made and its answer printed.
-use crate::state::{BUFFER, Carried, State};
+use crate::state::{BUFFER, Carried, State, front};
 use bench_script::answer::{Answer, Trade};
 use bench_script::command::Call;
+use ends::call::Done;
 use gateway::fault::GatewayFault;
 use gateway::gateway::Gateway;
+use line::call::{Done as VenueDone, Reply};
 use matching::matcher::Matcher;
 use messages::reject::TOTAL;
+use std::alloc::AllocError;
 use std::io;
 use store::Store;
 use texts::values::Time;
@@ -16,9 +19,27 @@ fn refused<R: Print>(rt: &R, state: &mut State, fault: GatewayFault) -> io::Resu
     state.tell(rt, Answer::Refused(fault.number()))
 }
 
-// What a call left of a message in a buffer.
-fn front(buffer: &[u8; BUFFER], length: usize) -> &[u8] {
-    &buffer[..length.min(BUFFER)]
+// Has a message on either channel of a line taken in, and keeps the call.
+fn heard<M: Matcher, S: Store>(
+    state: &mut State,
+    gateway: &mut Gateway<M, S>,
+    channel: Channel,
+    line: usize,
+    time: Time,
+    message: &[u8],
+) -> Result<Reply, AllocError> {
+    let mut buffer = [0; BUFFER];
+    let answer = match channel {
+        Channel::Recovery => gateway.recovery_message(line, message, time, &mut buffer),
+        _ => gateway.real_time_message(line, message, time, &mut buffer),
+    };
+    let reply = Reply { answer, buffer };
+    let done = match channel {
+        Channel::Recovery => VenueDone::Recovery(line, message, time, reply),
+        _ => VenueDone::RealTime(line, message, time, reply),
+    };
+    state.log.keep(Done::Venue(done))?;
+    Ok(reply)
 }
 
 /// A message on either channel of a line.
@@ -31,22 +52,18 @@ pub fn hear<R: Print + AllocGlobal, M: Matcher, S: Store>(
     time: Time,
     message: &[u8],
 ) -> io::Result<()> {
-    let mut reply = [0; BUFFER];
-    let outcome = match channel {
-        Channel::Recovery => gateway.recovery_message(line, message, time, &mut reply),
-        _ => gateway.real_time_message(line, message, time, &mut reply),
-    };
-    match outcome {
+    let reply = heard(state, gateway, channel, line, time, message)?;
+    match reply.answer {
         Ok(0) => state.tell(rt, Answer::Nothing),
         Ok(length) => {
-            let message = front(&reply, length);
+            let message = front(&reply.buffer, length);
             state.under_way.carry(rt.alloc(), channel, line, message)?;
             state.tell_message(rt, Carried::Answer, message)
         }
         Err(fault) => match fault.offset() {
             Some(offset) => {
                 let carried = Carried::Reject(fault.number(), offset);
-                let message = front(&reply, usize::from(TOTAL));
+                let message = front(&reply.buffer, usize::from(TOTAL));
                 state.under_way.carry(rt.alloc(), channel, line, message)?;
                 state.tell_message(rt, carried, message)
             }
@@ -82,7 +99,9 @@ pub fn step<R: Print, M: Matcher, S: Store>(
     gateway: &mut Gateway<M, S>,
     time: Time,
 ) -> io::Result<bool> {
-    match gateway.step(time) {
+    let outcome = gateway.step(time);
+    state.log.keep(Done::Venue(VenueDone::Step(time, outcome)))?;
+    match outcome {
         Ok(step) => {
             state.tell(rt, told(step))?;
             Ok(!matches!(step, Step::Nothing))
@@ -112,16 +131,15 @@ fn handed<R: Print + AllocGlobal>(
     state: &mut State,
     channel: Channel,
     line: usize,
-    outcome: Result<usize, GatewayFault>,
-    buffer: &[u8; BUFFER],
+    reply: &Reply,
 ) -> io::Result<bool> {
-    match outcome {
+    match reply.answer {
         Ok(0) => {
             state.tell(rt, Answer::Nothing)?;
             Ok(false)
         }
         Ok(length) => {
-            let message = front(buffer, length);
+            let message = front(&reply.buffer, length);
             state.under_way.carry(rt.alloc(), channel, line, message)?;
             state.tell_message(rt, Carried::Sent, message)?;
             Ok(true)
@@ -140,9 +158,11 @@ pub fn send<R: Print + AllocGlobal, M: Matcher, S: Store>(
     gateway: &mut Gateway<M, S>,
     line: usize,
 ) -> io::Result<bool> {
-    let mut out = [0; BUFFER];
-    let outcome = gateway.send(line, &mut out);
-    handed(rt, state, Channel::RealTime, line, outcome, &out)
+    let mut buffer = [0; BUFFER];
+    let answer = gateway.send(line, &mut buffer);
+    let reply = Reply { answer, buffer };
+    state.log.keep(Done::Venue(VenueDone::Send(line, reply)))?;
+    handed(rt, state, Channel::RealTime, line, &reply)
 }
 
 /// The next message of a line's download. Says whether more may follow.
@@ -152,9 +172,13 @@ pub fn send_recovered<R: Print + AllocGlobal, M: Matcher, S: Store>(
     gateway: &mut Gateway<M, S>,
     line: usize,
 ) -> io::Result<bool> {
-    let mut out = [0; BUFFER];
-    let outcome = gateway.send_recovered(line, &mut out);
-    handed(rt, state, Channel::Recovery, line, outcome, &out)
+    let mut buffer = [0; BUFFER];
+    let answer = gateway.send_recovered(line, &mut buffer);
+    let reply = Reply { answer, buffer };
+    state
+        .log
+        .keep(Done::Venue(VenueDone::SendRecovered(line, reply)))?;
+    handed(rt, state, Channel::Recovery, line, &reply)
 }
 
 /// A line is lost.
@@ -166,6 +190,9 @@ pub fn line_lost<R: Print, M: Matcher, S: Store>(
     time: Time,
 ) -> io::Result<()> {
     let outcome = gateway.line_lost(line, time);
+    state
+        .log
+        .keep(Done::Venue(VenueDone::LineLost(line, time, outcome)))?;
     ended(rt, state, outcome, Answer::Closed)
 }
 
@@ -191,6 +218,9 @@ pub fn make<R: Print + AllocGlobal, M: Matcher, S: Store>(
         }
         Call::CancelTrade(number, time) => {
             let outcome = gateway.cancel_trade(number, time);
+            state
+                .log
+                .keep(Done::Venue(VenueDone::CancelTrade(number, time, outcome)))?;
             ended(rt, state, outcome, Answer::Cancelled)
         }
         Call::LineLost(line, time) => line_lost(rt, state, gateway, line, time),

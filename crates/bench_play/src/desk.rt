@@ -1,11 +1,12 @@
 // A desk's follower, with the download that it owes: its five calls, each made and its answer printed.
-use crate::state::{BUFFER, Carried, State};
+use crate::state::{BUFFER, Carried, State, front};
 use bench_script::answer::Answer;
 use bench_script::command::Desk as Call;
 use bench_script::compared::Seen;
 use bench_script::listing::{Followed, Place};
 use codes::code::Code;
 use codes::session::Partition;
+use ends::call::{Asked, Done};
 use follower::answer::{Live, Recovered};
 use follower::fault::FollowerFault;
 use follower::pending::Pending;
@@ -23,8 +24,8 @@ pub struct Desk {
     pending: Pending,
 }
 
-/// A call that was refused.
-pub fn refused<R: Print>(rt: &R, state: &mut State, fault: FollowerFault) -> io::Result<()> {
+// A call that was refused.
+fn refused<R: Print>(rt: &R, state: &mut State, fault: FollowerFault) -> io::Result<()> {
     match fault {
         FollowerFault::Message(fault) => {
             state.tell(rt, Answer::RefusedAt(fault.number(), fault.offset()))
@@ -33,8 +34,8 @@ pub fn refused<R: Print>(rt: &R, state: &mut State, fault: FollowerFault) -> io:
     }
 }
 
-/// What a message that came live became, in a word, or the check that refused it.
-pub fn became_live<R: Print>(
+// What a message that came live became, in a word, or the check that refused it.
+fn became_live<R: Print>(
     rt: &R,
     state: &mut State,
     outcome: Result<Live, FollowerFault>,
@@ -48,8 +49,8 @@ pub fn became_live<R: Print>(
     }
 }
 
-/// The same of a message of the recovery channel.
-pub fn became_recovered<R: Print>(
+// The same of a message of the recovery channel.
+fn became_recovered<R: Print>(
     rt: &R,
     state: &mut State,
     outcome: Result<Recovered, FollowerFault>,
@@ -85,34 +86,58 @@ impl Desk {
     pub fn up<R: Print>(&mut self, rt: &R, state: &mut State) -> io::Result<()> {
         let pending = mem::replace(&mut self.pending, Pending::Idle);
         self.pending = self.follower.up(pending);
+        state.log.keep(Done::Up)?;
         state.tell(rt, Answer::Up)
     }
 
     pub fn lost<R: Print>(&mut self, rt: &R, state: &mut State) -> io::Result<()> {
         let pending = mem::replace(&mut self.pending, Pending::Idle);
         self.pending = self.follower.lost(pending);
+        state.log.keep(Done::Lost)?;
         state.tell(rt, Answer::Lost)
     }
 
-    pub fn live(&mut self, message: &[u8]) -> Result<Live, FollowerFault> {
+    pub fn live<R: Print>(&mut self, rt: &R, state: &mut State, message: &[u8]) -> io::Result<()> {
         let pending = mem::replace(&mut self.pending, Pending::Idle);
         let (outcome, pending) = self.follower.live(message, pending);
         self.pending = pending;
-        outcome
+        state.log.keep(Done::Live(message, outcome))?;
+        became_live(rt, state, outcome)
     }
 
-    pub fn recovered(&mut self, message: &[u8]) -> Result<Recovered, FollowerFault> {
+    pub fn recovered<R: Print>(
+        &mut self,
+        rt: &R,
+        state: &mut State,
+        message: &[u8],
+    ) -> io::Result<()> {
         let pending = mem::replace(&mut self.pending, Pending::Idle);
         let (outcome, pending) = self.follower.recovered(message, pending);
         self.pending = pending;
-        outcome
+        state.log.keep(Done::Recovered(message, outcome))?;
+        became_recovered(rt, state, outcome)
     }
 
-    pub fn ask(&mut self, partition: u8, out: &mut [u8]) -> Result<usize, FollowerFault> {
+    /// Asks for a download, and gives back what that left.
+    pub fn ask<R: Print + AllocGlobal>(
+        &mut self,
+        rt: &R,
+        state: &mut State,
+        partition: u8,
+    ) -> io::Result<Asked> {
+        let mut buffer = [0; BUFFER];
         let pending = mem::replace(&mut self.pending, Pending::Idle);
-        let (outcome, pending) = self.follower.ask(partition, out, pending);
+        let (answer, pending) = self.follower.ask(partition, &mut buffer, pending);
         self.pending = pending;
-        outcome
+        let asked = Asked { answer, buffer };
+        state.log.keep(Done::Ask(partition, asked))?;
+        match answer {
+            Ok(length) => {
+                state.tell_message(rt, Carried::Request, front(&asked.buffer, length))?
+            }
+            Err(fault) => refused(rt, state, fault)?,
+        }
+        Ok(asked)
     }
 
     /// Makes a call.
@@ -127,20 +152,15 @@ impl Desk {
             Call::Lost => self.lost(rt, state),
             Call::Live(bytes) => {
                 let message = bytes.to_vec(rt.alloc())?;
-                became_live(rt, state, self.live(&message))
+                self.live(rt, state, &message)
             }
             Call::Recovered(bytes) => {
                 let message = bytes.to_vec(rt.alloc())?;
-                became_recovered(rt, state, self.recovered(&message))
+                self.recovered(rt, state, &message)
             }
             Call::Ask(partition) => {
-                let mut out = [0; BUFFER];
-                match self.ask(partition, &mut out) {
-                    Ok(length) => {
-                        state.tell_message(rt, Carried::Request, &out[..length.min(BUFFER)])
-                    }
-                    Err(fault) => refused(rt, state, fault),
-                }
+                let _asked = self.ask(rt, state, partition)?;
+                Ok(())
             }
         }
     }

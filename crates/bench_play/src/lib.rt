@@ -7,6 +7,7 @@ pub mod came;
 mod day;
 mod desk;
 pub mod failure;
+mod log;
 mod opening;
 mod person;
 pub mod play;

@@ -1,8 +1,9 @@
 // A script as far as it has been played: what the gateway is started with, the gateway, and the follower of one of its lines.
 use crate::came::Came;
 use crate::day::Day;
-use crate::desk::{Desk, became_live};
+use crate::desk::Desk;
 use crate::failure::Failure;
+use crate::log::Log;
 use crate::opening::{Engine, Opening, Shelf};
 use crate::state::{State, reader};
 use crate::{cable, calls, person, show, sides};
@@ -78,12 +79,16 @@ fn close_day<R: Print, M: Matcher, S: Store>(
     rt: &R,
     gateway: &Gateway<M, S>,
     desk: &Option<Desk>,
+    log: &Log,
 ) -> io::Result<()> {
     show::close(rt, gateway)?;
-    match desk {
-        Some(desk) => sides::close(rt, gateway, desk),
-        None => Ok(()),
+    if let Some(desk) = desk {
+        sides::close(rt, gateway, desk)?;
     }
+    if let Some(ruling) = log.ruling()? {
+        rt.println(ruling)?;
+    }
+    Ok(())
 }
 
 fn show_message<R: Print + AllocGlobal>(rt: &R, bytes: Bytes<'_>) -> io::Result<()> {
@@ -165,6 +170,7 @@ impl Play {
     fn follow<R: AllocGlobal>(&mut self, rt: &R, line: usize) -> Result<(), AllocError> {
         let desk = Desk::new(rt.alloc(), line)?;
         self.state.under_way.follow(line);
+        self.state.log.follow(line);
         if let Some(before) = mem::replace(&mut self.desk, Some(desk)) {
             before.close();
         }
@@ -250,7 +256,8 @@ impl Play {
             }
         }
         match &self.day {
-            Some(day) => of_day!(day, gateway => close_day(rt, gateway, &self.desk)),
+            Some(day) =>
+                of_day!(day, gateway => close_day(rt, gateway, &self.desk, &self.state.log)),
             None => Ok(()),
         }
     }
@@ -291,8 +298,7 @@ impl Play {
             return Ok(());
         };
         for message in messages {
-            let outcome = desk.live(message);
-            became_live(rt, &mut self.state, outcome)?;
+            desk.live(rt, &mut self.state, message)?;
         }
         Ok(())
     }

@@ -1,5 +1,6 @@
 // What a run keeps beside the gateway: the account, the clock, and how messages are shown.
 use crate::came::Came;
+use crate::log::Log;
 use crate::under_way::UnderWay;
 use bench_script::account::Account;
 use bench_script::answer::{Answer, Payload};
@@ -13,6 +14,11 @@ use wire::kinds::Channel;
 /// The bytes of a buffer that has room for any answer.
 pub const BUFFER: usize = 512;
 
+/// What a call left of a message in a buffer.
+pub fn front(buffer: &[u8; BUFFER], length: usize) -> &[u8] {
+    &buffer[..length.min(BUFFER)]
+}
+
 #[derive(Drop)]
 pub struct State {
     pub account: Account,
@@ -20,6 +26,7 @@ pub struct State {
     pub style: Style,
     pub under_way: UnderWay,
     pub came: Came,
+    pub log: Log,
 }
 
 /// How a message comes: as an answer, as one that is sent, as a request that a follower writes, or as the Reject of a check
@@ -63,6 +70,7 @@ impl State {
             style: Style::Hex,
             under_way: UnderWay::new(heap),
             came: Came::new(),
+            log: Log::new(heap),
         }
     }
 

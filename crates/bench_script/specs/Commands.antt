@@ -88,10 +88,11 @@ deliver_of ws =
     else if (length ws == 2) && bytes_eq (text ws 1) (codes "recovered") then Ok (command.Cable cable.DeliverRecovered)
     else Err why.Delivery
 
--- repeat, or repeat BACK
+-- repeat, repeat recovered, or repeat BACK
 abbrev pub repeat_of : Words → Result Command Misread
 repeat_of ws =
     if length ws == 1 then Ok (command.Cable (cable.Repeat 1))
+    else if (length ws == 2) && bytes_eq (text ws 1) (codes "recovered") then Ok (command.Cable cable.RepeatRecovered)
     else of_count 2 ws (number_of (text ws 1) then λ back. Ok (command.Cable (cable.Repeat back)))
 
 -- catch up

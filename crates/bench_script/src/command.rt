@@ -70,6 +70,8 @@ pub enum Cable {
     DeliverRecovered,
     /// A live message that has come comes once more: the last for 1, the one before it for 2.
     Repeat(usize),
+    /// The message of the recovery channel that came last comes once more.
+    RepeatRecovered,
     /// The line is cut, and what is under way is gone.
     Pull,
     /// Both channels are logged on.
@@ -255,6 +257,7 @@ fn repeat<'a>(words: &[&'a str]) -> Result<Command<'a>, Misread>
 {
     match *words {
         [_] => Ok(Command::Cable(Cable::Repeat(1))),
+        [_, "recovered"] => Ok(Command::Cable(Cable::RepeatRecovered)),
         [_, back] => Ok(Command::Cable(Cable::Repeat(words::count(back)?))),
         _ => Err(Misread::Count),
     }
