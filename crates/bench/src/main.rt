@@ -80,7 +80,11 @@ And:
   follower         shows how far the follower is, and every order that it knows
   show HEX         shows a message as text
   print hex|text   how the messages of answers are shown
-  # ...            a comment; blank lines are passed over too",
+  # ...            a comment; blank lines are passed over too
+
+The account at the end counts calls, answers, messages and refusals, and says whether the matcher holds what is open. Of a line that
+is followed it says how far the follower is in each partition, whether both ends agree on each order, and whether the line allows
+this day, so that no report was lost unnoticed and none was counted twice; or what came first that a line never brings.",
 };
 
 /// A script as far as it has been played.
