@@ -1,2 +1,2 @@
 pub mod Coming
-pub mod Ruled
+pub mod Rulings

@@ -11,6 +11,7 @@ mod log;
 mod opening;
 mod person;
 pub mod play;
+pub mod ruling;
 mod show;
 mod sides;
 pub mod state;

@@ -1,10 +1,6 @@
 // What each call of a day was given and answered, and what the line that is followed says to it.
-ghost use Rattle.std.specs.Prelude.{◌≡◌};
-ghost use Rattle.bench_play.specs.Ruled.{ruling_of};
-
-use bench_script::ruling;
-use bench_script::ruling::Ruling;
-use ends::allowed::{Breach, line_allows};
+use crate::ruling::Ruling;
+use ends::allowed::line_allows;
 use ends::call::{Asked, Done};
 use follower::answer::{Live, Recovered};
 use follower::fault::FollowerFault;
@@ -89,19 +85,6 @@ impl Made {
     }
 }
 
-fn ruled(outcome: Result<(), Breach>) -> Ruling
-    ensures { result ≡ ruling_of outcome }
-{
-    match outcome {
-        Ok(()) => Ruling::Allows,
-        Err(Breach::StillUp) => Ruling::Forbids(ruling::Breach::StillUp),
-        Err(Breach::NoLogon) => Ruling::Forbids(ruling::Breach::NoLogon),
-        Err(Breach::LiveOutOfTurn) => Ruling::Forbids(ruling::Breach::LiveOutOfTurn),
-        Err(Breach::RecoveredOutOfTurn) => Ruling::Forbids(ruling::Breach::RecoveredOutOfTurn),
-        Err(Breach::NotAsked) => Ruling::Forbids(ruling::Breach::NotAsked),
-    }
-}
-
 /// The calls on both ends of the line that is followed, in the order in which they were made.
 #[derive(Drop)]
 pub struct Log {
@@ -144,6 +127,6 @@ impl Log {
             log.push(made.done())?;
         }
         let outcome = line_allows(self.heap, line, &log)?;
-        Ok(Some(ruled(outcome)))
+        Ok(Some(Ruling::of(outcome)))
     }
 }

@@ -12,6 +12,5 @@ pub mod Comparisons
 pub mod Lanes
 pub mod Remarks
 pub mod Verdicts
-pub mod Rulings
 pub mod Cuts
 pub mod Mistakes

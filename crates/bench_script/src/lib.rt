@@ -13,7 +13,6 @@ pub mod listing;
 pub mod misread;
 pub mod mistake;
 pub mod remark;
-pub mod ruling;
 pub mod tape;
 pub mod verb;
 pub mod verdict;

@@ -1,6 +1,7 @@
 // What the line of a follower's CompID allows.
 ghost use Rattle.std.specs.Prelude.{◌≡◌, IfOk};
 ghost use Rattle.ends.specs.Allowed.{after_log, quiet};
+ghost use Rattle.ends.specs.Breaches.{breach_text};
 ghost use Rattle.ends.specs.Deciding.{verdict};
 
 use crate::call::Done;
@@ -17,6 +18,23 @@ pub enum Breach {
     LiveOutOfTurn,
     RecoveredOutOfTurn,
     NotAsked,
+}
+
+impl Breach {
+    /// What happened.
+    pub fn text(self) -> &'static str
+        ensures { result.now ≡ breach_text self }
+    {
+        match self {
+            Breach::StillUp => "a Logon was accepted while the follower was up",
+            Breach::NoLogon => "the follower was up with no new Logon accepted",
+            Breach::LiveOutOfTurn => "a report came live that was not the next under way",
+            Breach::RecoveredOutOfTurn =>
+                "a message of the recovery channel came that was not the next under way",
+            Breach::NotAsked =>
+                "the gateway was given a request that the follower did not write, or one twice",
+        }
+    }
 }
 
 /// Whether the line of a CompID allows a log, or the first breach. Want of memory is its one error.

@@ -1,0 +1,42 @@
+// What the line that is followed says to a day.
+ghost use Rattle.std.specs.Prelude.{◌≡◌, Some};
+ghost use Rattle.bench_play.specs.Rulings.{ruling_of, ruling_text};
+
+use ends::allowed::Breach;
+use std::fmt;
+
+/// Whether a line allows a day; if not, what was the first that it does not allow.
+#[derive(Clone, Copy, Debug, PartialEq)]
+pub enum Ruling {
+    Allows,
+    Forbids(Breach),
+}
+
+impl Ruling {
+    /// By what was decided of the log.
+    pub fn of(outcome: Result<(), Breach>) -> Ruling
+        ensures { result ≡ ruling_of outcome }
+    {
+        match outcome {
+            Ok(()) => Ruling::Allows,
+            Err(breach) => Ruling::Forbids(breach),
+        }
+    }
+}
+
+impl fmt::Display for Ruling {
+    ghost output = { λ ruling. Some (ruling_text ruling) };
+
+    fn fmt<W: fmt::Write>(&self, f: &mut fmt::Formatter<W>) -> fmt::Result {
+        match *self {
+            Ruling::Allows => f.write_str(
+                "the line allows this day: no report was lost unnoticed, and none was counted twice",
+            ),
+            Ruling::Forbids(breach) => write!(
+                f,
+                "the line does not allow this day: {}",
+                breach.text()
+            ),
+        }
+    }
+}
