@@ -1,6 +1,6 @@
 // The gateway's seven calls, each made and its answer printed.
 use crate::state::{BUFFER, Carried, State, front};
-use bench_script::answer::{Answer, Trade};
+use bench_account::answer::{Answer, Trade};
 use bench_script::command::Call;
 use ends::call::Done;
 use gateway::fault::GatewayFault;

@@ -1,9 +1,9 @@
 // A desk's follower, with the download that it owes: its five calls, each made and its answer printed.
 use crate::state::{BUFFER, Carried, State, front};
-use bench_script::answer::Answer;
+use bench_account::answer::Answer;
+use bench_account::compared::Seen;
+use bench_account::listing::{Followed, Place};
 use bench_script::command::Desk as Call;
-use bench_script::compared::Seen;
-use bench_script::listing::{Followed, Place};
 use codes::code::Code;
 use codes::session::Partition;
 use ends::call::{Asked, Done};

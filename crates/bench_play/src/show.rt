@@ -1,5 +1,5 @@
 // What a day looks like: its orders, and the account at its end.
-use bench_script::listing::{Figures, Listed, Naming, Totals};
+use bench_account::listing::{Figures, Listed, Naming, Totals};
 use codes::code::Code;
 use codes::session::Partition;
 use gateway::gateway::Gateway;

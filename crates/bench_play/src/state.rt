@@ -2,8 +2,8 @@
 use crate::came::Came;
 use crate::log::Log;
 use crate::under_way::UnderWay;
-use bench_script::account::Account;
-use bench_script::answer::{Answer, Payload};
+use bench_account::account::Account;
+use bench_account::answer::{Answer, Payload};
 use bench_script::command::Style;
 use inspector::answer::answer_message;
 use std::alloc::Global;

@@ -1,5 +1,5 @@
 // What the gateway has sent on the line that is followed.
-use bench_script::lane::Lane;
+use bench_account::lane::Lane;
 use std::alloc::{AllocError, Global};
 use wire::kinds::Channel;
 

@@ -5,12 +5,4 @@ pub mod Tapes
 pub mod Verbs
 pub mod Commands
 pub mod Lines
-pub mod Answers
-pub mod Listings
-pub mod Accounts
-pub mod Comparisons
-pub mod Lanes
-pub mod Remarks
-pub mod Verdicts
-pub mod Cuts
 pub mod Mistakes

@@ -1,10 +1,10 @@
 // One run of a drill: a script is played up to a call, the cable is cut there, and both ends recover.
 use crate::script::Script;
 use crate::silent::Silent;
+use bench_account::cut::Cut;
 use bench_play::failure::Failure;
 use bench_play::play::{HOLD, Play};
 use bench_script::command::Cable;
-use bench_script::cut::Cut;
 use std::alloc::{AllocError, Global};
 
 // Copies of the messages that are under way.

@@ -1,11 +1,11 @@
 -- How orders are listed. Assumes nothing.
 use Rattle.std.specs.Prelude.{ℕ, Bool, true, false, List, ◌++◌, codes, decimal}
-use Rattle.bench_script.specs.declared.listing.Figures.{Figures}
-use Rattle.bench_script.specs.declared.listing.Followed.{Followed}
-use Rattle.bench_script.specs.declared.listing.Listed.{Listed}
-use Rattle.bench_script.specs.declared.listing.Naming.{Naming}
-use Rattle.bench_script.specs.declared.listing.Place.{Place}
-use Rattle.bench_script.specs.declared.listing.Totals.{Totals}
+use Rattle.bench_account.specs.declared.listing.Figures.{Figures}
+use Rattle.bench_account.specs.declared.listing.Followed.{Followed}
+use Rattle.bench_account.specs.declared.listing.Listed.{Listed}
+use Rattle.bench_account.specs.declared.listing.Naming.{Naming}
+use Rattle.bench_account.specs.declared.listing.Place.{Place}
+use Rattle.bench_account.specs.declared.listing.Totals.{Totals}
 
 abbrev pub naming_text : Naming → List ℕ
 naming_text n =

@@ -1,6 +1,6 @@
 // Whether both ends of a line agree once a recovery is over, and where they do not.
 ghost use Rattle.std.specs.Prelude.{◌≡◌, Some};
-ghost use Rattle.bench_script.specs.Verdicts.{all_agree, is_even, trouble_of, verdict_of, verdict_text};
+ghost use Rattle.bench_account.specs.Verdicts.{all_agree, is_even, trouble_of, verdict_of, verdict_text};
 
 use crate::compared::Compared;
 use crate::listing::Place;

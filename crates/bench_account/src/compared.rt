@@ -1,6 +1,6 @@
 // An order on both sides of a line: as the gateway has it, and as the follower knows it.
 ghost use Rattle.std.specs.Prelude.{◌≡◌, Some};
-ghost use Rattle.bench_script.specs.Comparisons.{agree, compared_text, known_text, seen_text, verdict_text};
+ghost use Rattle.bench_account.specs.Comparisons.{agree, compared_text, known_text, seen_text, verdict_text};
 
 use std::fmt;
 

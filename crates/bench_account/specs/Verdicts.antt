@@ -1,11 +1,11 @@
 -- Whether both ends of a line agree, partition by partition. Assumes nothing.
 use Rattle.std.specs.Prelude.{ℕ, Bool, ◌&&◌, ◌==◌, if◌then◌else◌, not, List, ◌++◌, length, Some, None, Option, codes, decimal}
 use Rattle.std.specs.List.{list_all}
-use Rattle.bench_script.specs.declared.compared.Compared.{Compared}
-use Rattle.bench_script.specs.declared.verdict.Part.{Part}
-use Rattle.bench_script.specs.declared.verdict.Verdict.{Verdict}
-use Rattle.bench_script.specs.declared.verdict.Verdict.TheVariants as verdict
-use Rattle.bench_script.specs.Comparisons.{agree}
+use Rattle.bench_account.specs.declared.compared.Compared.{Compared}
+use Rattle.bench_account.specs.declared.verdict.Part.{Part}
+use Rattle.bench_account.specs.declared.verdict.Verdict.{Verdict}
+use Rattle.bench_account.specs.declared.verdict.Verdict.TheVariants as verdict
+use Rattle.bench_account.specs.Comparisons.{agree}
 
 abbrev pub all_agree : List Compared → Bool
 all_agree orders = list_all (λ o. agree o.gateway o.follower) orders

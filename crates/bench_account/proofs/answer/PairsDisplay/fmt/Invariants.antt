@@ -1,7 +1,7 @@
 use Rattle.std.proofs.Common.{take}
 use Rattle.std.specs.Fmt.{HasWritten, IsPlainFormatter}
-use Rattle.bench_script.specs.Answers.{hex_text}
-use Rattle.bench_script.proofs.answer.PairsDisplay.fmt.Given as goal
+use Rattle.bench_account.specs.Answers.{hex_text}
+use Rattle.bench_account.proofs.answer.PairsDisplay.fmt.Given as goal
 
 abbrev pub invariant-loop-byte : goal.invariant-loop-byte
 invariant-loop-byte g l =

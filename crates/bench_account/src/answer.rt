@@ -1,6 +1,6 @@
 // What a call is answered, as a line of text.
 ghost use Rattle.std.specs.Prelude.{◌≡◌, ◌<◌, Some};
-ghost use Rattle.bench_script.specs.Answers.{answer_text, glyph, hex_text, party_text, payload_text, trade_text};
+ghost use Rattle.bench_account.specs.Answers.{answer_text, glyph, hex_text, party_text, payload_text, trade_text};
 
 use std::fmt;
 use texts::values::Price;

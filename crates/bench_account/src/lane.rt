@@ -1,6 +1,6 @@
 // The messages of one channel of a line that a script plays: those that have come, and those that are under way.
 ghost use Rattle.std.specs.Prelude.{◌≡◌, ◌+◌, ◌-◌, ◌≤◌, [], ◌∷◌, ◌++◌, drop, length, take, if◌then◌else◌, nat_lt, slice_get, OnOk, OnErr};
-ghost use Rattle.bench_script.specs.Lanes.{again, now_of, texts};
+ghost use Rattle.bench_account.specs.Lanes.{again, now_of, texts};
 
 use std::alloc::{AllocError, Global};
 

@@ -2,11 +2,11 @@
 use Rattle.std.specs.Prelude.{ℕ, ◌+◌, ◌/◌, ◌%◌, if◌then◌else◌, List, [], ◌∷◌, ◌++◌, Some, None, Option, codes, decimal, nat_lt}
 use Rattle.std.specs.Fmt.{signed_decimal}
 use Rattle.std.specs.List.{flat_map}
-use Rattle.bench_script.specs.declared.answer.Answer.{Answer}
-use Rattle.bench_script.specs.declared.answer.Answer.TheVariants as answer
-use Rattle.bench_script.specs.declared.answer.Payload.{Payload}
-use Rattle.bench_script.specs.declared.answer.Payload.TheVariants as payload
-use Rattle.bench_script.specs.declared.answer.Trade.{Trade}
+use Rattle.bench_account.specs.declared.answer.Answer.{Answer}
+use Rattle.bench_account.specs.declared.answer.Answer.TheVariants as answer
+use Rattle.bench_account.specs.declared.answer.Payload.{Payload}
+use Rattle.bench_account.specs.declared.answer.Payload.TheVariants as payload
+use Rattle.bench_account.specs.declared.answer.Trade.{Trade}
 
 -- a hex digit, a to f for 10 to 15
 abbrev pub glyph : ℕ → ℕ

@@ -1,6 +1,6 @@
 // The orders of a day, a line each.
 ghost use Rattle.std.specs.Prelude.{◌≡◌, Some};
-ghost use Rattle.bench_script.specs.Listings.{figures_text, followed_text, listed_text, naming_text, place_text, state_text, totals_text};
+ghost use Rattle.bench_account.specs.Listings.{figures_text, followed_text, listed_text, naming_text, place_text, state_text, totals_text};
 
 use std::fmt;
 

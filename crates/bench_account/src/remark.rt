@@ -1,6 +1,6 @@
 // What a person is told of the line that is followed, where there is no answer to tell.
 ghost use Rattle.std.specs.Prelude.{◌≡◌, Some};
-ghost use Rattle.bench_script.specs.Remarks.{remark_of};
+ghost use Rattle.bench_account.specs.Remarks.{remark_of};
 
 use std::fmt;
 

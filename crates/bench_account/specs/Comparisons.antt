@@ -1,7 +1,7 @@
 -- An order on both sides of a line, and how that is written. Assumes nothing.
 use Rattle.std.specs.Prelude.{ℕ, Bool, true, false, ◌&&◌, ◌==◌, List, ◌++◌, Some, None, Option, codes, decimal}
-use Rattle.bench_script.specs.declared.compared.Compared.{Compared}
-use Rattle.bench_script.specs.declared.compared.Seen.{Seen}
+use Rattle.bench_account.specs.declared.compared.Compared.{Compared}
+use Rattle.bench_account.specs.declared.compared.Seen.{Seen}
 
 abbrev pub agree : Seen → Option Seen → Bool
 agree g None = false

@@ -1,8 +1,8 @@
 -- What a call adds to an account; a count stays at the largest number of 64 bits. Assumes nothing.
 use Rattle.std.specs.Prelude.{ℕ, ◌+◌, ◌-◌, ◌^◌, List, ◌++◌, codes, decimal, min, replicate, slice_index, slice_set}
-use Rattle.bench_script.specs.declared.account.Account.{Account}
-use Rattle.bench_script.specs.declared.answer.Answer.{Answer}
-use Rattle.bench_script.specs.declared.answer.Answer.TheVariants as answer
+use Rattle.bench_account.specs.declared.account.Account.{Account}
+use Rattle.bench_account.specs.declared.answer.Answer.{Answer}
+use Rattle.bench_account.specs.declared.answer.Answer.TheVariants as answer
 
 abbrev pub more : ℕ → ℕ
 more n = min (n + 1) (2 ^ 64 - 1)

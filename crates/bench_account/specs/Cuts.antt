@@ -1,12 +1,12 @@
 -- The table of a drill. Assumes nothing.
 use Rattle.std.specs.Prelude.{ℕ, ◌-◌, ◌^◌, Bool, true, false, if◌then◌else◌, ◌==◌, List, ◌++◌, codes, decimal}
 use Rattle.std.specs.Fmt.{format_spec, styled_decimal, styled_text}
-use Rattle.bench_script.specs.declared.cut.Cut.{Cut}
-use Rattle.bench_script.specs.declared.cut.Drilled.{Drilled}
-use Rattle.bench_script.specs.declared.verdict.Verdict.{Verdict}
-use Rattle.bench_script.specs.declared.verdict.Verdict.TheVariants as verdict
-use Rattle.bench_script.specs.Accounts.{more}
-use Rattle.bench_script.specs.Verdicts.{verdict_text}
+use Rattle.bench_account.specs.declared.cut.Cut.{Cut}
+use Rattle.bench_account.specs.declared.cut.Drilled.{Drilled}
+use Rattle.bench_account.specs.declared.verdict.Verdict.{Verdict}
+use Rattle.bench_account.specs.declared.verdict.Verdict.TheVariants as verdict
+use Rattle.bench_account.specs.Accounts.{more}
+use Rattle.bench_account.specs.Verdicts.{verdict_text}
 
 -- a number behind as many blanks as a column has places left of it
 abbrev pub column : ℕ → ℕ → List ℕ
