@@ -1,8 +1,8 @@
 -- Which words fit the fields of messages. Assumes nothing.
 use Rattle.std.specs.Prelude.{ℕ, if◌then◌else◌, List, Some, None, Option}
 use Rattle.texts.specs.Texts.{fitting, fitting_name}
-use Rattle.bench_script.specs.declared.misread.Misread.{Misread}
-use Rattle.bench_script.specs.declared.misread.Misread.TheVariants as why
+use Rattle.bench_words.specs.declared.misread.Misread.{Misread}
+use Rattle.bench_words.specs.declared.misread.Misread.TheVariants as why
 
 abbrev pub symbol_wrong : List ℕ → Option Misread
 symbol_wrong w = if fitting 6 w then None else Some why.Symbol

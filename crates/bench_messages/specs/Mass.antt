@@ -4,7 +4,7 @@ use Rattle.texts.specs.Bytes.{said}
 use Rattle.layout.specs.Layout.{Content}
 use Rattle.layout.specs.Layout.Content.{words, figure, nothing}
 use Rattle.bench_script.specs.declared.command.Scope.{Scope}
-use Rattle.bench_script.specs.declared.misread.Misread.{Misread}
+use Rattle.bench_words.specs.declared.misread.Misread.{Misread}
 use Rattle.bench_messages.specs.Fitting.{client_wrong, or_else}
 use Rattle.bench_messages.specs.Takes.{Taken, book_asked, mass_type, segment_asked, symbol_asked, take_said, take_wrong}
 use Rattle.bench_messages.specs.declared.mass.MassCancel.{MassCancel}

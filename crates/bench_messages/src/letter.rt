@@ -9,7 +9,7 @@ use crate::mass::MassCancel;
 use crate::session::{Logon, Logout, Sender};
 use crate::trading::{Cancel, Order, Replace};
 use bench_script::command::Request;
-use bench_script::misread::Misread;
+use bench_words::misread::Misread;
 use layout::sequence::LastSequence;
 use messages::missed_message_request::MissedMessageRequest;
 use wire::message::Message;

@@ -6,7 +6,7 @@ ghost use Rattle.bench_messages.specs.Takes.{scope_asked, scope_said, take_said,
 
 use crate::words;
 use bench_script::command::Scope;
-use bench_script::misread::Misread;
+use bench_words::misread::Misread;
 use codes::order::Book;
 use messages::order_mass_cancel_request::{OrderMassCancelRequest, Scope as MessageScope};
 use texts::fixed::RequestId;

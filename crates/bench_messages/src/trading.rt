@@ -5,7 +5,7 @@ ghost use Rattle.texts.specs.Bytes.{said};
 ghost use Rattle.bench_messages.specs.Marks.{auto_cancel_of};
 
 use crate::words;
-use bench_script::misread::Misread;
+use bench_words::misread::Misread;
 use codes::order::{
     AutoCancel, Book, ClearingAccount, OrderCapacity, OrderSubType, PassiveOnly, Side, TimeInForce,
 };

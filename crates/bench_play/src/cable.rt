@@ -1,11 +1,11 @@
 // The line that is followed, as a person plays it: what is under way comes, comes again or is lost, and the follower
 // catches up.
-use crate::calls::{hear, line_lost, send_recovered};
-use crate::desk::Desk;
 use crate::failure::Failure;
 use crate::person;
-use crate::state::{State, front};
 use bench_account::remark::Remark;
+use bench_calls::calls::{hear, line_lost, send_recovered};
+use bench_calls::desk::Desk;
+use bench_calls::state::{State, front};
 use bench_script::command::{Cable, Request};
 use codes::code::Code;
 use codes::session::Partition;

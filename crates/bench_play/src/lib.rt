@@ -2,17 +2,10 @@
 #![tactic(auto)]
 
 mod cable;
-mod calls;
-pub mod came;
 mod day;
-mod desk;
 pub mod failure;
-mod log;
 mod opening;
 mod person;
 pub mod play;
-pub mod ruling;
 mod show;
 mod sides;
-pub mod state;
-pub mod under_way;

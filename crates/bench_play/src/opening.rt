@@ -1,5 +1,5 @@
 // What a script says of a gateway before it starts.
-use bench_script::tape::Tape;
+use bench_words::tape::Tape;
 use configuration::config::{Config, StartRefusal};
 use configuration::instrument::Instrument;
 use configuration::participant::Participant;

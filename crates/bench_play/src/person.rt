@@ -1,7 +1,7 @@
 // Messages that a person asks for: built from words, and taken in as any other.
-use crate::calls::{hear, send, send_recovered, step};
 use crate::failure::Failure;
-use crate::state::State;
+use bench_calls::calls::{hear, send, send_recovered, step};
+use bench_calls::state::State;
 use bench_messages::letter::Letter;
 use bench_messages::session::Sender;
 use bench_script::command::Request;

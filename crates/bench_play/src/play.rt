@@ -1,19 +1,20 @@
 // A script as far as it has been played: what the gateway is started with, the gateway, and the follower of one of its lines.
-use crate::came::Came;
 use crate::day::Day;
-use crate::desk::Desk;
 use crate::failure::Failure;
-use crate::log::Log;
 use crate::opening::{Engine, Opening, Shelf};
-use crate::state::{State, reader};
-use crate::{cable, calls, person, show, sides};
+use crate::{cable, person, show, sides};
 use bench_account::answer::Answer;
 use bench_account::verdict::Verdict;
-use bench_script::bytes::Bytes;
+use bench_calls::calls;
+use bench_calls::desk::Desk;
+use bench_calls::state::{State, reader};
+use bench_log::came::Came;
+use bench_log::log::Log;
 use bench_script::command;
 use bench_script::command::{Cable, Command, Setup};
-use bench_script::line::{is_skipped, parted};
-use bench_script::misread::Misread;
+use bench_words::bytes::Bytes;
+use bench_words::line::{is_skipped, parted};
+use bench_words::misread::Misread;
 use follower::hold;
 use gateway::gateway::Gateway;
 use inspector::answer::answer_message;

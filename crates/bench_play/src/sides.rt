@@ -1,7 +1,7 @@
 // Both ends of the line that is followed, side by side.
-use crate::desk::Desk;
 use bench_account::compared::{Compared, Seen};
 use bench_account::verdict::{Part, Verdict};
+use bench_calls::desk::Desk;
 use codes::code::Code;
 use codes::session::Partition;
 use gateway::gateway::Gateway;

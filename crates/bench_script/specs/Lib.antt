@@ -1,8 +1,2 @@
-pub mod Sentences
-pub mod Words
-pub mod Bytes
-pub mod Tapes
 pub mod Verbs
 pub mod Commands
-pub mod Lines
-pub mod Mistakes

@@ -2,17 +2,17 @@
 ghost use Rattle.std.specs.Prelude.{◌≡◌};
 ghost use Rattle.bench_script.specs.Commands.{alone_of, ask_of, at_time, by_verb, bytes_said, catch_of, command_of, cancel_of, cancel_trade_of, comp_id_of, deliver_of, firm_of, instrument_of, is_call, is_lit, is_played, line_lost_of, live_of, lone_of, marked_of, mass_cancel_of, matcher_of, message_of, missed_of, on_line, order_of, real_time_of, recovered_of, recovery_of, repeat_of, replace_of, scope_of, show_of, store_of, style_of, tape_said};
 
-use crate::bytes::Bytes;
-use crate::misread::Misread;
-use crate::tape::Tape;
 use crate::verb::Verb;
-use crate::words;
+use bench_words::bytes::Bytes;
+use bench_words::misread::Misread;
+use bench_words::tape::Tape;
+use bench_words::words;
 use codes::order::Side;
 use terms::pricing::Pricing;
 use texts::values::{Price, Time};
 
 /// What a gateway is started with, and its start.
-#[derive(Clone, Copy, Debug)]
+#[derive(Clone, Copy)]
 pub enum Setup<'a> {
     CompId {
         name: &'a str,
@@ -39,7 +39,7 @@ pub enum Setup<'a> {
 }
 
 /// One of the gateway's seven calls.
-#[derive(Clone, Copy, Debug)]
+#[derive(Clone, Copy)]
 pub enum Call<'a> {
     RealTime(usize, Time, Bytes<'a>),
     Recovery(usize, Time, Bytes<'a>),
@@ -51,7 +51,7 @@ pub enum Call<'a> {
 }
 
 /// One of a follower's five calls.
-#[derive(Clone, Copy, Debug)]
+#[derive(Clone, Copy)]
 pub enum Desk<'a> {
     Up,
     Live(Bytes<'a>),
@@ -62,7 +62,7 @@ pub enum Desk<'a> {
 }
 
 /// What a person does with the line that is followed.
-#[derive(Clone, Copy, Debug)]
+#[derive(Clone, Copy)]
 pub enum Cable {
     /// The next live message under way comes.
     Deliver,
@@ -81,7 +81,7 @@ pub enum Cable {
 }
 
 /// What a mass cancel takes, of the CompID or of its firm.
-#[derive(Clone, Copy, Debug)]
+#[derive(Clone, Copy)]
 pub enum Scope<'a> {
     All,
     Instrument(&'a str),
@@ -89,7 +89,7 @@ pub enum Scope<'a> {
 }
 
 /// A message that a person asks for, whose words may still not fit it.
-#[derive(Clone, Copy, Debug)]
+#[derive(Clone, Copy)]
 pub enum Request<'a> {
     Logon,
     /// A Logon on the recovery channel.
@@ -132,14 +132,14 @@ pub enum Request<'a> {
 }
 
 /// How messages are shown.
-#[derive(Clone, Copy, Debug, PartialEq)]
+#[derive(Clone, Copy)]
 pub enum Style {
     Hex,
     Text,
 }
 
 /// What a line asks for.
-#[derive(Clone, Copy, Debug)]
+#[derive(Clone, Copy)]
 pub enum Command<'a> {
     Setup(Setup<'a>),
     Call(Call<'a>),

@@ -1,11 +1,5 @@
-// The words of a script of calls on a gateway.
+// What a line of a script of calls on a gateway and on a follower asks for.
 #![tactic(auto)]
 
-pub mod bytes;
 pub mod command;
-pub mod line;
-pub mod misread;
-pub mod mistake;
-pub mod tape;
 pub mod verb;
-mod words;

@@ -3,7 +3,7 @@ ghost use Rattle.std.specs.Prelude.{◌≡◌};
 ghost use Rattle.bench_script.specs.Verbs.{name_of, verb_of};
 
 /// What a line asks for.
-#[derive(Clone, Copy, Debug, PartialEq)]
+#[derive(Clone, Copy)]
 pub enum Verb {
     CompId,
     Instrument,

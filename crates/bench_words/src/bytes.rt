@@ -2,13 +2,13 @@
 ghost use Rattle.std.specs.Prelude.{◌≡◌, Some, IfOk, if◌then◌else◌, None};
 ghost use Rattle.std.specs.List.{list_all};
 ghost use Rattle.hex.specs.Hex.{encode_lower, is_hex_digit};
-ghost use Rattle.bench_script.specs.Bytes.{bytes_of, is_bytes, is_digits};
+ghost use Rattle.bench_words.specs.Bytes.{bytes_of, is_bytes, is_digits};
 
 use hex::FromHexError;
 use std::alloc::{AllocError, Global};
 
 /// Bytes as a word of pairs of hex digits, or `-` for none.
-#[derive(Clone, Copy, Debug)]
+#[derive(Clone, Copy)]
 pub struct Bytes<'a> {
     word: &'a str,
 }

@@ -1,9 +1,9 @@
 // What a run keeps beside the gateway: the account, the clock, and how messages are shown.
-use crate::came::Came;
-use crate::log::Log;
-use crate::under_way::UnderWay;
 use bench_account::account::Account;
 use bench_account::answer::{Answer, Payload};
+use bench_log::came::Came;
+use bench_log::log::Log;
+use bench_log::under_way::UnderWay;
 use bench_script::command::Style;
 use inspector::answer::answer_message;
 use std::alloc::Global;

@@ -1,13 +1,13 @@
 // The trades that a tape is to play, as the words of a line.
 ghost use Rattle.std.specs.Prelude.{◌≡◌, Some, None, IfOk, if◌then◌else◌};
-ghost use Rattle.bench_script.specs.Tapes.{is_tape, lines_of};
+ghost use Rattle.bench_words.specs.Tapes.{is_tape, lines_of};
 
 use crate::words::tape_line;
 use matching::tape::Line;
 use std::alloc::{AllocError, Global};
 
 /// The words `matcher tape`, and a word for each trade.
-#[derive(Clone, Copy, Debug)]
+#[derive(Clone, Copy)]
 pub struct Tape<'a> {
     words: &'a [&'a str],
 }

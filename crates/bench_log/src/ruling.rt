@@ -1,6 +1,6 @@
 // What the line that is followed says to a day.
 ghost use Rattle.std.specs.Prelude.{◌≡◌, Some};
-ghost use Rattle.bench_play.specs.Rulings.{ruling_of, ruling_text};
+ghost use Rattle.bench_log.specs.Rulings.{ruling_of, ruling_text};
 
 use ends::allowed::Breach;
 use std::fmt;

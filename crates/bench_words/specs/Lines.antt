@@ -6,7 +6,10 @@ use Rattle.std.specs.declared.alloc.Global.{Global}
 use Rattle.std.specs.Iterator.{DrainsIf}
 use Rattle.std.specs.Str.Iter.{split_whitespace_rest, split_whitespace_steps}
 use Rattle.std.specs.declared.str.SplitWhitespace.{SplitWhitespace}
-use Rattle.bench_script.specs.Commands.{Words}
+
+-- the words of a line, each lent
+abbrev pub Words : Type 0
+Words = List (Bor (List ℕ))
 
 -- the words of a text, as std parts them at white space
 abbrev pub IsWordsOf : List ℕ → Words → Type 0

@@ -10,8 +10,8 @@ use Rattle.terms.specs.declared.pricing.Pricing.{Pricing}
 use Rattle.terms.specs.declared.pricing.Pricing.TheVariants.{Market, Limit}
 use Rattle.texts.specs.declared.values.Price.{Price}
 use Rattle.texts.specs.declared.values.Time.{Time}
-use Rattle.bench_script.specs.declared.misread.Misread.{Misread}
-use Rattle.bench_script.specs.declared.misread.Misread.TheVariants as why
+use Rattle.bench_words.specs.declared.misread.Misread.{Misread}
+use Rattle.bench_words.specs.declared.misread.Misread.TheVariants as why
 
 -- a value, or why there is none
 abbrev pub or_misread : {A : Type 0} → Misread → Option A → Result A Misread

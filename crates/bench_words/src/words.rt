@@ -1,6 +1,6 @@
 // Single words of a script: what each says, or that it is not understood.
 ghost use Rattle.std.specs.Prelude.{◌≡◌};
-ghost use Rattle.bench_script.specs.Words.{app_of, line_of, number_of, part_of, price_of, pricing_of, shares_of, side_of, shares_at, signed_of, small_of, time_of, time_said, tape_line_of, whole_of, yes_of};
+ghost use Rattle.bench_words.specs.Words.{app_of, line_of, number_of, part_of, price_of, pricing_of, shares_of, side_of, shares_at, signed_of, small_of, time_of, time_said, tape_line_of, whole_of, yes_of};
 
 use crate::misread::Misread;
 use codes::order::Side;
@@ -44,7 +44,7 @@ fn signed_small(word: &str) -> Option<i32>
 }
 
 /// A line, from 0.
-pub(crate) fn line(word: &str) -> Result<usize, Misread>
+pub fn line(word: &str) -> Result<usize, Misread>
     ensures { result ≡ line_of word.now }
 {
     match whole(word) {
@@ -54,7 +54,7 @@ pub(crate) fn line(word: &str) -> Result<usize, Misread>
 }
 
 /// A number of 64 bits.
-pub(crate) fn number(word: &str) -> Result<u64, Misread>
+pub fn number(word: &str) -> Result<u64, Misread>
     ensures { result ≡ number_of word.now }
 {
     match whole(word) {
@@ -64,7 +64,7 @@ pub(crate) fn number(word: &str) -> Result<u64, Misread>
 }
 
 /// A number of things.
-pub(crate) fn count(word: &str) -> Result<usize, Misread>
+pub fn count(word: &str) -> Result<usize, Misread>
     ensures { result ≡ number_of word.now }
 {
     match whole(word) {
@@ -74,7 +74,7 @@ pub(crate) fn count(word: &str) -> Result<usize, Misread>
 }
 
 /// A number of 32 bits.
-pub(crate) fn small_number(word: &str) -> Result<u32, Misread>
+pub fn small_number(word: &str) -> Result<u32, Misread>
     ensures { result ≡ small_of word.now }
 {
     match small(word) {
@@ -84,7 +84,7 @@ pub(crate) fn small_number(word: &str) -> Result<u32, Misread>
 }
 
 /// A partition, of which there may be none of this number.
-pub(crate) fn partition(word: &str) -> Result<u8, Misread>
+pub fn partition(word: &str) -> Result<u8, Misread>
     ensures { result ≡ part_of word.now }
 {
     match byte(word) {
@@ -101,7 +101,7 @@ fn signed_byte(word: &str) -> Option<i8>
 }
 
 /// A partition as a request names it: any number of 8 bits.
-pub(crate) fn app_id(word: &str) -> Result<i8, Misread>
+pub fn app_id(word: &str) -> Result<i8, Misread>
     ensures { result ≡ app_of word.now }
 {
     match signed_byte(word) {
@@ -111,7 +111,7 @@ pub(crate) fn app_id(word: &str) -> Result<i8, Misread>
 }
 
 /// In shares.
-pub(crate) fn shares(word: &str) -> Result<i32, Misread>
+pub fn shares(word: &str) -> Result<i32, Misread>
     ensures { result ≡ shares_of word.now }
 {
     match signed_small(word) {
@@ -121,7 +121,7 @@ pub(crate) fn shares(word: &str) -> Result<i32, Misread>
 }
 
 /// A price as the raw whole number that messages carry.
-pub(crate) fn price(word: &str) -> Result<Price, Misread>
+pub fn price(word: &str) -> Result<Price, Misread>
     ensures { result ≡ price_of word.now }
 {
     match signed(word) {
@@ -131,7 +131,7 @@ pub(crate) fn price(word: &str) -> Result<Price, Misread>
 }
 
 /// `market`, or a limit.
-pub(crate) fn pricing(word: &str) -> Result<Pricing, Misread>
+pub fn pricing(word: &str) -> Result<Pricing, Misread>
     ensures { result ≡ pricing_of word.now }
 {
     if word == "market" {
@@ -140,7 +140,8 @@ pub(crate) fn pricing(word: &str) -> Result<Pricing, Misread>
     Ok(Pricing::Limit(price(word)?))
 }
 
-pub(crate) fn yes_or_no(word: &str) -> Result<bool, Misread>
+/// `yes` or `no`.
+pub fn yes_or_no(word: &str) -> Result<bool, Misread>
     ensures { result ≡ yes_of word.now }
 {
     match word {
@@ -150,7 +151,8 @@ pub(crate) fn yes_or_no(word: &str) -> Result<bool, Misread>
     }
 }
 
-pub(crate) fn side(word: &str) -> Result<Side, Misread>
+/// `buy` or `sell`.
+pub fn side(word: &str) -> Result<Side, Misread>
     ensures { result ≡ side_of word.now }
 {
     match word {
@@ -173,7 +175,7 @@ fn parts_of_time(word: &str) -> Option<Time>
 }
 
 /// A time: seconds and microseconds, two whole numbers round a point.
-pub(crate) fn time(word: &str) -> Result<Time, Misread>
+pub fn time(word: &str) -> Result<Time, Misread>
     ensures { result ≡ time_of word.now }
 {
     match parts_of_time(word) {
@@ -194,7 +196,7 @@ fn quantity_and_price(word: &str) -> Option<(u32, Price)>
 }
 
 /// One trade of a tape: the order's number, the quantity and the price, with commas between.
-pub(crate) fn tape_line(word: &str) -> Option<Line>
+pub fn tape_line(word: &str) -> Option<Line>
     ensures { result ≡ tape_line_of word.now }
 {
     let (number, rest) = word.split_once(',')?;

@@ -1,0 +1,6 @@
+// The twelve calls on a gateway and on a desk's follower, each made, kept, and its answer printed.
+#![tactic(auto)]
+
+pub mod calls;
+pub mod desk;
+pub mod state;
