@@ -2,10 +2,7 @@
 #![tactic(auto)]
 
 mod cable;
-mod day;
 pub mod failure;
-mod opening;
 mod person;
 pub mod play;
-mod show;
 mod sides;

@@ -1,13 +1,14 @@
 // A script as far as it has been played: what the gateway is started with, the gateway, and the follower of one of its lines.
-use crate::day::Day;
 use crate::failure::Failure;
-use crate::opening::{Engine, Opening, Shelf};
-use crate::{cable, person, show, sides};
+use crate::{cable, person, sides};
 use bench_account::answer::Answer;
 use bench_account::verdict::Verdict;
 use bench_calls::calls;
 use bench_calls::desk::Desk;
 use bench_calls::state::{State, reader};
+use bench_day::day::Day;
+use bench_day::opening::{Engine, Opening, Shelf};
+use bench_day::show;
 use bench_log::came::Came;
 use bench_log::log::Log;
 use bench_script::command;
@@ -15,6 +16,7 @@ use bench_script::command::{Cable, Command, Setup};
 use bench_words::bytes::Bytes;
 use bench_words::line::{is_skipped, parted};
 use bench_words::misread::Misread;
+use configuration::config::StartRefusal;
 use follower::hold;
 use gateway::gateway::Gateway;
 use inspector::answer::answer_message;
@@ -112,11 +114,14 @@ impl Play {
     /// Ends it; what the follower owes ends too.
     pub fn close(self) {
         let Play {
-            opening: _,
-            day: _,
+            opening,
+            day,
             desk,
-            state: _,
+            state,
         } = self;
+        drop(opening);
+        drop(day);
+        drop(state);
         if let Some(desk) = desk {
             desk.close();
         }
@@ -149,21 +154,29 @@ impl Play {
         }
     }
 
+    fn refuse<R: Print>(&mut self, rt: &R, refusal: StartRefusal) -> Result<Played, Failure> {
+        match refusal.number() {
+            Some(number) => {
+                self.state.tell(rt, Answer::Refused(number))?;
+                Ok(Played::Refused(number))
+            }
+            None => Err(Failure::from(AllocError)),
+        }
+    }
+
+    fn begin(&mut self, day: Day) {
+        drop(mem::replace(&mut self.day, Some(day)));
+    }
+
     fn start<R: Print + AllocGlobal>(&mut self, rt: &R) -> Result<Played, Failure> {
         let opening = mem::replace(&mut self.opening, Opening::new(rt.alloc()));
         match Day::start(rt.alloc(), opening) {
             Ok(day) => {
-                self.day = Some(day);
+                self.begin(day);
                 self.state.tell(rt, Answer::Started)?;
                 Ok(Played::Other)
             }
-            Err(refusal) => match refusal.number() {
-                Some(number) => {
-                    self.state.tell(rt, Answer::Refused(number))?;
-                    Ok(Played::Refused(number))
-                }
-                None => Err(Failure::from(AllocError)),
-            },
+            Err(refusal) => self.refuse(rt, refusal),
         }
     }
 

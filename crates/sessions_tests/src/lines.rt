@@ -33,43 +33,51 @@ fn lasts(store: &Records) -> PerPartition<u32> {
     }
 }
 
+// A line that is accepted on a channel more.
+fn on(line: Session, channel: Channel, store: &Records) -> Result<Session, Fail> {
+    Ok(line.logon(channel, lasts(store)).ok().ok_or("refused")?)
+}
+
+// One more report for CompID 1, in partition 2.
+fn tell(store: &mut Records) -> Result<(), Fail> {
+    store.append(Partition::Two, entry(1)).ok_or("full")?;
+    Ok(())
+}
+
 #[test]
 fn sent_once(rt: HostRuntime) -> Result<(), Fail> {
     let mut store = Records::new(rt.alloc(), 2)?;
-    store.append(Partition::Two, entry(1)).ok_or("full")?;
-    let line = Session::new().logon(Channel::RealTime, lasts(&store)).ok();
-    let mut line = line.ok_or("refused")?;
+    tell(&mut store)?;
+    let mut line = on(Session::new(), Channel::RealTime, &store)?;
     assert!(rt; line.next_live(1, &store).is_none());
-    store.append(Partition::Two, entry(1)).ok_or("full")?;
+    tell(&mut store)?;
     assert!(rt; line.next_live(1, &store) == Some((Partition::Two, 2)));
     Ok(())
+}
+
+// A line that asks for what it missed, and is told that it will have it.
+fn asking(store: &mut Records) -> Result<Session, Fail> {
+    let line = on(Session::new(), Channel::RealTime, store)?;
+    let line = line
+        .logon(Channel::Recovery, lasts(store))
+        .ok()
+        .ok_or("refused")?;
+    tell(store)?;
+    let (line, answer) = line.request(Some(Partition::Two), 0, 1).ok().ok_or("busy")?;
+    if answer == AckResponse::Successful {
+        Ok(line)
+    } else {
+        Err(Fail::new("not taken"))
+    }
 }
 
 #[test]
 fn recovered(rt: HostRuntime) -> Result<(), Fail> {
     let mut store = Records::new(rt.alloc(), 1)?;
-    let line = Session::new()
-        .logon(Channel::RealTime, lasts(&store))
-        .ok()
-        .ok_or("refused")?;
-    let line = line
-        .logon(Channel::Recovery, lasts(&store))
-        .ok()
-        .ok_or("refused")?;
-    store.append(Partition::Two, entry(1)).ok_or("full")?;
-    let (mut line, answer) = line.request(Some(Partition::Two), 0, 1).ok().ok_or("busy")?;
-    assert!(rt; answer == AckResponse::Successful);
-    assert!(rt;
-        matches!(
-            line.next_recovered(1, &store),
-            Some(Recovered::Report(Partition::Two, 1))
-        )
-    );
-    assert!(rt;
-        matches!(
-            line.next_recovered(1, &store),
-            Some(Recovered::Ended(ReportResponse::Complete))
-        )
-    );
+    let mut line = asking(&mut store)?;
+    let first = line.next_recovered(1, &store);
+    assert!(rt; matches!(first, Some(Recovered::Report(Partition::Two, 1))));
+    let last = line.next_recovered(1, &store);
+    assert!(rt; matches!(last, Some(Recovered::Ended(ReportResponse::Complete))));
     Ok(())
 }
