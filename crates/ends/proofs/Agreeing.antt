@@ -16,7 +16,7 @@ use Rattle.ends.proofs.Keeping.{Keeps, Phase, Ready, Up, Still, Staged, Sided, S
 use Rattle.ends.proofs.Living.{place_in, tallied_as}
 use Rattle.ends.proofs.Requested.{request_long}
 use Rattle.ends.proofs.Serves.{quietly, real_time, recovery, sends_on, recovers_on}
-use Rattle.ends.specs.Agreement.{Agrees, AllTaken, SameOrders, Taken, Takes, Tells as Heard_as, Took, is_hers, is_unfit, place, refuses_report}
+use Rattle.ends.specs.Agreement.{Agrees, AllTaken, SameOrders, Taken, Takes, HeardAs, Took, is_hers, is_unfit, place, refuses_report}
 use Rattle.ends.specs.Allowed.{Allowed, Line, accepted, quiet, behind, after_logon, after_recovery, after_venue, after_up, after_ask, given_live, or_lost, after_call, after_log, onward}
 use Rattle.ends.specs.Laws.{is_full, state_of}
 use Rattle.ends.specs.Runs.{Desk, Does, Runs, Tells, fresh, blank}
@@ -313,14 +313,14 @@ module _ (c : ℕ) (s : State) (d : Desk) (x : Line) (t : Taking) (k : Keeps c s
 -- ---- any call
 
 -- a call keeps what holds, and the fold refused no report that came with it
-abbrev pub Kept_by : ℕ → State → Desk → Line → Taking → Done → Type 0
-Kept_by c w e x t z = (refuses_report z ≡ false) × Keeps c w e x (λ p n. t p n ⊎ Takes p n z)
+abbrev pub KeptBy : ℕ → State → Desk → Line → Taking → Done → Type 0
+KeptBy c w e x t z = (refuses_report z ≡ false) × Keeps c w e x (λ p n. t p n ⊎ Takes p n z)
 
 no_more : (t : Taking) (u : Taking) → ((p : Partition) (n : ℕ) → u p n → ⊥) → (p : Partition) (n : ℕ) → t p n ⊎ u p n → t p n
 no_more t u none p n (inl h) = h
 no_more t u none p n (inr h) = absurd (none p n h)
 
-pub call_keeps : (c : ℕ) (s : State) (d : Desk) (x : Line) (t : Taking) (z : Done) (w : State) (e : Desk) (x' : Line) → Keeps c s d x t → Does s d z w e → Tells s d z → Sound w.venue → length w.venue.rows ≤ ORDERS → after_call c z x ≡ Ok x' → Kept_by c w e x' t z
+pub call_keeps : (c : ℕ) (s : State) (d : Desk) (x : Line) (t : Taking) (z : Done) (w : State) (e : Desk) (x' : Line) → Keeps c s d x t → Does s d z w e → Tells s d z → Sound w.venue → length w.venue.rows ≤ ORDERS → after_call c z x ≡ Ok x' → KeptBy c w e x' t z
 call_keeps c s d x t (done.Venue v) w e x' k (h, q) told sound few ok =
     (refl, subst (λ y. Keeps c w y x' (λ p n. t p n ⊎ ⊥)) (sym q) (keeps_taken c w d x' t (λ p n. t p n ⊎ ⊥) (no_more t (λ p n. ⊥) (λ p n i. i)) (venue_keeps c s d x t k w sound few v h told x' ok)))
 call_keeps c s d x t done.Up w e x' k (h, q) told sound few ok =
@@ -350,16 +350,16 @@ call_keeps c s d x t (done.Live m r) w e x' k (h, a, q) told sound few ok =
     let few' = subst (λ (y : State). length y.venue.rows ≤ ORDERS) h few in
     let g = given_live_keeps c s d x t sound' few' k m.now (heard_in m.now) refl x' (subst (λ y. or_lost (is_full y) (given_live m.now (heard_in m.now) x) ≡ Ok x') a ok) in (
       ap is_unfit a ∙ g.fits,
-      subst (λ y. Keeps c y e x' (λ p n. t p n ⊎ Taken r (Heard_as p n (heard_in m.now)))) (sym h) (subst (λ y. Keeps c s y x' (λ p n. t p n ⊎ Taken r (Heard_as p n (heard_in m.now)))) (sym q)
-          (subst (λ y. Keeps c s (record { follower = (live_step d.follower (heard_in m.now)).after; token = after_live r d.token }) x' (λ p n. t p n ⊎ Taken y (Heard_as p n (heard_in m.now)))) (sym a) (g.keeps (after_live r d.token)))),
+      subst (λ y. Keeps c y e x' (λ p n. t p n ⊎ Taken r (HeardAs p n (heard_in m.now)))) (sym h) (subst (λ y. Keeps c s y x' (λ p n. t p n ⊎ Taken r (HeardAs p n (heard_in m.now)))) (sym q)
+          (subst (λ y. Keeps c s (record { follower = (live_step d.follower (heard_in m.now)).after; token = after_live r d.token }) x' (λ p n. t p n ⊎ Taken y (HeardAs p n (heard_in m.now)))) (sym a) (g.keeps (after_live r d.token)))),
     )
 call_keeps c s d x t (done.Recovered m r) w e x' k (h, a, q) told sound few ok =
     let sound' = subst (λ (y : State). Sound y.venue) h sound in
     let few' = subst (λ (y : State). length y.venue.rows ≤ ORDERS) h few in
     let g = given_recovered_keeps c s d x t sound' few' k m.now (heard_in m.now) refl x' ok in (
       ap is_unfit a ∙ g.fits,
-      subst (λ y. Keeps c y e x' (λ p n. t p n ⊎ Taken r (Heard_as p n (heard_in m.now)))) (sym h) (subst (λ y. Keeps c s y x' (λ p n. t p n ⊎ Taken r (Heard_as p n (heard_in m.now)))) (sym q)
-          (subst (λ y. Keeps c s (record { follower = (recovered_step d.follower (heard_in m.now)).after; token = after_recovered r d.token }) x' (λ p n. t p n ⊎ Taken y (Heard_as p n (heard_in m.now)))) (sym a) (g.keeps (after_recovered r d.token)))),
+      subst (λ y. Keeps c y e x' (λ p n. t p n ⊎ Taken r (HeardAs p n (heard_in m.now)))) (sym h) (subst (λ y. Keeps c s y x' (λ p n. t p n ⊎ Taken r (HeardAs p n (heard_in m.now)))) (sym q)
+          (subst (λ y. Keeps c s (record { follower = (recovered_step d.follower (heard_in m.now)).after; token = after_recovered r d.token }) x' (λ p n. t p n ⊎ Taken y (HeardAs p n (heard_in m.now)))) (sym a) (g.keeps (after_recovered r d.token)))),
     )
 
 -- ---- any log

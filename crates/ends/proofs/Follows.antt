@@ -342,10 +342,10 @@ module _ (c : ℕ) (s : State) (d : Desk) (x : Line) (t : Taking) (sound : Sound
       by p n (inl h) = k.hers p n h
       by p n (inr h) = hers p n h
 
-  abbrev Up_now : Type 0
-  Up_now = Up c s.venue.kept (session s c) f (place_in f) x t
+  abbrev UpNow : Type 0
+  UpNow = Up c s.venue.kept (session s c) f (place_in f) x t
 
-  now_up : f.up ≡ true → Up_now
+  now_up : f.up ≡ true → UpNow
   now_up up = (up_of c s.venue.kept (session s c) f (place d) x t x.ready x.up (k.up ∙ up) k.phase).1
 
   abbrev step_on : Heard → Step Recovered
@@ -403,7 +403,7 @@ module _ (c : ℕ) (s : State) (d : Desk) (x : Line) (t : Taking) (sound : Sound
 
   -- what is no report comes next
   other_came : (m : List ℕ) (h : Heard) → ((p : Partition) (n : ℕ) → Tells p n (Ok h) ≡ ⊥)
-      → ((u : Up_now) (rest : List (List ℕ)) (w : Taking) → x.recovered ≡ m ∷ rest → ((p : Partition) (n : ℕ) → w p n → ⊥) → Recovers c s.venue (session s c) sound few f (recovering f h) (record x { recovered = rest; again = [] }) (or_one c s.venue.kept (session s c) t w))
+      → ((u : UpNow) (rest : List (List ℕ)) (w : Taking) → x.recovered ≡ m ∷ rest → ((p : Partition) (n : ℕ) → w p n → ⊥) → Recovers c s.venue (session s c) sound few f (recovering f h) (record x { recovered = rest; again = [] }) (or_one c s.venue.kept (session s c) t w))
       → (o : Option (List (List ℕ))) → next_of m x.recovered ≡ o → (x' : Line) → next_other o x ≡ Ok x' → (b : Bool) → f.up ≡ b
       → Goes c s (step_on h) x' (or_one c s.venue.kept (session s c) t (took (step_on h) (Ok h)))
   other_came m h tells on None e x' ok b q = ok_err RecoveredOutOfTurn x' (Err RecoveredOutOfTurn) refl ok

@@ -48,9 +48,9 @@ refuses_report (done.Recovered m r) = is_unfit r
 refuses_report d = false
 
 -- a message, heard as this, is the report of a partition under a number
-abbrev pub Tells : Partition → ℕ → Result Heard Fault → Type 0
-Tells p n (Ok (Report q h)) = (q ≡ p) × (number_of h ≡ n)
-Tells p n h = ⊥
+abbrev pub HeardAs : Partition → ℕ → Result Heard Fault → Type 0
+HeardAs p n (Ok (Report q h)) = (q ≡ p) × (number_of h ≡ n)
+HeardAs p n h = ⊥
 
 abbrev pub Taken : {A : Type 0} → Result A FollowerFault → Type 0 → Type 0
 Taken (Ok a) t = t
@@ -58,8 +58,8 @@ Taken (Err e) t = ⊥
 
 -- a call gave the follower a report, which was not refused
 abbrev pub Takes : Partition → ℕ → Done → Type 0
-Takes p n (done.Live m r) = Taken r (Tells p n (heard_in m.now))
-Takes p n (done.Recovered m r) = Taken r (Tells p n (heard_in m.now))
+Takes p n (done.Live m r) = Taken r (HeardAs p n (heard_in m.now))
+Takes p n (done.Recovered m r) = Taken r (HeardAs p n (heard_in m.now))
 Takes p n d = ⊥
 
 -- and one of these calls did

@@ -14,8 +14,8 @@ use Rattle.follower.specs.declared.request.TheConstants.{BUFFER}
 use Rattle.gateway.specs.State.{State}
 use Rattle.limits.specs.declared.TheConstants.{ORDERS}
 use Rattle.line.specs.Runs as venue
-use Rattle.partitions.specs.PerPartition.{at}
 use Rattle.line.specs.declared.call.Done.{Done as VenueDone}
+use Rattle.partitions.specs.PerPartition.{at}
 use Rattle.venue.specs.View.{Sound}
 
 -- the call that was made
