@@ -1,8 +1,6 @@
-// Plays the lines of a script on a gateway, over either engine and either store, and on a desk's follower of one of its lines.
+// Plays the lines of a script on a gateway, over either engine and either store, and on a desk's follower of one of its
+// lines.
 #![tactic(auto)]
 
-mod cable;
-pub mod failure;
-mod person;
 pub mod play;
 mod sides;

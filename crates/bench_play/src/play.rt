@@ -1,6 +1,5 @@
 // A script as far as it has been played: what the gateway is started with, the gateway, and the follower of one of its lines.
-use crate::failure::Failure;
-use crate::{cable, person, sides};
+use crate::sides;
 use bench_account::answer::Answer;
 use bench_account::verdict::Verdict;
 use bench_calls::calls;
@@ -11,6 +10,8 @@ use bench_day::opening::{Engine, Opening, Shelf};
 use bench_day::show;
 use bench_log::came::Came;
 use bench_log::log::Log;
+use bench_person::failure::Failure;
+use bench_person::{asking, cable};
 use bench_script::command;
 use bench_script::command::{Cable, Command, Setup};
 use bench_words::bytes::Bytes;
@@ -68,10 +69,10 @@ fn obey<R: Print + AllocGlobal, M: Matcher, S: Store>(
 ) -> Result<(), Failure> {
     match order {
         Command::Call(call) => calls::make(rt, state, gateway, call)?,
-        Command::Request(line, request) => person::ask(rt, state, gateway, line, request)?,
-        Command::Run => person::run(rt, state, gateway)?,
-        Command::Drain(line) => person::drain(rt, state, gateway, line)?,
-        Command::Download(line) => person::download(rt, state, gateway, line)?,
+        Command::Request(line, request) => asking::ask(rt, state, gateway, line, request)?,
+        Command::Run => asking::run(rt, state, gateway)?,
+        Command::Drain(line) => asking::drain(rt, state, gateway, line)?,
+        Command::Download(line) => asking::download(rt, state, gateway, line)?,
         Command::Orders => show::orders(rt, gateway)?,
         _ => {}
     }

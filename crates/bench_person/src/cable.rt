@@ -1,7 +1,7 @@
 // The line that is followed, as a person plays it: what is under way comes, comes again or is lost, and the follower
 // catches up.
+use crate::asking;
 use crate::failure::Failure;
-use crate::person;
 use bench_account::remark::Remark;
 use bench_calls::calls::{hear, line_lost, send_recovered};
 use bench_calls::desk::Desk;
@@ -127,11 +127,11 @@ fn reconnect<R: Print + AllocGlobal, M: Matcher, S: Store>(
     gateway: &mut Gateway<M, S>,
     desk: &mut Desk,
 ) -> Result<(), Failure> {
-    person::ask(rt, state, gateway, desk.line, Request::Logon)?;
+    asking::ask(rt, state, gateway, desk.line, Request::Logon)?;
     if !is_accepted(state) {
         return Ok(());
     }
-    person::ask(rt, state, gateway, desk.line, Request::Recover)?;
+    asking::ask(rt, state, gateway, desk.line, Request::Recover)?;
     state.under_way.cut();
     desk.up(rt, state)?;
     Ok(())
