@@ -98,6 +98,7 @@ mod tests {
         );
         assert!(rt; tape.is_empty());
         assert_eq!(rt; tape.next_event(), Event::Nothing);
+        drop(tape);
         Ok(())
     }
 
@@ -118,6 +119,7 @@ mod tests {
         assert_eq!(rt; book.next_event(), traded(2, 5, 2, 100));
         assert_eq!(rt; book.next_event(), Event::Nothing);
         assert_eq!(rt; book.cancel(5), Err(Refusal::NotOpen));
+        drop(book);
         Ok(())
     }
 
@@ -138,6 +140,7 @@ mod tests {
         assert_eq!(rt; book.next_event(), traded(1, 2, 10, 99));
         assert_eq!(rt; book.next_event(), Event::Expired(2));
         assert_eq!(rt; book.next_event(), Event::Nothing);
+        drop(book);
         Ok(())
     }
 }

@@ -32,7 +32,9 @@ fn counted_once(rt: HostRuntime) -> Result<(), Fail> {
     assert_eq!(rt; refusal(&mut s, told(ExecType::Trade, 40, 60)), 0);
     assert_eq!(rt; refusal(&mut s, told(ExecType::Trade, 40, 60)), 53);
     assert_eq!(rt; refusal(&mut s, told(ExecType::Rejected, 40, 60)), 0);
-    let standing = s.standing(7).ok_or("known")?;
+    let known = s.standing(7);
+    drop(s);
+    let standing = known.ok_or("not known")?;
     assert_eq!(rt; standing.executed, 40);
     assert_eq!(rt; standing.leaves, 60);
     Ok(())
@@ -46,7 +48,9 @@ fn undone_takes_off_executed(rt: HostRuntime) -> Result<(), Fail> {
     assert_eq!(rt; refusal(&mut s, told(ExecType::TradeCancel, 41, 60)), 53);
     assert_eq!(rt; refusal(&mut s, told(ExecType::TradeCancel, 40, 60)), 0);
     assert_eq!(rt; refusal(&mut s, told(ExecType::Unspecified, 0, -1)), 53);
-    let standing = s.standing(7).ok_or("known")?;
+    let known = s.standing(7);
+    drop(s);
+    let standing = known.ok_or("not known")?;
     assert_eq!(rt; standing.executed, 0);
     assert_eq!(rt; standing.leaves, 60);
     Ok(())

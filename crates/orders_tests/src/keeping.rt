@@ -52,19 +52,21 @@ fn numbers_and_owners<S: Store>(store: &mut S) -> Result<(), Fail> {
 #[test]
 fn records_keep(rt: HostRuntime) -> Result<(), Fail> {
     let mut store = Records::new(rt.alloc(), 3)?;
-    numbers_and_owners(&mut store)?;
+    let kept = numbers_and_owners(&mut store);
     assert_eq!(rt; store.places(), 0);
     assert_eq!(rt; store.append(Partition::Three, entry(1, 28)), None);
-    Ok(())
+    drop(store);
+    kept
 }
 
 #[test]
 fn wire_bytes_keep(rt: HostRuntime) -> Result<(), Fail> {
     let mut store = wire_store::new(rt.alloc(), 3 * LONGEST)?;
     assert_eq!(rt; store.places(), 3);
-    numbers_and_owners(&mut store)?;
+    let kept = numbers_and_owners(&mut store);
     assert_eq!(rt; store.places(), 1);
     assert_eq!(rt; store.append(Partition::Three, entry(1, 28)), Some(1));
     assert_eq!(rt; store.places(), 1);
-    Ok(())
+    drop(store);
+    kept
 }

@@ -1,6 +1,7 @@
 // An order's life in its table.
 use codes::order::{AutoCancel, Book, OrderType, Side, TimeInForce};
 use codes::report::Capacity;
+use orders::order::Order;
 use orders::row::{Ask, Ending, Terms};
 use orders::table::Table;
 use std::test::Fail;
@@ -29,16 +30,29 @@ fn ask(quantity: u32) -> Ask {
     }
 }
 
+// An order of 100 of which 40 are traded.
+fn traded(table: &mut Table) -> Result<Order, Fail> {
+    let order = table.add(terms(0), ask(100))?;
+    Ok(order.fill(40).ok_or("not filled")?)
+}
+
+// That order cancelled, its trade undone, and what the table then has under its number.
+fn undone(table: &mut Table) -> Result<Order, Fail> {
+    let order = traded(table)?;
+    let order = order.withdraw(Ending::Cancelled).ok_or("not cancelled")?;
+    let order = order.undo(40).ok_or("not undone")?;
+    if !table.write(order) {
+        return Err(Fail::new("not written"));
+    }
+    Ok(table.order(1).ok_or("not kept")?)
+}
+
 #[test]
 fn undone_after_cancel(rt: HostRuntime) -> Result<(), Fail> {
     let mut table = Table::new(rt.alloc())?;
-    let order = table.add(terms(0), ask(100))?;
-    let order = order.fill(40).ok_or("not filled")?;
-    assert_eq!(rt; order.status() as u8, 1);
-    let order = order.withdraw(Ending::Cancelled).ok_or("not cancelled")?;
-    let order = order.undo(40).ok_or("not undone")?;
-    assert!(rt; table.write(order));
-    let order = table.order(1).ok_or("not kept")?;
+    let order = undone(&mut table);
+    drop(table);
+    let order = order?;
     let kept = order.row();
     assert_eq!(rt; kept.ordered, 60);
     assert_eq!(rt; kept.withdrawn, 60);
@@ -50,8 +64,10 @@ fn undone_after_cancel(rt: HostRuntime) -> Result<(), Fail> {
 #[test]
 fn replaced_above_executed(rt: HostRuntime) -> Result<(), Fail> {
     let mut table = Table::new(rt.alloc())?;
-    let order = table.add(terms(0), ask(100))?;
-    let order = order.fill(40).ok_or("not filled")?;
+    let order = traded(&mut table);
+    drop(table);
+    let order = order?;
+    assert_eq!(rt; order.status() as u8, 1);
     if let Err(refusal) = order.replace(ask(40)) {
         assert_eq!(rt; refusal.number(), 27);
     } else {
@@ -62,16 +78,23 @@ fn replaced_above_executed(rt: HostRuntime) -> Result<(), Fail> {
     Ok(())
 }
 
-#[test]
-fn found_by_owner_and_id(rt: HostRuntime) -> Result<(), Fail> {
-    let mut table = Table::new(rt.alloc())?;
+// Three orders, the second of another CompID.
+fn added(table: &mut Table) -> Result<(), Fail> {
     table.add(terms(0), ask(1))?;
     table.add(terms(1), ask(2))?;
     table.add(terms(0), ask(3))?;
+    Ok(())
+}
+
+#[test]
+fn found_by_owner_and_id(rt: HostRuntime) -> Result<(), Fail> {
+    let mut table = Table::new(rt.alloc())?;
+    let kept = added(&mut table);
     assert!(rt; table.own(1, 1).is_none());
     assert!(rt; table.own(1, 2).is_some());
-    let named = table.named(0, FixedText::empty()).ok_or("not named")?;
-    assert_eq!(rt; named.row().number, 3);
     assert_eq!(rt; table.open_count(), 3);
-    Ok(())
+    let named = table.named(0, FixedText::empty());
+    drop(table);
+    assert_eq!(rt; named.ok_or("not named")?.row().number, 3);
+    kept
 }

@@ -44,14 +44,23 @@ fn tell(store: &mut Records) -> Result<(), Fail> {
     Ok(())
 }
 
+// A line that is on since a report was told, and the report that it is sent once another is.
+fn sent(store: &mut Records) -> Result<Option<(Partition, u32)>, Fail> {
+    tell(store)?;
+    let mut line = on(Session::new(), Channel::RealTime, store)?;
+    if line.next_live(1, store).is_some() {
+        return Err(Fail::new("sent what was told before"));
+    }
+    tell(store)?;
+    Ok(line.next_live(1, store))
+}
+
 #[test]
 fn sent_once(rt: HostRuntime) -> Result<(), Fail> {
     let mut store = Records::new(rt.alloc(), 2)?;
-    tell(&mut store)?;
-    let mut line = on(Session::new(), Channel::RealTime, &store)?;
-    assert!(rt; line.next_live(1, &store).is_none());
-    tell(&mut store)?;
-    assert!(rt; line.next_live(1, &store) == Some((Partition::Two, 2)));
+    let sent = sent(&mut store);
+    drop(store);
+    assert!(rt; sent? == Some((Partition::Two, 2)));
     Ok(())
 }
 
@@ -71,13 +80,20 @@ fn asking(store: &mut Records) -> Result<Session, Fail> {
     }
 }
 
+// What it is then handed: a report, and the end.
+fn handed(store: &mut Records) -> Result<(Option<Recovered>, Option<Recovered>), Fail> {
+    let mut line = asking(store)?;
+    let first = line.next_recovered(1, store);
+    Ok((first, line.next_recovered(1, store)))
+}
+
 #[test]
 fn recovered(rt: HostRuntime) -> Result<(), Fail> {
     let mut store = Records::new(rt.alloc(), 1)?;
-    let mut line = asking(&mut store)?;
-    let first = line.next_recovered(1, &store);
+    let handed = handed(&mut store);
+    drop(store);
+    let (first, last) = handed?;
     assert!(rt; matches!(first, Some(Recovered::Report(Partition::Two, 1))));
-    let last = line.next_recovered(1, &store);
     assert!(rt; matches!(last, Some(Recovered::Ended(ReportResponse::Complete))));
     Ok(())
 }
