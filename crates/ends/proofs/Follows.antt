@@ -9,7 +9,7 @@ use Rattle.ends.proofs.Flights.{Next}
 use Rattle.ends.proofs.Given.{same_bytes, Stands, Lives, lives, Recovers, acks, rejects, ends, reports, repeats}
 use Rattle.ends.proofs.Keeping.{Keeps, Phase, Ready, Up, Taking, Flowing}
 use Rattle.ends.proofs.Living.{place_in, Only, or_one, flowing_popped, tallied_as}
-use Rattle.ends.specs.Agreement.{is_hers, is_unfit, place, Taken, Tells}
+use Rattle.ends.specs.Agreement.{is_hers, is_unfit, place, Taken, HeardAs}
 use Rattle.ends.specs.Allowed.{Line, next_of, next_live, given_live, or_lost, repeated, next_report, next_other, given_recovered}
 use Rattle.ends.specs.Laws.{is_full}
 use Rattle.ends.specs.Runs.{Desk}
@@ -71,7 +71,7 @@ pub record Goes {A : Type 0} (c : ℕ) (s : State) (a : Step A) (x : Line) (t : 
   pub keeps : (token : Pending) → Keeps c s (record { follower = a.after; token = token }) x t
 
 abbrev pub took : {A : Type 0} → Step A → Result Heard Fault → Taking
-took a h p n = Taken a.answer (Tells p n h)
+took a h p n = Taken a.answer (HeardAs p n h)
 
 pub next_is : (m : List ℕ) (ms rest : List (List ℕ)) → next_of m ms ≡ Some rest → ms ≡ m ∷ rest
 next_is m [] rest h = absurd cc
@@ -132,7 +132,7 @@ module _ (c : ℕ) (s : State) (d : Desk) (x : Line) (t : Taking) (sound : Sound
 
   -- ---- live
 
-  unheard : (h : Heard) → lived f h ≡ answered live.Nothing f → ((p : Partition) (n : ℕ) → Tells p n (Ok h) → ⊥) → (b : Bool) → Goes c s (cond b (lived f h) (refused fault.NotUp f)) x (or_one c s.venue.kept (session s c) t (took (cond b (lived f h) (refused fault.NotUp f)) (Ok h)))
+  unheard : (h : Heard) → lived f h ≡ answered live.Nothing f → ((p : Partition) (n : ℕ) → HeardAs p n (Ok h) → ⊥) → (b : Bool) → Goes c s (cond b (lived f h) (refused fault.NotUp f)) x (or_one c s.venue.kept (session s c) t (took (cond b (lived f h) (refused fault.NotUp f)) (Ok h)))
   unheard h e none true =
       subst (λ a. Goes c s a x (or_one c s.venue.kept (session s c) t (took a (Ok h)))) (sym e)
       (nothing (answered live.Nothing f) (took {A = Live} (answered live.Nothing f) (Ok h)) refl refl none)
@@ -174,7 +174,7 @@ module _ (c : ℕ) (s : State) (d : Desk) (x : Line) (t : Taking) (sound : Sound
     only : (y : PerPartition ℕ) (w : Comes y) {A : Type 0} (a : Step A) → Only c s.venue.kept (session s c) p w.n (took a (Ok (Report p h)))
     only y w {A = A} a q i z = by a.answer z
       where
-        by : (r : Result A FollowerFault) → Taken r (Tells q i (Ok (Report p h))) → (p ≡ q) × (w.n ≡ i)
+        by : (r : Result A FollowerFault) → Taken r (HeardAs q i (Ok (Report p h))) → (p ≡ q) × (w.n ≡ i)
         by (Ok v) (e, g) = (e, sym (ap number_of w.is) ∙ g)
         by (Err v) g = absurd g
 
@@ -301,7 +301,7 @@ module _ (c : ℕ) (s : State) (d : Desk) (x : Line) (t : Taking) (sound : Sound
   not_full h e true = ap (λ (a : Step Live). is_full a.answer) e
   not_full h e false = refl
 
-  unheard_live : (h : Heard) → lived f h ≡ answered live.Nothing f → ((p : Partition) (n : ℕ) → Tells p n (Ok h) → ⊥) → (x' : Line) → or_lost (is_full (live_step f (Ok h)).answer) (Ok x) ≡ Ok x'
+  unheard_live : (h : Heard) → lived f h ≡ answered live.Nothing f → ((p : Partition) (n : ℕ) → HeardAs p n (Ok h) → ⊥) → (x' : Line) → or_lost (is_full (live_step f (Ok h)).answer) (Ok x) ≡ Ok x'
       → Goes c s (live_step f (Ok h)) x' (or_one c s.venue.kept (session s c) t (took (live_step f (Ok h)) (Ok h)))
   unheard_live h e none x' ok =
       subst (λ y. Goes c s (live_step f (Ok h)) y (or_one c s.venue.kept (session s c) t (took (live_step f (Ok h)) (Ok h))))
@@ -402,7 +402,7 @@ module _ (c : ℕ) (s : State) (d : Desk) (x : Line) (t : Taking) (sound : Sound
   taken_none (Err e) h = h
 
   -- what is no report comes next
-  other_came : (m : List ℕ) (h : Heard) → ((p : Partition) (n : ℕ) → Tells p n (Ok h) ≡ ⊥)
+  other_came : (m : List ℕ) (h : Heard) → ((p : Partition) (n : ℕ) → HeardAs p n (Ok h) ≡ ⊥)
       → ((u : UpNow) (rest : List (List ℕ)) (w : Taking) → x.recovered ≡ m ∷ rest → ((p : Partition) (n : ℕ) → w p n → ⊥) → Recovers c s.venue (session s c) sound few f (recovering f h) (record x { recovered = rest; again = [] }) (or_one c s.venue.kept (session s c) t w))
       → (o : Option (List (List ℕ))) → next_of m x.recovered ≡ o → (x' : Line) → next_other o x ≡ Ok x' → (b : Bool) → f.up ≡ b
       → Goes c s (step_on h) x' (or_one c s.venue.kept (session s c) t (took (step_on h) (Ok h)))
@@ -430,7 +430,7 @@ module _ (c : ℕ) (s : State) (d : Desk) (x : Line) (t : Taking) (sound : Sound
     only_told : {A : Type 0} (a : Step A) → Only c s.venue.kept (session s c) p (number_of h) (took a (Ok told))
     only_told {A = A} a q i z = by a.answer z
       where
-        by : (r : Result A FollowerFault) → Taken r (Tells q i (Ok (Report p h))) → (p ≡ q) × (number_of h ≡ i)
+        by : (r : Result A FollowerFault) → Taken r (HeardAs q i (Ok (Report p h))) → (p ≡ q) × (number_of h ≡ i)
         by (Ok v) g = g
         by (Err v) g = absurd g
 
@@ -468,7 +468,7 @@ module _ (c : ℕ) (s : State) (d : Desk) (x : Line) (t : Taking) (sound : Sound
         (off_still x told q refl refl (λ z. refl)))
     report_came None e false i x' b q ok = ok_err RecoveredOutOfTurn x' (repeated false x) refl (subst (λ z. repeated z x ≡ Ok x') i ok)
 
-  unheard_recovered : (h : Heard) → recovering f h ≡ answered recovered.Nothing f → ((p : Partition) (n : ℕ) → Tells p n (Ok h) ≡ ⊥) → (b : Bool) → f.up ≡ b → Goes c s (step_on h) x (or_one c s.venue.kept (session s c) t (took (step_on h) (Ok h)))
+  unheard_recovered : (h : Heard) → recovering f h ≡ answered recovered.Nothing f → ((p : Partition) (n : ℕ) → HeardAs p n (Ok h) ≡ ⊥) → (b : Bool) → f.up ≡ b → Goes c s (step_on h) x (or_one c s.venue.kept (session s c) t (took (step_on h) (Ok h)))
   unheard_recovered h e tells true q =
       let a : step_on h ≡ answered recovered.Nothing f = is_on h q ∙ e in
       nothing (step_on h) (took (step_on h) (Ok h)) (ap (λ (y : Step Recovered). y.after) a) (ap (λ (y : Step Recovered). is_unfit y.answer) a)

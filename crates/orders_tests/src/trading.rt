@@ -95,6 +95,7 @@ fn found_by_owner_and_id(rt: HostRuntime) -> Result<(), Fail> {
     assert_eq!(rt; table.open_count(), 3);
     let named = table.named(0, FixedText::empty());
     drop(table);
+    kept?;
     assert_eq!(rt; named.ok_or("not named")?.row().number, 3);
-    kept
+    Ok(())
 }
