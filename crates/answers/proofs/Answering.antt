@@ -8,11 +8,11 @@ use Rattle.wire.specs.declared.kinds.Kind.TheVariants as kind
 use Rattle.wire.specs.declared.message.Message.{Message}
 use Rattle.wire.specs.declared.message.Message.TheVariants as message
 use Rattle.wire.specs.Kinds.{letter_of, takes}
-use Rattle.wire.specs.Messages.{kind_of, written, Holdable, GivenBack}
+use Rattle.wire.specs.Messages.{kind_of, written, Holdable, GivenBack, message_bytes}
 use Rattle.wire.specs.Plain.{plain}
 use Rattle.answers.specs.declared.answer.Answer.{Answer}
 use Rattle.answers.specs.declared.answer.Answer.TheVariants as answer
-use Rattle.answers.specs.Bytes.{message_bytes, answer_bytes}
+use Rattle.answers.specs.Bytes.{answer_bytes}
 use Rattle.answers.specs.Sent.{Sent}
 use Rattle.answers.specs.Told.{Told, Answers, AnswerTold}
 use Rattle.answers.proofs.Heard.{heard}

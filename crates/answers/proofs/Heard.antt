@@ -13,7 +13,7 @@ use Rattle.wire.specs.declared.kinds.Kind.TheVariants as kind
 use Rattle.wire.specs.declared.message.Message.{Message}
 use Rattle.wire.specs.declared.message.Message.TheVariants as message
 use Rattle.wire.specs.Kinds.{letter_of, total_of, table_of, takes}
-use Rattle.wire.specs.Messages.{kind_of, contents_of, verdict, written, Holdable, GivenBack, Reads}
+use Rattle.wire.specs.Messages.{kind_of, contents_of, verdict, written, Holdable, GivenBack, Reads, message_bytes}
 use Rattle.wire.specs.Plain.{plain, plain_name, plain_scope}
 use Rattle.wire.proofs.Sound.{sound}
 use Rattle.wire.proofs.Trips.{trip}
@@ -23,8 +23,8 @@ use Rattle.messages.specs.declared.order_mass_cancel_request.Scope.TheVariants a
 use Rattle.reports.specs.declared.report.Report.{Report}
 use Rattle.reports.specs.declared.report.Report.TheVariants as report
 use Rattle.report_messages.specs.Back.{report_in}
-use Rattle.report_messages.specs.Telling.{told_as, kind_told}
-use Rattle.answers.specs.Bytes.{message_bytes, report_bytes, end_bytes}
+use Rattle.report_messages.specs.Telling.{told_as, kind_told, report_bytes}
+use Rattle.answers.specs.Bytes.{end_bytes}
 use Rattle.answers.specs.Sent.{Sent}
 use Rattle.answers.specs.Told.{Told, place_in, Reports, ReportTold, Ends, EndTold}
 

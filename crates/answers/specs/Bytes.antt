@@ -1,24 +1,14 @@
 -- The bytes of what a gateway answers and sends. Assumes nothing.
-use Rattle.std.specs.Prelude.{ℕ, List, [], ◌∷◌, ◌++◌, pos, Some, None, Option}
+use Rattle.std.specs.Prelude.{ℕ, List, [], ◌∷◌, pos, Some, None, Option}
 use Rattle.codes.specs.Session.{ack_response_code, report_response_code}
-use Rattle.codes.specs.declared.session.Partition.{Partition}
 use Rattle.codes.specs.declared.session.ReportResponse.{ReportResponse}
 use Rattle.texts.specs.Bytes.{said}
 use Rattle.texts.specs.declared.fixed.FixedText.{FixedText}
-use Rattle.layout.specs.Layout.{Content}
 use Rattle.layout.specs.Layout.Content.{words, figure, int32}
-use Rattle.layout.specs.Writing.{header, encode}
-use Rattle.wire.specs.declared.kinds.Kind.{Kind}
 use Rattle.wire.specs.declared.kinds.Kind.TheVariants as kind
-use Rattle.wire.specs.Kinds.{letter_of, total_of, table_of}
-use Rattle.reports.specs.declared.report.Report.{Report}
-use Rattle.report_messages.specs.Telling.{told_as, kind_told}
+use Rattle.wire.specs.Messages.{message_bytes}
 use Rattle.answers.specs.declared.answer.Answer.{Answer}
 use Rattle.answers.specs.declared.answer.Answer.TheVariants.{Silent, LogonReply, Ack, Reject}
-
--- the message of a kind whose fields hold this
-abbrev pub message_bytes : Kind → List Content → List ℕ
-message_bytes k vs = header (letter_of k) (total_of k) ++ encode (table_of k) vs
 
 -- what a Client Order ID says, where there is one
 abbrev pub client_said : Option (FixedText 20) → List ℕ
@@ -38,10 +28,6 @@ answer_bytes (Reject r) =
     ∷ words (client_said r.client)
     ∷ []
     )
-
--- a report under its number in a partition
-abbrev pub report_bytes : Partition → ℕ → Report → List ℕ
-report_bytes p n r = message_bytes (kind_told r) (told_as p n r)
 
 -- the end of a download
 abbrev pub end_bytes : ReportResponse → List ℕ

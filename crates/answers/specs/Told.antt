@@ -9,10 +9,10 @@ use Rattle.wire.specs.declared.message.Message.TheVariants as message
 use Rattle.wire.specs.Messages.{kind_of, contents_of, verdict, written, Holdable, GivenBack, Reads}
 use Rattle.reports.specs.declared.report.Report.{Report}
 use Rattle.report_messages.specs.Back.{report_in}
-use Rattle.report_messages.specs.Telling.{told_as, kind_told}
+use Rattle.report_messages.specs.Telling.{told_as, kind_told, report_bytes}
 use Rattle.answers.specs.declared.answer.Answer.{Answer}
 use Rattle.answers.specs.declared.answer.Answer.TheVariants.{Silent, LogonReply, Ack, Reject}
-use Rattle.answers.specs.Bytes.{answer_bytes, client_said, report_bytes, end_bytes}
+use Rattle.answers.specs.Bytes.{answer_bytes, client_said, end_bytes}
 
 -- the bytes are the one form of a message of which P holds, and from them a follower reads such a message and no other
 pub record Told (P : Message → Type 0) (bs : List ℕ) : Type 0 where

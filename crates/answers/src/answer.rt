@@ -3,7 +3,7 @@ ghost use Rattle.std.specs.Prelude.{◌≡◌, ◌≤◌, [], length, MatchOptio
 ghost use Rattle.texts.specs.Bytes.{said};
 ghost use Rattle.texts.specs.Says.{says};
 ghost use Rattle.answers.specs.declared.answer.Answer.TheVariants as answer;
-ghost use Rattle.answers.specs.declared.sending.TheConstants.{REPLY};
+ghost use Rattle.wire.specs.declared.message.TheConstants.{BUFFER};
 ghost use Rattle.answers.specs.Bytes.{answer_bytes, client_said};
 ghost use Rattle.answers.specs.Sent.{Sent};
 ghost use Rattle.answers.specs.Told.{Answers, AnswerTold};
@@ -93,7 +93,7 @@ impl Answer {
     /// those past it stay.
     #[tactic(auto, using(crate::proofs::Answering::sent, crate::proofs::Answering::told))]
     pub fn write(&self, out: &mut [u8]) -> usize
-        requires { REPLY ≤ length out.old }
+        requires { BUFFER ≤ length out.old }
         ensures sent { Sent (answer_bytes self.now) out.old out.new result }
         ensures told { AnswerTold self.now }
     {

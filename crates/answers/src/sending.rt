@@ -2,7 +2,9 @@
 ghost use Rattle.std.specs.Prelude.{◌≡◌, ◌<◌, ◌≤◌, length};
 ghost use Rattle.report_messages.specs.declared.telling.TheConstants.{NUMBERS};
 ghost use Rattle.wire.specs.Messages.{written, Holdable, GivenBack};
-ghost use Rattle.answers.specs.Bytes.{report_bytes, end_bytes};
+ghost use Rattle.wire.specs.declared.message.TheConstants.{BUFFER};
+ghost use Rattle.answers.specs.Bytes.{end_bytes};
+ghost use Rattle.report_messages.specs.Telling.{report_bytes};
 ghost use Rattle.answers.specs.Sent.{Sent};
 ghost use Rattle.answers.specs.Told.{ReportTold, EndTold};
 
@@ -12,12 +14,9 @@ use report_messages::telling::Telling;
 use reports::report::Report;
 use wire::message::{Message, write};
 
-/// How many bytes a buffer has at least that takes any message.
-pub const REPLY: usize = 512;
-
 #[tactic(auto, using(crate::proofs::Heard::short, crate::proofs::Heard::sent))]
 pub(crate) fn send(message: &Message<'_>, out: &mut [u8]) -> usize
-    requires { REPLY ≤ length out.old }
+    requires { BUFFER ≤ length out.old }
     ensures sent { Sent (written message.now) out.old out.new result }
     ensures held { Holdable message.now }
     ensures back { GivenBack message.now }
@@ -26,7 +25,7 @@ pub(crate) fn send(message: &Message<'_>, out: &mut [u8]) -> usize
 }
 
 fn tell(telling: &Telling, out: &mut [u8]) -> usize
-    requires { REPLY ≤ length out.old }
+    requires { BUFFER ≤ length out.old }
     ensures sent { Sent (report_bytes telling.now.partition telling.now.number telling.now.report) out.old out.new result }
     ensures told { ReportTold telling.now.partition telling.now.number telling.now.report }
 {
@@ -37,7 +36,7 @@ fn tell(telling: &Telling, out: &mut [u8]) -> usize
 /// past it stay.
 #[tactic(auto, using(crate::proofs::Heard::same_told))]
 pub fn write_report(partition: Partition, number: u32, report: Report, out: &mut [u8]) -> usize
-    requires room { REPLY ≤ length out.old }
+    requires room { BUFFER ≤ length out.old }
     requires few { number < NUMBERS }
     ensures sent { Sent (report_bytes partition number report) out.old out.new result }
     ensures told { ReportTold partition number report }
@@ -49,7 +48,7 @@ pub fn write_report(partition: Partition, number: u32, report: Report, out: &mut
 /// Writes the end of a download in the same way.
 #[tactic(auto, using(crate::proofs::Heard::end_told))]
 pub fn write_end(response: ReportResponse, out: &mut [u8]) -> usize
-    requires { REPLY ≤ length out.old }
+    requires { BUFFER ≤ length out.old }
     ensures sent { Sent (end_bytes response) out.old out.new result }
     ensures told { EndTold response }
 {

@@ -1,11 +1,11 @@
 // The gateway's seven calls, each made and its answer printed.
-use crate::state::{BUFFER, Carried, State, front};
+use crate::state::{Carried, State, front};
 use bench_account::answer::{Answer, Trade};
 use bench_script::command::Call;
-use ends::call::Done;
+use calls::both::Done;
+use calls::venue::{Done as VenueDone, Reply};
 use gateway::fault::GatewayFault;
 use gateway::gateway::Gateway;
-use line::call::{Done as VenueDone, Reply};
 use matching::matcher::Matcher;
 use messages::reject::TOTAL;
 use std::alloc::AllocError;
@@ -14,6 +14,7 @@ use store::Store;
 use texts::values::Time;
 use venue::step::Step;
 use wire::kinds::Channel;
+use wire::message::BUFFER;
 
 fn refused<R: Print>(rt: &R, state: &mut State, fault: GatewayFault) -> io::Result<()> {
     state.tell(rt, Answer::Refused(fault.number()))

@@ -1,12 +1,12 @@
 // A desk's follower, with the download that it owes: its five calls, each made and its answer printed.
-use crate::state::{BUFFER, Carried, State, front};
+use crate::state::{Carried, State, front};
 use bench_account::answer::Answer;
 use bench_account::compared::Seen;
 use bench_account::listing::{Followed, Place};
 use bench_script::command::Desk as Call;
+use calls::both::{Asked, Done};
 use codes::code::Code;
 use codes::session::Partition;
-use ends::call::{Asked, Done};
 use follower::answer::{Live, Recovered};
 use follower::fault::FollowerFault;
 use follower::pending::Pending;
@@ -15,6 +15,7 @@ use follower::state::Follower;
 use reports::standings::Known;
 use std::alloc::{AllocError, Global};
 use std::{io, mem};
+use wire::message::BUFFER;
 
 /// A follower, and what it owes. It is not let go, but closed.
 pub struct Desk {

@@ -2,5 +2,8 @@
 #![tactic(auto)]
 
 pub mod calls;
+pub mod came;
 pub mod desk;
+pub mod log;
 pub mod state;
+pub mod under_way;

@@ -1,18 +1,16 @@
 // What a run keeps beside the gateway: the account, the clock, and how messages are shown.
+use crate::came::Came;
+use crate::log::Log;
+use crate::under_way::UnderWay;
 use bench_account::account::Account;
 use bench_account::answer::{Answer, Payload};
-use bench_log::came::Came;
-use bench_log::log::Log;
-use bench_log::under_way::UnderWay;
 use bench_script::command::Style;
 use inspector::answer::answer_message;
 use std::alloc::Global;
 use std::io;
 use texts::values::Time;
 use wire::kinds::Channel;
-
-/// The bytes of a buffer that has room for any answer.
-pub const BUFFER: usize = 512;
+use wire::message::BUFFER;
 
 /// What a call left of a message in a buffer.
 pub fn front(buffer: &[u8; BUFFER], length: usize) -> &[u8] {

@@ -14,6 +14,9 @@ use layout::sequence::LastSequence;
 use messages::missed_message_request::MissedMessageRequest;
 use wire::message::Message;
 
+/// The most bytes that a request has.
+pub const LONGEST: usize = 112;
+
 /// A message that a request asks for.
 #[derive(Clone, Copy)]
 pub enum Letter {

@@ -2,7 +2,7 @@
 use crate::failure::Failure;
 use bench_calls::calls::{hear, send, send_recovered, step};
 use bench_calls::state::State;
-use bench_messages::letter::Letter;
+use bench_messages::letter::{LONGEST, Letter};
 use bench_messages::session::Sender;
 use bench_script::command::Request;
 use gateway::gateway::Gateway;
@@ -11,9 +11,6 @@ use std::io;
 use store::Store;
 use wire::kinds::Channel;
 use wire::message::write;
-
-/// The most bytes that a request has.
-const LONGEST: usize = 112;
 
 // Who sends on a line; nobody where there is no such line.
 fn sender<M: Matcher, S: Store>(gateway: &Gateway<M, S>, line: usize) -> Sender {

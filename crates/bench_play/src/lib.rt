@@ -3,4 +3,3 @@
 #![tactic(auto)]
 
 pub mod play;
-mod sides;

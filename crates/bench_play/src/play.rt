@@ -1,19 +1,20 @@
 // A script as far as it has been played: what the gateway is started with, the gateway, and the follower of one of its lines.
-use crate::sides;
 use bench_account::answer::Answer;
 use bench_account::verdict::Verdict;
 use bench_calls::calls;
+use bench_calls::came::Came;
 use bench_calls::desk::Desk;
+use bench_calls::log::Log;
 use bench_calls::state::{State, reader};
 use bench_day::day::Day;
 use bench_day::opening::{Engine, Opening, Shelf};
 use bench_day::show;
-use bench_log::came::Came;
-use bench_log::log::Log;
-use bench_person::failure::Failure;
 use bench_person::{asking, cable};
+use bench_person::failure::Failure;
 use bench_script::command;
 use bench_script::command::{Cable, Command, Setup};
+use bench_sides::ruling::Ruling;
+use bench_sides::sides;
 use bench_words::bytes::Bytes;
 use bench_words::line::{is_skipped, parted};
 use bench_words::misread::Misread;
@@ -79,7 +80,7 @@ fn obey<R: Print + AllocGlobal, M: Matcher, S: Store>(
     Ok(())
 }
 
-fn close_day<R: Print, M: Matcher, S: Store>(
+fn close_day<R: Print + AllocGlobal, M: Matcher, S: Store>(
     rt: &R,
     gateway: &Gateway<M, S>,
     desk: &Option<Desk>,
@@ -89,7 +90,7 @@ fn close_day<R: Print, M: Matcher, S: Store>(
     if let Some(desk) = desk {
         sides::close(rt, gateway, desk)?;
     }
-    if let Some(ruling) = log.ruling()? {
+    if let Some(ruling) = Ruling::of_log(rt.alloc(), log)? {
         rt.println(ruling)?;
     }
     Ok(())
@@ -112,7 +113,8 @@ impl Play {
         }
     }
 
-    /// Ends it; what the follower owes ends too.
+    /// Ends it; what the follower owes ends too. Each part is let go by a call: where a value goes at the end of a scope,
+    /// all that it holds is taken apart in that function's proof.
     pub fn close(self) {
         let Play {
             opening,
@@ -165,6 +167,7 @@ impl Play {
         }
     }
 
+    // (the day before is let go by a call, for the same reason)
     fn begin(&mut self, day: Day) {
         drop(mem::replace(&mut self.day, Some(day)));
     }
@@ -262,7 +265,7 @@ impl Play {
     }
 
     /// The account of what was played.
-    pub fn account<R: Print>(&self, rt: &R) -> io::Result<()> {
+    pub fn account<R: Print + AllocGlobal>(&self, rt: &R) -> io::Result<()> {
         rt.println(self.state.account)?;
         for number in 0..=u8::MAX {
             let count = self.state.account.refused_by(number);

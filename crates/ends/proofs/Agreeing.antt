@@ -21,9 +21,9 @@ use Rattle.ends.specs.Allowed.{Allowed, Line, accepted, quiet, behind, after_log
 use Rattle.ends.specs.Laws.{is_full, state_of}
 use Rattle.ends.specs.Runs.{Desk, Does, Runs, Tells, fresh, blank}
 use Rattle.ends.specs.declared.allowed.Breach.TheVariants.{NoLogon}
-use Rattle.ends.specs.declared.call.Asked.{Asked}
-use Rattle.ends.specs.declared.call.Done.{Done}
-use Rattle.ends.specs.declared.call.Done.TheVariants as done
+use Rattle.calls.specs.declared.both.Asked.{Asked}
+use Rattle.calls.specs.declared.both.Done.{Done}
+use Rattle.calls.specs.declared.both.Done.TheVariants as done
 use Rattle.follower.proofs.Quiets.{stays_quiet}
 use Rattle.follower.specs.Asking.{request, ReadBack, is_free, asking_of, asking, partition_of, asks_of}
 use Rattle.follower.specs.Following.{Following, turned, live_step, recovered_step}
@@ -34,7 +34,7 @@ use Rattle.follower.specs.declared.fault.FollowerFault.{FollowerFault}
 use Rattle.follower.specs.declared.fault.FollowerFault.TheVariants.{Buffer, NotUp, OutOfTurn}
 use Rattle.follower.specs.declared.pending.Pending.{Pending}
 use Rattle.follower.specs.declared.pending.Pending.TheVariants as pending
-use Rattle.follower.specs.declared.request.TheConstants.{BUFFER}
+use Rattle.wire.specs.declared.message.TheConstants.{BUFFER}
 use Rattle.follower.specs.declared.side.State.TheVariants.{Level, Behind}
 use Rattle.follower.specs.declared.stage.Stage.{Stage}
 use Rattle.follower.specs.declared.stage.Stage.TheVariants as stage
@@ -47,9 +47,9 @@ use Rattle.line.proofs.Walking.{hands_by}
 use Rattle.line.specs.Laws.{line_of}
 use Rattle.line.specs.Runs as venue
 use Rattle.line.specs.Runs.{bytes_of}
-use Rattle.line.specs.declared.call.Done.{Done as VenueDone}
-use Rattle.line.specs.declared.call.Done.TheVariants as call
-use Rattle.line.specs.declared.call.Reply.{Reply}
+use Rattle.calls.specs.declared.venue.Done.{Done as VenueDone}
+use Rattle.calls.specs.declared.venue.Done.TheVariants as call
+use Rattle.calls.specs.declared.venue.Reply.{Reply}
 use Rattle.partitions.specs.PerPartition.{at}
 use Rattle.partitions.specs.declared.per_partition.PerPartition.{PerPartition}
 use Rattle.sessions.specs.Sessions.{Sound as SoundSession, fresh as fresh_session}

@@ -1,6 +1,7 @@
 -- What a follower hears of what a gateway hands out. Assumes nothing.
 use Rattle.std.proofs.Common.{◌≡◌, ◌⊎◌, inl, inr, ℕ, ℤ, List, [], ◌++◌, map, pos, Some, None, Ok, Err, Option, Result, refl, ap, ◌∙◌, subst, arith}
-use Rattle.answers.specs.Bytes.{answer_bytes, report_bytes, end_bytes}
+use Rattle.answers.specs.Bytes.{answer_bytes, end_bytes}
+use Rattle.report_messages.specs.Telling.{report_bytes}
 use Rattle.answers.specs.Told.{ReportTold}
 use Rattle.answers.specs.declared.answer.Answer.TheVariants as answer
 use Rattle.answers.specs.declared.answer.Rejection.{Rejection}

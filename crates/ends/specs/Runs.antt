@@ -1,20 +1,20 @@
 -- Runs of both ends. Assumes nothing.
 use Rattle.std.specs.Prelude.{◌≡◌, ℕ, ◌≤◌, true, false, List, [], ◌∷◌, length, replicate, IfOk}
-use Rattle.ends.specs.declared.call.Call.{Call}
-use Rattle.ends.specs.declared.call.Call.TheVariants as call
-use Rattle.ends.specs.declared.call.Done.{Done}
-use Rattle.ends.specs.declared.call.Done.TheVariants as done
+use Rattle.calls.specs.declared.both.Call.{Call}
+use Rattle.calls.specs.declared.both.Call.TheVariants as call
+use Rattle.calls.specs.declared.both.Done.{Done}
+use Rattle.calls.specs.declared.both.Done.TheVariants as done
 use Rattle.follower.specs.Asking.{asks, asking, ReadBack}
 use Rattle.follower.specs.Following.{Following, start, turned, live_step, recovered_step}
 use Rattle.follower.specs.Hearing.{heard_in}
 use Rattle.follower.specs.Owing.{Tied, after_live, after_recovered}
 use Rattle.follower.specs.declared.pending.Pending.{Pending}
 use Rattle.follower.specs.declared.pending.Pending.TheVariants.{Idle}
-use Rattle.follower.specs.declared.request.TheConstants.{BUFFER}
+use Rattle.wire.specs.declared.message.TheConstants.{BUFFER}
 use Rattle.gateway.specs.State.{State}
 use Rattle.limits.specs.declared.TheConstants.{ORDERS}
 use Rattle.line.specs.Runs as venue
-use Rattle.line.specs.declared.call.Done.{Done as VenueDone}
+use Rattle.calls.specs.declared.venue.Done.{Done as VenueDone}
 use Rattle.partitions.specs.PerPartition.{at}
 use Rattle.venue.specs.View.{Sound}
 

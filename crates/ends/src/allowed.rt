@@ -4,7 +4,7 @@ ghost use Rattle.ends.specs.Allowed.{after_log, quiet};
 ghost use Rattle.ends.specs.Breaches.{breach_text};
 ghost use Rattle.ends.specs.Deciding.{verdict};
 
-use crate::call::Done;
+use calls::both::Done;
 use crate::watch::Watch;
 use std::alloc::{AllocError, Global};
 

@@ -2,7 +2,6 @@
 #![tactic(auto)]
 
 pub mod allowed;
-pub mod call;
 pub mod laws;
 mod replies;
 pub mod run;

@@ -6,10 +6,10 @@ ghost use Rattle.ends.specs.Laws.{is_full};
 ghost use Rattle.line.specs.Runs.{bytes_of};
 
 use answers::answer::Answer;
-use answers::sending::REPLY;
 use follower::answer::Live;
 use follower::fault::FollowerFault;
-use line::call::Reply;
+use calls::venue::Reply;
+use wire::message::BUFFER;
 
 /// Whether two messages have the same bytes.
 pub(crate) fn same(message: &[u8], other: &[u8]) -> bool
@@ -23,7 +23,7 @@ pub(crate) fn bytes(reply: &Reply) -> &[u8]
     ensures { result.now ≡ bytes_of reply.now }
 {
     match reply.answer {
-        Ok(count) => &reply.buffer[..count.min(REPLY)],
+        Ok(count) => &reply.buffer[..count.min(BUFFER)],
         Err(_) => &[],
     }
 }
@@ -32,7 +32,7 @@ pub(crate) fn bytes(reply: &Reply) -> &[u8]
 pub(crate) fn is_accepted(reply: &[u8]) -> bool
     ensures { result ≡ bytes_eq reply.now accepted }
 {
-    let mut buffer = [0; REPLY];
+    let mut buffer = [0; BUFFER];
     let count = Answer::LogonReply(0).write(&mut buffer);
     same(reply, &buffer[..count])
 }

@@ -7,16 +7,16 @@ ghost use Rattle.follower.specs.Owing.{Tied};
 ghost use Rattle.gateway.specs.State.{fresh as fresh_state};
 ghost use Rattle.venue.specs.View.{fresh as fresh_venue};
 
-use crate::call::{Asked, Call, Done};
+use calls::both::{Asked, Call, Done};
 use configuration::config::{Config, StartRefusal};
 use follower::pending::Pending;
-use follower::request::BUFFER;
 use follower::state::Follower;
 use gateway::gateway::Gateway;
 use line::run::make as make_venue;
 use matching::matcher::Matcher;
 use std::alloc::Global;
 use store::Store;
+use wire::message::BUFFER;
 
 // One call, what came back, and the token that is then owed.
 fn make<'a, M: Matcher, S: Store>(

@@ -3,15 +3,15 @@ ghost use Rattle.std.specs.Prelude.{◌≡◌, IfOk};
 ghost use Rattle.follower.specs.Hearing.{heard_in};
 
 use crate::allowed::Breach;
-use crate::call::{Asked, Done};
+use calls::both::{Asked, Done};
 use crate::replies::{bytes, is_accepted, is_full};
 use crate::under_way::UnderWay;
 use follower::heard::Heard;
 use follower::reading::hear;
-use follower::request::BUFFER;
-use line::call::Done as VenueDone;
+use calls::venue::Done as VenueDone;
 use std::alloc::{AllocError, Global};
 use std::marker::Model;
+use wire::message::BUFFER;
 
 /// One line, as the calls so far left it.
 #[derive(Drop)]

@@ -14,7 +14,7 @@ use Rattle.wire.specs.Messages.{verdict, Reads}
 use Rattle.follower.specs.declared.fault.FollowerFault.{FollowerFault}
 use Rattle.follower.specs.declared.fault.FollowerFault.TheVariants as fault
 use Rattle.follower.specs.declared.pending.Pending.{Pending}
-use Rattle.follower.specs.declared.request.TheConstants.{BUFFER}
+use Rattle.wire.specs.declared.message.TheConstants.{BUFFER}
 use Rattle.follower.specs.declared.stage.Stage.{Stage}
 use Rattle.follower.specs.declared.stage.Stage.TheVariants.{Idle, Asked, Running}
 use Rattle.follower.specs.Following.{Following}

@@ -12,11 +12,12 @@ use crate::answer::{Live, Recovered};
 use crate::fault::FollowerFault;
 use crate::pending::{Pending, after_live, after_recovered};
 use crate::reading::hear;
-use crate::request::{BUFFER, write_request};
+use crate::request::write_request;
 use crate::stage::Stage;
 use crate::state::Follower;
 use codes::code::Code;
 use codes::session::Partition;
+use wire::message::BUFFER;
 
 impl Follower {
     /// The line is up: all partitions are behind, nothing is held, and a download has ended. Places and standings

@@ -3,15 +3,13 @@ ghost use Rattle.std.specs.Prelude.{◌≡◌, ◌≤◌, ◌++◌, length, drop
 ghost use Rattle.codes.specs.Session.{partition_code};
 ghost use Rattle.wire.specs.declared.kinds.Kind.TheVariants.{MissedMessageRequest as Request};
 ghost use Rattle.wire.specs.Kinds.{total_of};
+ghost use Rattle.wire.specs.declared.message.TheConstants.{BUFFER};
 ghost use Rattle.follower.specs.Asking.{request, ReadBack};
 
 use crate::number::Number;
 use codes::session::Partition;
 use messages::missed_message_request::MissedMessageRequest;
 use wire::message::{Message, write};
-
-/// How many bytes a buffer has to have for what a call may write.
-pub const BUFFER: usize = 512;
 
 // As the message has it, a signed byte.
 fn number(partition: Partition) -> i8

@@ -1,6 +1,7 @@
 -- The calls beside the two that take messages. Assumes nothing.
 use Rattle.std.specs.Prelude.{◌≡◌, ℕ, List, [], length, Some, None, Ok, Err, Option, Result, nat_lt, if◌then◌else◌}
-use Rattle.answers.specs.Bytes.{report_bytes, end_bytes}
+use Rattle.answers.specs.Bytes.{end_bytes}
+use Rattle.report_messages.specs.Telling.{report_bytes}
 use Rattle.codes.specs.declared.session.Partition.{Partition}
 use Rattle.gateway.specs.Hearing.{call_fault, line_fault, fronted}
 use Rattle.gateway.specs.Lines.{ended, line_closed}

@@ -3,7 +3,7 @@ use Rattle.std.specs.Prelude.{◌≡◌, ℕ, List, ◌++◌, length, drop, ℤ,
 use Rattle.answers.specs.Bytes.{answer_bytes}
 use Rattle.answers.specs.declared.answer.Answer.{Answer}
 use Rattle.answers.specs.declared.answer.Answer.TheVariants.{Silent, Ack, Reject}
-use Rattle.answers.specs.declared.sending.TheConstants.{REPLY}
+use Rattle.wire.specs.declared.message.TheConstants.{BUFFER}
 use Rattle.codes.specs.declared.session.AckResponse.{AckResponse}
 use Rattle.codes.specs.declared.session.Partition.{Partition}
 use Rattle.codes.specs.declared.session.Partition.TheVariants.{One, Two, Three}
@@ -20,7 +20,7 @@ use Rattle.layout.specs.declared.fault.Fault.{Fault}
 use Rattle.layout.specs.declared.fault.Fault.TheVariants as fault
 use Rattle.messages.specs.declared.missed_message_request.MissedMessageRequest.{MissedMessageRequest}
 use Rattle.partitions.specs.PerPartition.{at}
-use Rattle.report_messages.specs.Back.{kept}
+use Rattle.texts.specs.Says.{kept}
 use Rattle.requests.specs.Cancels.{cancel}
 use Rattle.requests.specs.MassCancels.{mass_cancel}
 use Rattle.requests.specs.NewOrders.{new_order}
@@ -168,7 +168,7 @@ abbrev pub line_fault : ℕ → State → Option GatewayFault
 line_fault line s = if nat_lt line (length s.lines) then None else Some NoSuchLine
 
 abbrev pub call_fault : ℕ → ℕ → State → Option GatewayFault
-call_fault room line s = if nat_lt room REPLY then Some ShortBuffer else line_fault line s
+call_fault room line s = if nat_lt room BUFFER then Some ShortBuffer else line_fault line s
 
 -- a buffer after these bytes were written to its front
 abbrev pub fronted : List ℕ → List ℕ → List ℕ

@@ -1,6 +1,6 @@
 // The seven calls of a gateway.
 ghost use Rattle.std.specs.Prelude.{◌≡◌, ◌<◌, ◌≤◌, length, Some};
-ghost use Rattle.answers.specs.declared.sending.TheConstants.{REPLY};
+ghost use Rattle.wire.specs.declared.message.TheConstants.{BUFFER};
 ghost use Rattle.answers.specs.Sent.{Sent};
 ghost use Rattle.gateway.specs.Calls.{Steps, Undoes, Loses, Sends, Recovers, stored_bytes, step_fault};
 ghost use Rattle.gateway.specs.Hearing.{Hears};
@@ -93,7 +93,7 @@ impl<M: Matcher, S: Store> Gateway<M, S> {
 
     // Writes the report of a number to the front of the buffer.
     fn write_stored(&self, partition: Partition, number: u32, out: &mut [u8]) -> usize
-        requires room { REPLY ≤ length out.old }
+        requires room { BUFFER ≤ length out.old }
         ensures sent { Sent (stored_bytes self.now.venue.kept partition number) out.old out.new result }
         ensures told { StoredTold self.now.venue.kept partition number }
     {

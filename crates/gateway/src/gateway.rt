@@ -5,7 +5,6 @@ ghost use Rattle.sessions.specs.Sessions.{fresh as fresh_session};
 ghost use Rattle.gateway.specs.Starting.{is_unused};
 
 use crate::fault::{GatewayFault, SessionFault};
-use answers::sending::REPLY;
 use codes::session::Partition;
 use configuration::config::{Config, StartRefusal};
 use configuration::participant::Participant;
@@ -16,6 +15,7 @@ use std::alloc::{AllocError, Global};
 use std::marker::Model;
 use store::Store;
 use venue::venue::Venue;
+use wire::message::BUFFER;
 
 /// A venue's order gateway: in a contract, its CompIDs, the session of each line, and what the venue keeps.
 #[derive(Drop)]
@@ -132,7 +132,7 @@ impl<M: Matcher, S: Store> Gateway<M, S> {
     pub(crate) fn check_call(&self, room: usize, line: usize) -> Result<(), GatewayFault>
         ensures { result_err result ≡ call_fault room line self.now }
     {
-        if room < REPLY {
+        if room < BUFFER {
             return Err(GatewayFault::ShortBuffer);
         }
         self.check_line(line)

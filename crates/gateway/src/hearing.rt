@@ -1,7 +1,6 @@
 // What a message gets, and what it leaves.
 ghost use Rattle.std.specs.Prelude.{◌≡◌, ◌<◌, ◌≤◌, true, length};
-ghost use Rattle.answers.specs.declared.sending.TheConstants.{REPLY};
-ghost use Rattle.report_messages.specs.Back.{kept};
+ghost use Rattle.wire.specs.declared.message.TheConstants.{BUFFER};
 ghost use Rattle.sessions.specs.Sessions.{on};
 ghost use Rattle.gateway.specs.State.{session};
 ghost use Rattle.gateway.specs.Hearing.{Took, Understands, Hears, answer_for, client_of, fault_rejection, firm_of, firm, heard, last_of, logout, missed_on, partition_of, reader_of, rejection, taken, type_told};
@@ -21,7 +20,6 @@ use requests::replace::replace;
 use sessions::session::Channel;
 use store::Store;
 use texts::fixed::FixedText;
-use texts::text::Name;
 use texts::values::Time;
 use wire::kinds::Channel as Reader;
 use wire::message::{Message, read};
@@ -36,22 +34,15 @@ fn reader_of(channel: Channel) -> Reader
     }
 }
 
-#[tactic(auto, using(report_messages::proofs::Texts::kept_same))]
-fn kept(name: &Name<'_, 20>) -> FixedText<20>
-    ensures { result ≡ kept name.now.text }
-{
-    name.text.keep()
-}
-
 // The Client Order ID of a request.
 fn client_of(m: &Message<'_>) -> Option<FixedText<20>>
     ensures { result ≡ client_of m.now }
 {
     match m {
-        Message::NewOrder(m) => Some(kept(&m.client_order_id)),
-        Message::OrderCancelRequest(m) => Some(kept(&m.client_order_id)),
-        Message::OrderCancelReplaceRequest(m) => Some(kept(&m.client_order_id)),
-        Message::OrderMassCancelRequest(m) => Some(kept(&m.client_order_id)),
+        Message::NewOrder(m) => Some(m.client_order_id.text.keep()),
+        Message::OrderCancelRequest(m) => Some(m.client_order_id.text.keep()),
+        Message::OrderCancelReplaceRequest(m) => Some(m.client_order_id.text.keep()),
+        Message::OrderMassCancelRequest(m) => Some(m.client_order_id.text.keep()),
         _ => None,
     }
 }
@@ -92,7 +83,7 @@ fn understand<'a>(
     bytes: &'a [u8],
     reply: &mut [u8],
 ) -> Result<Message<'a>, SessionFault>
-    requires { REPLY ≤ length reply.old }
+    requires { BUFFER ≤ length reply.old }
     ensures { Understands channel bytes.now reply.old result reply.new }
 {
     match read(reader_of(channel), bytes) {

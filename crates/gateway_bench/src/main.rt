@@ -1,15 +1,14 @@
 // Plays a full day on a gateway, over each matcher and each store, and says how long its calls took.
 #![tactic(auto)]
 
-mod plan;
 mod walk;
 
-use crate::plan::{Asked, BLOCK, Plan, config, made_up};
+use bench_plan::{Asked, BLOCK, Plan, config, made_up};
 use byte_store::codec::LONGEST;
 use codes::session::Partition;
 use console::{About, Task};
 use gateway::gateway::Gateway;
-use limits::REPORTS;
+use limits::{REPORTS, TRADES};
 use lit_book::book::LitBook;
 use matching::matcher::Matcher;
 use matching::tape::{Line, Tape};
@@ -186,7 +185,7 @@ fn day<R: Print + Eprint + Clock + AllocGlobal, M: Matcher + Drop, S: Store + Dr
 // A tape that trades each order of the first row sixteen times: as many trades as a day has room for.
 fn tape(heap: Global) -> io::Result<Tape> {
     let mut lines = Vec::new(heap);
-    for place in 0..512 {
+    for place in 0..TRADES as u64 {
         lines.push(Line {
             number: place % 32 + 1,
             quantity: 5,

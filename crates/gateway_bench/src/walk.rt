@@ -1,13 +1,12 @@
 // The calls of a day, in rows of one kind. Each says how many calls it made.
-use crate::plan::{Asked, LINES, missed};
+use bench_plan::{Asked, LINES, missed};
 use gateway::gateway::Gateway;
 use matching::matcher::Matcher;
 use std::alloc::{AllocError, Global};
 use store::Store;
 use texts::values::Time;
 use venue::step::Step;
-
-const BUFFER: usize = 512;
+use wire::message::BUFFER;
 
 const NOON: Time = Time {
     seconds: 43200,

@@ -34,9 +34,8 @@ use Rattle.requests.specs.declared.listing.Listing.{Listing}
 use Rattle.requests.specs.declared.refusal.Refusal.{Refusal}
 use Rattle.requests.specs.declared.refusal.Turned.TheVariants.{NoPlace, UnknownInstrument}
 use Rattle.requests.specs.declared.replace.Replacement.{Replacement}
-use Rattle.texts.specs.Says.{says}
+use Rattle.texts.specs.Says.{says, kept}
 use Rattle.texts.specs.declared.values.Time.{Time}
-use Rattle.report_messages.specs.Back.{kept}
 use Rattle.venue.specs.Selection.{meant, picks_at, withdrawn_for, withdrawn_to, withdrawn_all}
 use Rattle.venue.specs.Steps.{accept_fault, expired_as, ledger_of, noted}
 use Rattle.venue.specs.View.{View}

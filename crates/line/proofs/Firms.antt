@@ -25,8 +25,8 @@ use Rattle.line.proofs.Walking.{hears_by, hands_by}
 use Rattle.line.specs.Conservation.{Move, Moved, Each}
 use Rattle.line.specs.Laws.{FirmOf, FirmsApart, line_of}
 use Rattle.line.specs.Runs.{Does, blank}
-use Rattle.line.specs.declared.call.Done.{Done}
-use Rattle.line.specs.declared.call.Done.TheVariants as done
+use Rattle.calls.specs.declared.venue.Done.{Done}
+use Rattle.calls.specs.declared.venue.Done.TheVariants as done
 use Rattle.matching.specs.Meaning.{serves}
 use Rattle.messages.specs.declared.missed_message_request.MissedMessageRequest.{MissedMessageRequest}
 use Rattle.messages.specs.declared.new_order.NewOrder.{NewOrder}
@@ -41,7 +41,6 @@ use Rattle.orders.specs.Tables.{goes_by, owned}
 use Rattle.orders.specs.declared.row.Ask.{Ask}
 use Rattle.orders.specs.declared.row.Ending.TheVariants.{Cancelled, Expired}
 use Rattle.orders.specs.declared.row.Row.{Row}
-use Rattle.report_messages.specs.Back.{kept}
 use Rattle.requests.proofs.Found.{named_there}
 use Rattle.requests.specs.Cancels as cancels
 use Rattle.requests.specs.Instruments.{look_up}
@@ -64,7 +63,7 @@ use Rattle.sessions.specs.declared.session.LogonRefusal.{LogonRefusal}
 use Rattle.sessions.specs.declared.session.RequestRefusal.{RequestRefusal}
 use Rattle.sessions.specs.declared.session.SessionState.{SessionState}
 use Rattle.texts.specs.Bytes.{said}
-use Rattle.texts.specs.Says.{says}
+use Rattle.texts.specs.Says.{says, kept}
 use Rattle.texts.specs.declared.fixed.FixedText.{FixedText}
 use Rattle.texts.specs.declared.identifiers.OrderId.{OrderId}
 use Rattle.texts.specs.declared.values.Time.{Time}

@@ -13,7 +13,7 @@ use Rattle.codes.specs.declared.session.Partition.{Partition}
 use Rattle.codes.specs.declared.session.Partition.TheVariants.{One, Two, Three}
 use Rattle.configuration.specs.declared.instrument.Instrument.{Instrument}
 use Rattle.configuration.specs.declared.participant.Participant.{Participant}
-use Rattle.answers.specs.declared.sending.TheConstants.{REPLY}
+use Rattle.wire.specs.declared.message.TheConstants.{BUFFER}
 use Rattle.gateway.specs.Calls.{first, Steps, Undoes, Loses, Hands, Handed, send_fault, live_handed, recovery_handed}
 use Rattle.gateway.specs.Hearing.{Outcome, Settled, Hears, heard, requested_as, missed_by, missed_on, logout, call_fault, line_fault, firm}
 use Rattle.gateway.specs.Hearing.Outcome.{Answered, Reported}
@@ -25,8 +25,8 @@ use Rattle.keyed.proofs.Under.{none-some}
 use Rattle.keyed.specs.Numbers.{under}
 use Rattle.line.proofs.Walking.{hears_by, hands_by}
 use Rattle.line.specs.Runs.{Does, blank}
-use Rattle.line.specs.declared.call.Done.{Done}
-use Rattle.line.specs.declared.call.Done.TheVariants as done
+use Rattle.calls.specs.declared.venue.Done.{Done}
+use Rattle.calls.specs.declared.venue.Done.TheVariants as done
 use Rattle.matching.specs.Meaning.{serves}
 use Rattle.messages.specs.declared.missed_message_request.MissedMessageRequest.{MissedMessageRequest}
 use Rattle.messages.specs.declared.new_order.NewOrder.{NewOrder}
@@ -42,7 +42,6 @@ use Rattle.orders.specs.declared.row.Terms.{Terms}
 use Rattle.orders.specs.declared.trade.Fill.{Fill as Side}
 use Rattle.orders.specs.declared.trade.Trade.{Trade}
 use Rattle.partitions.specs.Series.{grown}
-use Rattle.report_messages.specs.Back.{kept}
 use Rattle.reports.specs.declared.report.Entry.{Entry}
 use Rattle.requests.specs.Cancels as cancels
 use Rattle.requests.specs.Instruments.{look_up}
@@ -61,7 +60,7 @@ use Rattle.sessions.specs.declared.session.Channel.TheVariants.{RealTime, Recove
 use Rattle.sessions.specs.declared.session.LogonRefusal.{LogonRefusal}
 use Rattle.sessions.specs.declared.session.RequestRefusal.{RequestRefusal}
 use Rattle.sessions.specs.declared.session.SessionState.{SessionState}
-use Rattle.texts.specs.Says.{says}
+use Rattle.texts.specs.Says.{says, kept}
 use Rattle.texts.specs.declared.values.Time.{Time}
 use Rattle.venue.specs.Ledger.{Ledger, ledger, changed, entered}
 use Rattle.venue.specs.Selection.{meant, picks_at, withdrawn_for, withdrawn_to, withdrawn_all}
@@ -309,7 +308,7 @@ pub line_there : (line : ℕ) (s : State) → line_fault line s ≡ None → lin
 line_there line s e = there_or line s (nat_lt line (length s.lines)) refl e
 
 pub call_there : (room line : ℕ) (s : State) → call_fault room line s ≡ None → line < length s.lines
-call_there room line s e = line_there line s (short_or line s (nat_lt room REPLY) e)
+call_there room line s e = line_there line s (short_or line s (nat_lt room BUFFER) e)
 
 pub first_none : (f g : Option GatewayFault) → first f g ≡ None → f ≡ None
 first_none None g e = refl

@@ -1,16 +1,16 @@
 -- Runs: calls made one after the other. Assumes nothing.
 use Rattle.std.specs.Prelude.{◌≡◌, ℕ, List, [], ◌∷◌, length, take, replicate, Ok, Err, Result}
-use Rattle.answers.specs.declared.sending.TheConstants.{REPLY}
+use Rattle.wire.specs.declared.message.TheConstants.{BUFFER}
 use Rattle.gateway.specs.Calls.{Steps, Undoes, Loses, Sends, Recovers}
 use Rattle.gateway.specs.Hearing.{Hears}
 use Rattle.gateway.specs.State.{State}
 use Rattle.gateway.specs.Telling.{SendTold, RecoverTold}
 use Rattle.gateway.specs.declared.fault.GatewayFault.{GatewayFault}
-use Rattle.line.specs.declared.call.Call.{Call}
-use Rattle.line.specs.declared.call.Call.TheVariants as call
-use Rattle.line.specs.declared.call.Done.{Done}
-use Rattle.line.specs.declared.call.Done.TheVariants as done
-use Rattle.line.specs.declared.call.Reply.{Reply}
+use Rattle.calls.specs.declared.venue.Call.{Call}
+use Rattle.calls.specs.declared.venue.Call.TheVariants as call
+use Rattle.calls.specs.declared.venue.Done.{Done}
+use Rattle.calls.specs.declared.venue.Done.TheVariants as done
+use Rattle.calls.specs.declared.venue.Reply.{Reply}
 use Rattle.sessions.specs.declared.session.Channel.TheVariants.{RealTime, Recovery}
 use Rattle.venue.specs.View.{Sound}
 
@@ -26,7 +26,7 @@ call_of (done.SendRecovered line r) = call.SendRecovered line
 
 -- a buffer that nothing was written to
 abbrev pub blank : List ℕ
-blank = replicate REPLY 0
+blank = replicate BUFFER 0
 
 -- the bytes that a call that writes left; a refused one none
 abbrev pub left : Result ℕ GatewayFault → List ℕ → List ℕ

@@ -3,12 +3,12 @@ ghost use Rattle.std.specs.Prelude.{◌≡◌, [], map, IfOk, OnErr};
 ghost use Rattle.line.specs.Conservation.{Conserves};
 ghost use Rattle.line.specs.Runs.{Does, Runs, Tells, call_of};
 
-use crate::call::{Call, Done, Reply};
-use answers::sending::REPLY;
+use calls::venue::{Call, Done, Reply};
 use gateway::gateway::Gateway;
 use matching::matcher::Matcher;
 use std::alloc::{AllocError, Global};
 use store::Store;
+use wire::message::BUFFER;
 
 /// Makes one call, and says what came back.
 pub fn make<'a, M: Matcher, S: Store>(gateway: &mut Gateway<M, S>, call: Call<'a>) -> Done<'a>
@@ -16,7 +16,7 @@ pub fn make<'a, M: Matcher, S: Store>(gateway: &mut Gateway<M, S>, call: Call<'a
     ensures does { Does gateway.old result gateway.new }
     ensures told { Tells gateway.old result }
 {
-    let mut buffer = [0; REPLY];
+    let mut buffer = [0; BUFFER];
     match call {
         Call::RealTime(line, message, time) => {
             let answer = gateway.real_time_message(line, message, time, &mut buffer);

@@ -2,7 +2,7 @@
 #![tactic(auto)]
 
 ghost use Rattle.std.specs.Prelude.{◌≡◌, ◌↔◌, ◌≤◌, length, pos, Ok, IsTrue, IfSome, IfNone};
-ghost use Rattle.answers.specs.declared.sending.TheConstants.{REPLY};
+ghost use Rattle.wire.specs.declared.message.TheConstants.{BUFFER};
 ghost use Rattle.wire.specs.declared.message.Message.TheVariants as message;
 ghost use Rattle.link.specs.Replies.{Accepted};
 ghost use Rattle.link.specs.Requests.{Sent};
@@ -36,7 +36,7 @@ pub fn first_order(
 /// Takes a gateway's answer to a Logon, by its bytes. The link trades exactly where the gateway accepts.
 #[tactic(auto, using(crate::proofs::Both::trades))]
 pub fn answered(link: Awaiting, code: &i32, out: &mut [u8]) -> bool
-    requires { REPLY ≤ length out.old }
+    requires { BUFFER ≤ length out.old }
     ensures { IsTrue result ↔ (code.now ≡ pos 0) }
 {
     let len = Answer::LogonReply(*code).write(out);

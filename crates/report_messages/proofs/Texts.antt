@@ -1,4 +1,4 @@
--- Kept texts, and identifiers that give back what they name. Assumes nothing.
+-- Identifiers give back what they name, and a message the report that it was made of. Assumes nothing.
 use Rattle.std.proofs.Common.{◌≡◌, ℕ, ℤ, ◌+◌, ◌*◌, ◌/◌, ◌%◌, ◌<◌, true, List, length, Some, None, Option, sym, ap, ◌∙◌, subst, arith}
 use Rattle.std.specs.Option.{option_map}
 use Rattle.std.proofs.Math.Bool.{Bool-set}
@@ -12,27 +12,12 @@ use Rattle.texts.specs.declared.identifiers.ExecutionId.{ExecutionId}
 use Rattle.texts.specs.declared.identifiers.TheConstants.{SEQUENCES}
 use Rattle.texts.specs.declared.text.Text.{Text}
 use Rattle.texts.proofs.Digits.{said-id_of}
-use Rattle.texts.specs.Says.{says}
+use Rattle.texts.proofs.Kept.{lent_kept}
+use Rattle.texts.specs.Says.{says, kept}
 use Rattle.reports.specs.declared.report.ExecutionReport.{ExecutionReport}
 use Rattle.reports.specs.declared.report.CancelReject.{CancelReject}
 use Rattle.reports.specs.declared.report.MassCancelReport.{MassCancelReport}
-use Rattle.report_messages.specs.Back.{kept, order_in, reference_in}
-
--- texts of the same bytes are the same
-abbrev made : (N : ℕ) (f : List ℕ) → length f ≡ N → is_text f ≡ true → FixedText N
-made N f w t = record { bytes = f; wide = w; text = t }
-
-made_same : (N : ℕ) (f g : List ℕ) → f ≡ g → (w : length f ≡ N) (t : is_text f ≡ true) (w' : length g ≡ N) (t' : is_text g ≡ true) → ◌≡◌ {A = FixedText N} (record { bytes = f; wide = w; text = t }) (record { bytes = g; wide = w'; text = t' })
-made_same N f g e w t w' t' =
-    let P : List ℕ → Type 0 = λ h. (v : length h ≡ N) (u : is_text h ≡ true) → ◌≡◌ {A = FixedText N} (record { bytes = f; wide = w; text = t }) (record { bytes = h; wide = v; text = u }) in
-    subst P e (λ v u. ap (λ x. made N f x t) (ℕ_set (length f) N w v) ∙ ap (λ x. made N f v x) (Bool-set (is_text f) true t u)) w' t'
-
-pub kept_same : {N : ℕ} (x : FixedText N) (t : Text N) → x.bytes ≡ t.field.now → x ≡ kept t
-kept_same {N} x t e = made_same N x.bytes t.field.now e x.wide x.text t.wide t.text
-
--- a text that was lent is kept as it was
-pub lent_kept : {N : ℕ} (x : FixedText N) (t : Text N) → t.field.now ≡ x.bytes → kept t ≡ x
-lent_kept x t e = sym (kept_same x t (sym e))
+use Rattle.report_messages.specs.Back.{order_in, reference_in}
 
 pub order_back : (i : OrderId) (bs : List ℕ) → bs ≡ order_id_text i.number → Returns 79 i.number → order_in (said bs) ≡ Some i
 order_back i bs e back = ap (λ f. order_in (said f)) e ∙ ap order_in (said-id_of 79 i.number (omega arith) (omega arith)) ∙ ap (option_map (λ n. record { number = n })) back.0

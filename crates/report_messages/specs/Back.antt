@@ -2,11 +2,9 @@
 use Rattle.std.specs.Prelude.{ℕ, List, Some, None, Option}
 use Rattle.std.specs.Option.{option_map}
 use Rattle.texts.specs.Identifiers.{number_of, execution_of}
-use Rattle.texts.specs.Says.{says}
-use Rattle.texts.specs.declared.fixed.FixedText.{FixedText}
+use Rattle.texts.specs.Says.{says, kept}
 use Rattle.texts.specs.declared.identifiers.OrderId.{OrderId}
 use Rattle.texts.specs.declared.identifiers.ExecutionId.{ExecutionId}
-use Rattle.texts.specs.declared.text.Text.{Text}
 use Rattle.messages.specs.declared.execution_report.ExecutionReport.{ExecutionReport as ExecutionMessage}
 use Rattle.messages.specs.declared.order_cancel_reject.OrderCancelReject.{OrderCancelReject}
 use Rattle.messages.specs.declared.order_mass_cancel_report.OrderMassCancelReport.{OrderMassCancelReport}
@@ -17,10 +15,6 @@ use Rattle.reports.specs.declared.report.CancelReject.{CancelReject}
 use Rattle.reports.specs.declared.report.MassCancelReport.{MassCancelReport}
 use Rattle.reports.specs.declared.report.Report.{Report}
 use Rattle.reports.specs.declared.report.Report.TheVariants as report
-
--- a text that a message lends, kept
-abbrev pub kept : {N : ℕ} → Text N → FixedText N
-kept t = record { bytes = t.field.now; wide = t.wide; text = t.text }
 
 -- the order that an identifier names; none where it names none
 abbrev pub order_in : List ℕ → Option OrderId

@@ -13,6 +13,7 @@ use Rattle.layout.specs.Layout.Content.{words, figure, int32, price, clock, noth
 use Rattle.messages.specs.Terms.{execution_reject, execution_liquidity, execution_trade}
 use Rattle.wire.specs.declared.kinds.Kind.{Kind}
 use Rattle.wire.specs.declared.kinds.Kind.TheVariants as kind
+use Rattle.wire.specs.Messages.{message_bytes}
 use Rattle.reports.specs.declared.report.ExecutionReport.{ExecutionReport}
 use Rattle.reports.specs.declared.report.CancelReject.{CancelReject}
 use Rattle.reports.specs.declared.report.MassCancelReport.{MassCancelReport}
@@ -85,3 +86,7 @@ abbrev pub kind_told : Report → Kind
 kind_told (report.Execution e) = kind.ExecutionReport
 kind_told (report.CancelReject r) = kind.OrderCancelReject
 kind_told (report.MassCancel r) = kind.OrderMassCancelReport
+
+-- the bytes of that message
+abbrev pub report_bytes : Partition → ℕ → Report → List ℕ
+report_bytes p n r = message_bytes (kind_told r) (told_as p n r)

@@ -1,23 +1,15 @@
 // The report that a message tells.
 ghost use Rattle.std.specs.Prelude.{◌≡◌};
 ghost use Rattle.texts.specs.Says.{says};
-ghost use Rattle.report_messages.specs.Back.{kept, order_in, reference_in, execution_in, reject_in, mass_in, report_in};
+ghost use Rattle.report_messages.specs.Back.{order_in, reference_in, execution_in, reject_in, mass_in, report_in};
 
 use messages::execution_report::ExecutionReport as ExecutionMessage;
 use messages::order_cancel_reject::OrderCancelReject;
 use messages::order_mass_cancel_report::OrderMassCancelReport;
 use reports::report::{CancelReject, ExecutionReport, MassCancelReport, Report};
-use texts::fixed::FixedText;
 use texts::identifiers::{ExecutionId, OrderId};
 use texts::text::Text;
 use wire::message::Message;
-
-#[tactic(auto, using(crate::proofs::Texts::kept_same))]
-fn kept<const N: usize>(text: &Text<'_, N>) -> FixedText<N>
-    ensures { result ≡ kept text.now }
-{
-    text.keep()
-}
 
 #[tactic(auto, using(crate::proofs::Texts::order_read))]
 fn order_in(text: &Text<'_, 12>) -> Option<OrderId>
@@ -36,7 +28,7 @@ fn execution_in(m: &ExecutionMessage<'_>) -> ExecutionReport
     ensures { result ≡ execution_in m.now }
 {
     ExecutionReport {
-        client: kept(&m.client_order_id),
+        client: m.client_order_id.keep(),
         order: order_in(&m.order_id),
         execution: m.execution,
         reference: reference_in(&m.reference_id),
@@ -45,7 +37,7 @@ fn execution_in(m: &ExecutionMessage<'_>) -> ExecutionReport
         quantity: m.executed_quantity,
         leaves: m.leaves_quantity,
         display: m.display_quantity,
-        symbol: kept(&m.symbol),
+        symbol: m.symbol.keep(),
         side: m.side,
         trade: m.trade_match_id,
         time: m.transact_time,
@@ -58,7 +50,7 @@ fn reject_in(m: &OrderCancelReject<'_>) -> CancelReject
     ensures { result ≡ reject_in m.now }
 {
     CancelReject {
-        client: kept(&m.client_order_id),
+        client: m.client_order_id.keep(),
         reason: m.reason,
         time: m.transact_time,
     }
@@ -68,7 +60,7 @@ fn mass_in(m: &OrderMassCancelReport<'_>) -> MassCancelReport
     ensures { result ≡ mass_in m.now }
 {
     MassCancelReport {
-        client: kept(&m.client_order_id),
+        client: m.client_order_id.keep(),
         response: m.response,
         reason: m.reason,
         time: m.transact_time,

@@ -4,7 +4,7 @@ use Rattle.std.proofs.Common.{◌≡◌, ℕ, ◌+◌, ◌-◌, ◌≤◌, Bool,
 use Rattle.codes.specs.declared.order.Book.{Book}
 use Rattle.matching.specs.Meaning.{serves}
 use Rattle.messages.specs.declared.order_mass_cancel_request.OrderMassCancelRequest.{OrderMassCancelRequest}
-use Rattle.report_messages.specs.Back.{kept}
+use Rattle.texts.specs.Says.{kept}
 use Rattle.requests.specs.MassCancels.{accepted, refused, told_everywhere, swept, of_instrument, in_all, in_instrument}
 use Rattle.requests.specs.Outcomes.{Outcome, Gives, spare}
 use Rattle.requests.specs.Outcomes.Outcome.{Refused, Done}

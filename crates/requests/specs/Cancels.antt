@@ -5,7 +5,6 @@ use Rattle.matching.specs.Meaning.{serves}
 use Rattle.messages.specs.declared.order_cancel_request.OrderCancelRequest.{OrderCancelRequest}
 use Rattle.orders.specs.declared.row.Ending.TheVariants.{Cancelled}
 use Rattle.orders.specs.declared.row.Row.{Row}
-use Rattle.report_messages.specs.Back.{kept}
 use Rattle.reports.specs.declared.report.Entry.{Entry}
 use Rattle.reports.specs.declared.report.Report.TheVariants.{CancelReject}
 use Rattle.requests.specs.Instruments.{look_up}
@@ -18,7 +17,7 @@ use Rattle.requests.specs.declared.naming.Naming.{Naming}
 use Rattle.requests.specs.declared.refusal.Refusal.{Refusal}
 use Rattle.requests.specs.declared.refusal.Refusal.TheVariants.{BookNotServed}
 use Rattle.requests.specs.declared.refusal.Turned.TheVariants.{UnknownInstrument, NoPlace}
-use Rattle.texts.specs.Says.{says}
+use Rattle.texts.specs.Says.{says, kept}
 use Rattle.texts.specs.declared.fixed.FixedText.{FixedText}
 use Rattle.texts.specs.declared.values.Time.{Time}
 use Rattle.venue.specs.Steps.{withdrawn, noted}

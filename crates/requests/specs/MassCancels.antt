@@ -14,7 +14,6 @@ use Rattle.messages.specs.declared.order_mass_cancel_request.Scope.{Scope}
 use Rattle.messages.specs.declared.order_mass_cancel_request.Scope.TheVariants.{FirmInstrument, FirmSegment, CompId, Firm, CompIdInstrument, CompIdSegment}
 use Rattle.orders.specs.Tables.{open_count}
 use Rattle.orders.specs.declared.row.Row.{Row}
-use Rattle.report_messages.specs.Back.{kept}
 use Rattle.reports.specs.declared.report.Entry.{Entry}
 use Rattle.reports.specs.declared.report.Report.TheVariants.{MassCancel}
 use Rattle.requests.specs.Instruments.{look_up}
@@ -25,7 +24,7 @@ use Rattle.requests.specs.declared.listing.Listing.{Listing}
 use Rattle.requests.specs.declared.refusal.Refusal.TheVariants.{BookNotServed}
 use Rattle.requests.specs.declared.refusal.Turned.TheVariants.{UnknownInstrument, NoPlace}
 use Rattle.texts.specs.Bytes.{said}
-use Rattle.texts.specs.Says.{says}
+use Rattle.texts.specs.Says.{says, kept}
 use Rattle.texts.specs.declared.values.Time.{Time}
 use Rattle.venue.specs.Flags.{is_book, is_firm, is_segment}
 use Rattle.venue.specs.Selection.{meant, withdrawn_all}

@@ -6,7 +6,6 @@ use Rattle.matching.specs.Meaning.{serves}
 use Rattle.messages.specs.declared.new_order.NewOrder.{NewOrder}
 use Rattle.orders.specs.declared.row.Ask.{Ask}
 use Rattle.orders.specs.declared.row.Terms.{Terms}
-use Rattle.report_messages.specs.Back.{kept}
 use Rattle.reports.specs.declared.report.Entry.{Entry}
 use Rattle.reports.specs.declared.report.ExecutionReport.{ExecutionReport}
 use Rattle.reports.specs.declared.report.Report.TheVariants.{Execution}
@@ -22,7 +21,7 @@ use Rattle.requests.specs.declared.refusal.Turned.TheVariants.{UnknownInstrument
 use Rattle.terms.specs.Pricing.{order_type_of}
 use Rattle.terms.specs.Target.{book_of}
 use Rattle.terms.specs.declared.execution.Execution.TheVariants.{Rejected}
-use Rattle.texts.specs.Says.{says}
+use Rattle.texts.specs.Says.{says, kept}
 use Rattle.texts.specs.declared.values.Time.{Time}
 use Rattle.venue.specs.declared.refusal.AcceptRefusal.{AcceptRefusal}
 use Rattle.venue.specs.Steps.{accept_fault, accepted_to, noted}

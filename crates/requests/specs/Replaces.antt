@@ -5,7 +5,6 @@ use Rattle.codes.specs.Order.{time_in_force_code}
 use Rattle.messages.specs.declared.order_cancel_replace_request.OrderCancelReplaceRequest.{OrderCancelReplaceRequest}
 use Rattle.orders.specs.declared.row.Ask.{Ask}
 use Rattle.orders.specs.declared.row.Row.{Row}
-use Rattle.report_messages.specs.Back.{kept}
 use Rattle.requests.specs.Cancels.{served, refuses}
 use Rattle.requests.specs.Checks.{shown, is_plain, may_cost, is_timely}
 use Rattle.requests.specs.Instruments.{look_up}
@@ -18,7 +17,7 @@ use Rattle.requests.specs.declared.refusal.Refusal.TheVariants.{BadTerms, NotAbo
 use Rattle.requests.specs.declared.refusal.Turned.TheVariants.{UnknownInstrument, NoPlace}
 use Rattle.requests.specs.declared.replace.Replacement.{Replacement}
 use Rattle.terms.specs.Target.{book_of}
-use Rattle.texts.specs.Says.{says}
+use Rattle.texts.specs.Says.{says, kept}
 use Rattle.texts.specs.declared.values.Time.{Time}
 use Rattle.venue.specs.Steps.{replaced_to}
 use Rattle.venue.specs.View.{View}

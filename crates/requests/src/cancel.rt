@@ -5,7 +5,6 @@ ghost use Rattle.orders.specs.Tables.{open_count};
 ghost use Rattle.requests.specs.Cancels.{served, refusal_entry, refuses, named_by, cancel};
 ghost use Rattle.requests.specs.Outcomes.{Gives};
 
-use crate::keeping::kept;
 use crate::listing::{Listing, look_up};
 use crate::naming::Naming;
 use crate::refusal::{Refusal, Turned};
@@ -66,7 +65,7 @@ fn named_by(line: usize, listing: &Listing, m: &OrderCancelRequest<'_>) -> Namin
     Naming {
         line,
         order: m.order_id,
-        original: kept(&m.original_id),
+        original: m.original_id.keep(),
         place: listing.place,
         side: m.side,
         book: m.book,
@@ -86,7 +85,7 @@ pub fn cancel<M: Matcher, S: Store>(
     let Some(listing) = look_up(venue.instruments(), m.symbol.as_bytes()) else {
         return Err(Turned::UnknownInstrument);
     };
-    let client = kept(&m.client_order_id.text);
+    let client = m.client_order_id.text.keep();
     match served(venue, m.book, &named_by(line, &listing, m)) {
         Ok(row) => {
             venue.cancel(row.number, client, time);

@@ -3,7 +3,6 @@
 
 pub mod cancel;
 mod checks;
-mod keeping;
 pub mod listing;
 pub mod mass_cancel;
 pub mod naming;

@@ -11,7 +11,6 @@ ghost use Rattle.venue.specs.Selection.{is_owner, meant, in_scope};
 ghost use Rattle.venue.specs.declared.selection.Scope.TheVariants.{All};
 ghost use Rattle.venue.specs.Steps.{Leaves, Silent, noted};
 
-use crate::keeping::kept;
 use crate::listing::look_up;
 use crate::refusal::{Refusal, Turned};
 use codes::order::Book;
@@ -53,7 +52,7 @@ fn mass_entry(
     Entry {
         owner: line,
         report: Report::MassCancel(MassCancelReport {
-            client: kept(&m.client_order_id.text),
+            client: m.client_order_id.text.keep(),
             response,
             reason: i32::from(reason),
             time,
@@ -120,7 +119,7 @@ fn in_instrument<M: Matcher, S: Store>(
         scope: Reach::Instrument(listing.place, book),
         marked: false,
     };
-    let cause = Cause::Request(kept(&m.client_order_id.text));
+    let cause = Cause::Request(m.client_order_id.text.keep());
     venue.withdraw_all(&selection, cause, time);
     Ok(())
 }
@@ -140,7 +139,7 @@ fn in_all<M: Matcher, S: Store>(
         return Err(Turned::NoPlace);
     }
     tell_everywhere(venue, accepted(line, m, time));
-    let cause = Cause::Request(kept(&m.client_order_id.text));
+    let cause = Cause::Request(m.client_order_id.text.keep());
     venue.withdraw_all(selection, cause, time);
     Ok(())
 }

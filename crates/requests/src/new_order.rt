@@ -7,7 +7,6 @@ ghost use Rattle.requests.specs.Outcomes.{Gives};
 ghost use Rattle.requests.specs.Refusals.{refusal_number};
 
 use crate::checks::{is_own, is_plain, is_priced, is_timely, price_of, shown, told_capacity};
-use crate::keeping::kept;
 use crate::listing::{Listing, look_up};
 use crate::refusal::{Refusal, Turned};
 use codes::report::Status;
@@ -34,7 +33,7 @@ fn ask_of(m: &NewOrder<'_>) -> Option<Ask>
     }
     let quantity = shown(m.quantity, m.display_quantity)?;
     Some(Ask {
-        client: kept(&m.client_order_id.text),
+        client: m.client_order_id.text.keep(),
         price: price_of(m.pricing),
         display: m.display_quantity,
         quantity,
@@ -60,7 +59,7 @@ fn rejected(refusal: Refusal, listing: &Listing, m: &NewOrder<'_>, time: Time) -
     ensures { result ≡ rejected refusal listing.now m.now time }
 {
     ExecutionReport {
-        client: kept(&m.client_order_id.text),
+        client: m.client_order_id.text.keep(),
         order: None,
         execution: Execution::Rejected(i32::from(refusal.number())),
         reference: None,

@@ -8,7 +8,6 @@ ghost use Rattle.venue.specs.Steps.{Replaceable};
 
 use crate::cancel::{refuse, served};
 use crate::checks::{is_plain, is_timely, may_cost, shown};
-use crate::keeping::kept;
 use crate::listing::{Listing, look_up};
 use crate::naming::Naming;
 use crate::refusal::{Refusal, Turned};
@@ -40,7 +39,7 @@ fn ask_of(m: &OrderCancelReplaceRequest<'_>, row: &Row) -> Option<Ask>
     }
     let quantity = shown(m.quantity, m.display_quantity)?;
     Some(Ask {
-        client: kept(&m.client_order_id.text),
+        client: m.client_order_id.text.keep(),
         price: m.limit_price,
         display: m.display_quantity,
         quantity,
@@ -53,7 +52,7 @@ fn named_by(line: usize, listing: &Listing, m: &OrderCancelReplaceRequest<'_>) -
     Naming {
         line,
         order: m.order_id,
-        original: kept(&m.original_id),
+        original: m.original_id.keep(),
         place: listing.place,
         side: m.side,
         book: m.target.book(),
@@ -106,7 +105,7 @@ pub fn replace<M: Matcher, S: Store>(
             Ok(())
         }
         Err(refusal) => {
-            let client = kept(&m.client_order_id.text);
+            let client = m.client_order_id.text.keep();
             refuse(venue, line, refusal, client, &listing, time)
         }
     }

@@ -1,7 +1,12 @@
--- What a borrowed text says. Assumes nothing.
+-- What a borrowed text says, and the same text kept. Assumes nothing.
 use Rattle.std.specs.Prelude.{ℕ, List}
 use Rattle.texts.specs.Bytes.{said}
+use Rattle.texts.specs.declared.fixed.FixedText.{FixedText}
 use Rattle.texts.specs.declared.text.Text.{Text}
 
 abbrev pub says : {N : ℕ} → Text N → List ℕ
 says t = said t.field.now
+
+-- the text with its bytes for its own
+abbrev pub kept : {N : ℕ} → Text N → FixedText N
+kept t = record { bytes = t.field.now; wide = t.wide; text = t.text }

@@ -25,7 +25,7 @@ pub struct Name<'a, const N: usize> {
 
 impl<'a, const N: usize> Text<'a, N> {
     ghost use Rattle.std.specs.Prelude.{◌≤◌};
-    ghost use Rattle.texts.specs.Says.{says};
+    ghost use Rattle.texts.specs.Says.{says, kept};
 
     /// What the text says: its printable bytes.
     pub fn as_bytes(&self) -> &'a [u8]
@@ -44,8 +44,9 @@ impl<'a, const N: usize> Text<'a, N> {
     }
 
     /// The same text, kept.
+    #[tactic(auto, using(crate::proofs::Kept::kept_same))]
     pub fn keep(&self) -> FixedText<N>
-        ensures { result.bytes ≡ self.now.field.now }
+        ensures { result ≡ kept self.now }
     {
         let mut bytes = [0; N];
         bytes.copy_from_slice(self.field);
@@ -76,9 +77,11 @@ impl<'a, const N: usize> Name<'a, N> {
 }
 
 impl<'a> Name<'a, 20> {
+    ghost use Rattle.texts.specs.Says.{kept};
+
     /// The same name, kept.
     pub fn keep(&self) -> RequestId
-        ensures { result.id.bytes ≡ self.now.text.field.now }
+        ensures { result.id ≡ kept self.now.text }
     {
         RequestId {
             id: self.text.keep(),

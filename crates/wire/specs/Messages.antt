@@ -131,9 +131,13 @@ pub record Reads (ch : Channel) (bs : List ℕ) (m : Message) : Type 0 where
 abbrev pub WasRead : Channel → List ℕ → Result Message Fault → Type 0
 WasRead ch bs r = MatchResult r (λ m. Reads ch bs m) (λ e. verdict ch bs ≡ Some e)
 
+-- the bytes of a message of a kind whose fields hold this
+abbrev pub message_bytes : Kind → List Content → List ℕ
+message_bytes k vs = header (letter_of k) (total_of k) ++ encode (table_of k) vs
+
 -- the one written form of a message
 abbrev pub written : Message → List ℕ
-written m = header (letter_of (kind_of m)) (total_of (kind_of m)) ++ encode (table_of (kind_of m)) (contents_of m)
+written m = message_bytes (kind_of m) (contents_of m)
 
 -- what a message may say: its numbers are as wide as their types
 abbrev pub Holdable : Message → Type 0

@@ -24,6 +24,9 @@ use messages::order_mass_cancel_report::OrderMassCancelReport;
 use messages::order_mass_cancel_request::OrderMassCancelRequest;
 use messages::reject::Reject;
 
+/// How many bytes a buffer has at least that takes any message.
+pub const BUFFER: usize = 512;
+
 /// A message. Its texts are lent: by the bytes that it was read from, or by whoever writes it.
 #[derive(Clone, Copy, Debug)]
 pub enum Message<'a> {

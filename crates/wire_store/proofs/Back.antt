@@ -29,9 +29,10 @@ use Rattle.terms.specs.declared.execution.Execution.{Execution}
 use Rattle.terms.specs.declared.execution.Execution.TheVariants as execution
 use Rattle.texts.specs.Bytes.{printable, is_text, padded}
 use Rattle.texts.specs.Texts.{fitting}
-use Rattle.texts.specs.Says.{says}
+use Rattle.texts.specs.Says.{says, kept}
 use Rattle.texts.specs.declared.fixed.FixedText.{FixedText}
 use Rattle.texts.specs.declared.text.Text.{Text}
+use Rattle.texts.proofs.Kept.{fixed_same}
 use Rattle.texts.proofs.Padding.{padded-said, printable-said}
 use Rattle.layout.specs.declared.fault.Fault.{Fault}
 use Rattle.layout.specs.declared.fault.Fault.TheVariants as fault
@@ -44,28 +45,19 @@ use Rattle.wire.specs.declared.kinds.Kind.{Kind}
 use Rattle.wire.specs.declared.message.Message.{Message}
 use Rattle.wire.specs.declared.message.Message.TheVariants as message
 use Rattle.wire.specs.Kinds.{letter_of, total_of, table_of, takes}
-use Rattle.wire.specs.Messages.{kind_of, contents_of, opening, after_opening, verdict, written, Holdable, Reads}
+use Rattle.wire.specs.Messages.{kind_of, contents_of, opening, after_opening, verdict, written, Holdable, Reads, message_bytes}
 use Rattle.wire.proofs.Headers.{opened}
 use Rattle.wire.proofs.Sound.{sound}
 use Rattle.wire.proofs.Trips.{trip}
 use Rattle.reports.specs.declared.report.Report.{Report}
 use Rattle.reports.specs.declared.report.Report.TheVariants as report
-use Rattle.report_messages.specs.Back.{kept, report_in}
-use Rattle.report_messages.specs.Telling.{told_as, kind_told}
+use Rattle.report_messages.specs.Back.{report_in}
+use Rattle.report_messages.specs.Telling.{told_as, kind_told, report_bytes}
 use Rattle.wire_store.specs.Fitted.{fit, fitted}
-use Rattle.wire_store.specs.Told.{coded, decoded, value_of, execution_from, nothing_told, told_from, told_in}
-
--- texts of the same bytes are the same
-abbrev made : (N : ℕ) (f : List ℕ) → length f ≡ N → is_text f ≡ true → FixedText N
-made N f w t = record { bytes = f; wide = w; text = t }
-
-made_same : (N : ℕ) (f g : List ℕ) → f ≡ g → (w : length f ≡ N) (t : is_text f ≡ true) (w' : length g ≡ N) (t' : is_text g ≡ true) → ◌≡◌ {A = FixedText N} (record { bytes = f; wide = w; text = t }) (record { bytes = g; wide = w'; text = t' })
-made_same N f g e w t w' t' =
-    let P : List ℕ → Type 0 = λ h. (v : length h ≡ N) (u : is_text h ≡ true) → ◌≡◌ {A = FixedText N} (record { bytes = f; wide = w; text = t }) (record { bytes = h; wide = v; text = u }) in
-    subst P e (λ v u. ap (λ x. made N f x t) (ℕ_set (length f) N w v) ∙ ap (λ x. made N f v x) (Bool-set (is_text f) true t u)) w' t'
+use Rattle.wire_store.specs.Told.{decoded, value_of, execution_from, nothing_told, told_from, told_in}
 
 blank_same : (x : FixedText 20) → x.bytes ≡ padded 20 [] → x ≡ fitted 20 []
-blank_same x e = made_same 20 x.bytes (padded 20 []) e x.wide x.text (fitted 20 []).wide (fitted 20 []).text
+blank_same x e = fixed_same x (fitted 20 []) e
 
 pub blank_told : (x : FixedText 20) → x.bytes ≡ replicate 20 0 → report.CancelReject (record { client = x; reason = pos 0; time = record { seconds = 0; microseconds = 0 } }) ≡ nothing_told
 blank_told x e = ap (λ t. report.CancelReject (record { client = t; reason = pos 0; time = record { seconds = 0; microseconds = 0 } })) (blank_same x e)
@@ -83,7 +75,7 @@ says_fits {N} t =
 text_back : {N : ℕ} (t : Text N) → fitted N (says t) ≡ kept t
 text_back {N} t =
     let same : padded N (fit N (says t)) ≡ t.field.now = ap (padded N) (says_fits t) ∙ ap (λ n. padded n (says t)) (sym t.wide) ∙ padded-said t.field.now t.text in
-    made_same N (padded N (fit N (says t))) t.field.now same (fitted N (says t)).wide (fitted N (says t)).text t.wide t.text
+    fixed_same (fitted N (says t)) (kept t) same
 
 -- a value by its byte
 side_back : (x : Side) → value_of side_code sides side.Buy (side_code x) ≡ x
@@ -183,8 +175,8 @@ pub refused : (bs : List ℕ) (e : Fault) (r : Report) → verdict Follower bs �
 refused bs e r v h = h ∙ sym (ap (λ x. cond (is_some x) nothing_told (told_in (opening Follower bs) bs)) v)
 
 -- what was written
-coded_is : (p : Partition) (n : ℕ) (r : Report) (m : Message) → kind_of m ≡ kind_told r → contents_of m ≡ told_as p n r → written m ≡ coded p n r
-coded_is p n r m k c = ap (λ j. header (letter_of j) (total_of j) ++ encode (table_of j) (contents_of m)) k ∙ ap (λ vs. header (letter_of (kind_told r)) (total_of (kind_told r)) ++ encode (table_of (kind_told r)) vs) c
+report_is : (p : Partition) (n : ℕ) (r : Report) (m : Message) → kind_of m ≡ kind_told r → contents_of m ≡ told_as p n r → written m ≡ report_bytes p n r
+report_is p n r m k c = ap (λ j. message_bytes j (contents_of m)) k ∙ ap (message_bytes (kind_told r)) c
 
 follower_takes : (r : Report) → takes Follower (letter_of (kind_told r)) ≡ Some (kind_told r)
 follower_takes (report.Execution e) = refl
@@ -209,12 +201,12 @@ module _ (p : Partition) (n : ℕ) (r : Report) (m : Message) (k : kind_of m ≡
       let l = t.2 in
       (o, ap (after_opening (written m)) o ∙ ap (λ x. option_map (λ at. fault.Field at) x) t.0, t.1, omega arith)
 
-  pub given_back : report_in m ≡ Some r → decoded (coded p n r) ≡ r
+  pub given_back : report_in m ≡ Some r → decoded (report_bytes p n r) ≡ r
   given_back e =
       let a = read_again in
-      ap decoded (sym (coded_is p n r m k c)) ∙ told_by (written m) m a.1 a.0 a.2 ∙ ap (λ o. unwrap_or o nothing_told) e
+      ap decoded (sym (report_is p n r m k c)) ∙ told_by (written m) m a.1 a.0 a.2 ∙ ap (λ o. unwrap_or o nothing_told) e
 
-  pub whole : (total : ℕ) (before after : List ℕ) → total ≡ total_of (kind_of m) → after ≡ written m ++ drop total before → take total after ≡ coded p n r
+  pub whole : (total : ℕ) (before after : List ℕ) → total ≡ total_of (kind_of m) → after ≡ written m ++ drop total before → take total after ≡ report_bytes p n r
   whole total before after t w =
       let a = read_again in
-      ap (take total) w ∙ take_at (written m) (drop total before) total (a.3 ∙ sym t) ∙ coded_is p n r m k c
+      ap (take total) w ∙ take_at (written m) (drop total before) total (a.3 ∙ sym t) ∙ report_is p n r m k c

@@ -1,5 +1,5 @@
--- The bytes of a report's message, and the report that bytes hold. Assumes nothing.
-use Rattle.std.specs.Prelude.{ℕ, List, [], ◌++◌, map, pos, is_some, Ok, Err, Result, ◌==◌, find, slice_index_or, if◌then◌else◌}
+-- The report that bytes hold. Assumes nothing.
+use Rattle.std.specs.Prelude.{ℕ, List, [], map, pos, is_some, Ok, Err, Result, ◌==◌, find, slice_index_or, if◌then◌else◌}
 use Rattle.std.specs.Option.{unwrap_or}
 use Rattle.codes.specs.Order.{sides, side_code, books, book_code}
 use Rattle.codes.specs.Report.{exec_types, exec_type_code, statuses, status_code, liquidities, liquidity_code, trade_types, trade_type_code, capacities, capacity_code, mass_responses, mass_response_code}
@@ -12,29 +12,20 @@ use Rattle.codes.specs.declared.report.Liquidity.TheVariants as liquidity
 use Rattle.codes.specs.declared.report.TradeType.TheVariants as trade_type
 use Rattle.codes.specs.declared.report.Capacity.TheVariants as capacity
 use Rattle.codes.specs.declared.report.MassResponse.TheVariants as mass_response
-use Rattle.codes.specs.declared.session.Partition.{Partition}
 use Rattle.terms.specs.declared.execution.Execution.{Execution}
 use Rattle.terms.specs.declared.execution.Execution.TheVariants as execution
 use Rattle.layout.specs.declared.fault.Fault.{Fault}
 use Rattle.layout.specs.Layout.{Content, got, words_of, figure_of, int32_of, price_of, seconds_of, micros_of}
 use Rattle.layout.specs.Layout.Content.{nothing}
-use Rattle.layout.specs.Writing.{header, encode}
 use Rattle.wire.specs.declared.kinds.Channel.TheVariants.{Follower}
 use Rattle.wire.specs.declared.kinds.Kind.{Kind}
 use Rattle.wire.specs.declared.kinds.Kind.TheVariants as kind
-use Rattle.wire.specs.Kinds.{letter_of, total_of, table_of}
+use Rattle.wire.specs.Kinds.{table_of}
 use Rattle.wire.specs.Messages.{opening, verdict}
 use Rattle.reports.specs.declared.report.Report.{Report}
 use Rattle.reports.specs.declared.report.Report.TheVariants as report
-use Rattle.report_messages.specs.Telling.{told_as, kind_told}
 use Rattle.report_messages.specs.Back.{order_in, reference_in}
 use Rattle.wire_store.specs.Fitted.{fitted}
-
--- the bytes of a report's message under its number
-abbrev pub coded : Partition → ℕ → Report → List ℕ
-coded p n r =
-    let k = kind_told r in
-    header (letter_of k) (total_of k) ++ encode (table_of k) (told_as p n r)
 
 -- the content at a place of a message's contents
 abbrev pub nth : ℕ → List Content → Content

@@ -1,6 +1,7 @@
 // A report as the bytes of its message, and back.
 ghost use Rattle.std.specs.Prelude.{◌≡◌, ◌≤◌, ◌<◌, length, take, is_some};
-ghost use Rattle.wire_store.specs.Told.{coded, decoded, nothing_told};
+ghost use Rattle.report_messages.specs.Telling.{report_bytes};
+ghost use Rattle.wire_store.specs.Told.{decoded, nothing_told};
 
 use byte_store::codec::{Codec, Number};
 use codes::session::Partition;
@@ -43,16 +44,16 @@ fn report_in(bytes: &[u8]) -> Report
 #[tactic(auto, using(crate::proofs::Back::whole, crate::proofs::Back::short))]
 fn write_report(partition: Partition, number: Number, report: Report, out: &mut [u8]) -> usize
     requires { 145 ≤ length out.old }
-    ensures bytes { take result out.new ≡ coded partition number.value report }
+    ensures bytes { take result out.new ≡ report_bytes partition number.value report }
     ensures short { result ≤ 145 }
-    ensures back { decoded (coded partition number.value report) ≡ report }
+    ensures back { decoded (report_bytes partition number.value report) ≡ report }
 {
     let telling = Telling::new(partition, number.value, report).unwrap();
     write(&telling.message(), out).unwrap()
 }
 
 impl Codec for WireCodec {
-    ghost coded = { coded };
+    ghost coded = { report_bytes };
 
     ghost decoded = { decoded };
 

@@ -1,2 +1,1 @@
-pub mod Coming
 pub mod Rulings

@@ -1,8 +1,10 @@
 // What the line that is followed says to a day.
 ghost use Rattle.std.specs.Prelude.{◌≡◌, Some};
-ghost use Rattle.bench_log.specs.Rulings.{ruling_of, ruling_text};
+ghost use Rattle.bench_sides.specs.Rulings.{ruling_of, ruling_text};
 
-use ends::allowed::Breach;
+use bench_calls::log::Log;
+use ends::allowed::{Breach, line_allows};
+use std::alloc::{AllocError, Global};
 use std::fmt;
 
 /// Whether a line allows a day; if not, what was the first that it does not allow.
@@ -21,6 +23,15 @@ impl Ruling {
             Ok(()) => Ruling::Allows,
             Err(breach) => Ruling::Forbids(breach),
         }
+    }
+
+    /// Of the line that is followed to the calls that were kept; none where none is followed.
+    pub fn of_log(heap: Global, log: &Log) -> Result<Option<Ruling>, AllocError> {
+        let Some(line) = log.line() else {
+            return Ok(None);
+        };
+        let outcome = line_allows(heap, line, &log.calls()?)?;
+        Ok(Some(Ruling::of(outcome)))
     }
 }
 

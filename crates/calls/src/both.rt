@@ -1,10 +1,8 @@
 // A call on one of both ends, and one that was made.
-ghost use Rattle.std.specs.Prelude.{◌≡◌};
-
+use crate::venue::{Call as VenueCall, Done as VenueDone};
 use follower::answer::{Live, Recovered};
 use follower::fault::FollowerFault;
-use follower::request::BUFFER;
-use line::call::{Call as VenueCall, Done as VenueDone};
+use wire::message::BUFFER;
 
 /// A call: one of the gateway's seven, or one of the follower's five, with what is passed.
 #[derive(Clone, Copy)]

@@ -1,5 +1,7 @@
-// A made-up day's requests, built before the clock runs.
-use bench_messages::letter::Letter;
+// A made-up day's requests, built before the clock runs, and what its gateway is started with.
+#![tactic(auto)]
+
+use bench_messages::letter::{LONGEST, Letter};
 use bench_messages::session::Sender;
 use bench_script::command::{Request, Scope};
 use codes::order::Side;
@@ -12,6 +14,7 @@ use texts::fixed::FixedText;
 use texts::values::Price;
 use wire::message::write;
 
+/// How many lines a day has.
 pub const LINES: usize = 8;
 /// How many orders a day has.
 pub const ORDERS: usize = 256;
@@ -25,9 +28,6 @@ const SYMBOLS: [&str; 32] = [
     "S13", "S14", "S15", "S16", "S17", "S18", "S19", "S20", "S21", "S22", "S23", "S24", "S25",
     "S26", "S27", "S28", "S29", "S30", "S31",
 ];
-/// The most bytes that a request has.
-const LONGEST: usize = 112;
-
 /// A message, and the line that it comes on.
 #[derive(Drop)]
 pub struct Asked {
@@ -154,6 +154,7 @@ pub fn missed(heap: Global, line: usize, partition: i8, last: u32) -> Result<Ask
     built(heap, line, &Request::Missed { partition, last })
 }
 
+/// The requests of such a day.
 pub fn made_up(heap: Global) -> Result<Plan, AllocError> {
     let mut logons = Vec::new(heap);
     let mut mass_cancels = Vec::new(heap);

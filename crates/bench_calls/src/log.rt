@@ -1,11 +1,9 @@
-// What each call of a day was given and answered, and what the line that is followed says to it.
-use crate::ruling::Ruling;
-use ends::allowed::line_allows;
-use ends::call::{Asked, Done};
+// What each call of a day was given and answered.
+use calls::both::{Asked, Done};
+use calls::venue::{Done as VenueDone, Reply};
 use follower::answer::{Live, Recovered};
 use follower::fault::FollowerFault;
 use gateway::fault::GatewayFault;
-use line::call::{Done as VenueDone, Reply};
 use std::alloc::{AllocError, Global};
 use texts::values::Time;
 use venue::step::Step;
@@ -117,16 +115,17 @@ impl Log {
         Ok(())
     }
 
-    /// What the line that is followed says to the calls, if one is.
-    pub fn ruling(&self) -> Result<Option<Ruling>, AllocError> {
-        let Some(line) = self.line else {
-            return Ok(None);
-        };
-        let mut log = Vec::with_capacity(self.heap, self.calls.len())?;
+    /// The line that is followed, if one is.
+    pub fn line(&self) -> Option<usize> {
+        self.line
+    }
+
+    /// The calls that were kept, in their order.
+    pub fn calls(&self) -> Result<Vec<Done<'_>>, AllocError> {
+        let mut calls = Vec::with_capacity(self.heap, self.calls.len())?;
         for made in &self.calls {
-            log.push(made.done())?;
+            calls.push(made.done())?;
         }
-        let outcome = line_allows(self.heap, line, &log)?;
-        Ok(Some(Ruling::of(outcome)))
+        Ok(calls)
     }
 }

@@ -1,10 +1,8 @@
-// A call, and a call that was made.
-ghost use Rattle.std.specs.Prelude.{◌≡◌};
-
-use answers::sending::REPLY;
+// A call of a gateway, and one that was made.
 use gateway::fault::GatewayFault;
 use texts::values::Time;
 use venue::step::Step;
+use wire::message::BUFFER;
 
 /// A call of a gateway, with what is passed. A line is named by its place.
 #[derive(Clone, Copy)]
@@ -22,7 +20,7 @@ pub enum Call<'a> {
 #[derive(Clone, Copy)]
 pub struct Reply {
     pub answer: Result<usize, GatewayFault>,
-    pub buffer: [u8; REPLY],
+    pub buffer: [u8; BUFFER],
 }
 
 /// A call that was made, with what came back.
