@@ -18,8 +18,8 @@ use Rattle.wire.specs.Plain.{plain, plain_name, plain_scope}
 use Rattle.wire.proofs.Sound.{sound}
 use Rattle.wire.proofs.Trips.{trip}
 use Rattle.texts.specs.declared.text.Name.{Name}
-use Rattle.messages.specs.declared.order_mass_cancel_request.Scope.{Scope}
-use Rattle.messages.specs.declared.order_mass_cancel_request.Scope.TheVariants as scope
+use Rattle.order_messages.specs.declared.order_mass_cancel_request.Scope.{Scope}
+use Rattle.order_messages.specs.declared.order_mass_cancel_request.Scope.TheVariants as scope
 use Rattle.reports.specs.declared.report.Report.{Report}
 use Rattle.reports.specs.declared.report.Report.TheVariants as report
 use Rattle.report_messages.specs.Back.{report_in}

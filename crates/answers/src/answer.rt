@@ -10,9 +10,9 @@ ghost use Rattle.answers.specs.Told.{Answers, AnswerTold};
 
 use crate::sending::send;
 use codes::session::AckResponse;
-use messages::logon_reply::LogonReply;
-use messages::missed_message_request_ack::MissedMessageRequestAck;
-use messages::reject::Reject;
+use session_messages::logon_reply::LogonReply;
+use session_messages::missed_message_request_ack::MissedMessageRequestAck;
+use session_messages::reject::Reject;
 use texts::fixed::FixedText;
 use texts::text::Text;
 use wire::message::Message;

@@ -9,9 +9,9 @@ ghost use Rattle.answers.specs.Sent.{Sent};
 ghost use Rattle.answers.specs.Told.{ReportTold, EndTold};
 
 use codes::session::{Partition, ReportResponse};
-use messages::missed_message_report::MissedMessageReport;
 use report_messages::telling::Telling;
 use reports::report::Report;
+use session_messages::missed_message_report::MissedMessageReport;
 use wire::message::{Message, write};
 
 #[tactic(auto, using(crate::proofs::Heard::short, crate::proofs::Heard::sent))]

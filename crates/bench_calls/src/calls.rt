@@ -7,7 +7,7 @@ use calls::venue::{Done as VenueDone, Reply};
 use gateway::fault::GatewayFault;
 use gateway::gateway::Gateway;
 use matching::matcher::Matcher;
-use messages::reject::TOTAL;
+use session_messages::reject::TOTAL;
 use std::alloc::AllocError;
 use std::io;
 use store::Store;

@@ -2,7 +2,7 @@
 use Rattle.std.specs.Prelude.{ℕ, List, None, Option}
 use Rattle.texts.specs.Bytes.{said}
 use Rattle.layout.specs.Layout.{Content}
-use Rattle.messages.specs.Session.{missed_message_request_contents}
+use Rattle.session_messages.specs.Session.{missed_message_request_contents}
 use Rattle.wire.specs.declared.kinds.Kind.{Kind}
 use Rattle.wire.specs.declared.kinds.Kind.TheVariants as kind
 use Rattle.bench_script.specs.declared.command.Request.{Request}

@@ -8,7 +8,7 @@ use Rattle.texts.specs.Bytes.{said}
 use Rattle.texts.specs.declared.values.Price.{Price}
 use Rattle.layout.specs.Layout.{Content}
 use Rattle.layout.specs.Layout.Content.{words, order, figure, int32, price, nothing}
-use Rattle.messages.specs.Terms.{pricing_price}
+use Rattle.order_messages.specs.Terms.{pricing_price}
 use Rattle.bench_words.specs.declared.misread.Misread.{Misread}
 use Rattle.bench_messages.specs.Fitting.{client_wrong, or_else, original_wrong, symbol_wrong}
 use Rattle.bench_messages.specs.Marks.{auto_cancel_of}

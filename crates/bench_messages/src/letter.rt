@@ -2,7 +2,7 @@
 ghost use Rattle.std.specs.Prelude.{◌≡◌, IfOk};
 ghost use Rattle.std.specs.Result.{result_err};
 ghost use Rattle.texts.specs.Bytes.{said};
-ghost use Rattle.messages.specs.Session.{missed_message_request_contents};
+ghost use Rattle.session_messages.specs.Session.{missed_message_request_contents};
 ghost use Rattle.bench_messages.specs.Missed.{missed_asked, missed_wrong};
 
 use crate::mass::MassCancel;
@@ -11,7 +11,7 @@ use crate::trading::{Cancel, Order, Replace};
 use bench_script::command::Request;
 use bench_words::misread::Misread;
 use layout::sequence::LastSequence;
-use messages::missed_message_request::MissedMessageRequest;
+use session_messages::missed_message_request::MissedMessageRequest;
 use wire::message::Message;
 
 /// The most bytes that a request has.

@@ -1,14 +1,14 @@
 // A mass cancel with texts of its own, which its message lends.
 ghost use Rattle.std.specs.Prelude.{◌≡◌, IfOk};
 ghost use Rattle.std.specs.Result.{result_err};
-ghost use Rattle.messages.specs.Terms.{scope_contents};
+ghost use Rattle.order_messages.specs.Terms.{scope_contents};
 ghost use Rattle.bench_messages.specs.Takes.{scope_asked, scope_said, take_said, take_wrong};
 
 use crate::words;
 use bench_script::command::Scope;
 use bench_words::misread::Misread;
 use codes::order::Book;
-use messages::order_mass_cancel_request::{OrderMassCancelRequest, Scope as MessageScope};
+use order_messages::order_mass_cancel_request::{OrderMassCancelRequest, Scope as MessageScope};
 use texts::fixed::RequestId;
 use texts::names::{Segment, Symbol};
 
@@ -57,7 +57,7 @@ fn scope_of<'a>(firm: bool, take: &'a Take) -> MessageScope<'a>
 }
 
 impl MassCancel {
-    ghost use Rattle.messages.specs.Requests.{order_mass_cancel_request_contents};
+    ghost use Rattle.order_messages.specs.Requests.{order_mass_cancel_request_contents};
     ghost use Rattle.bench_messages.specs.Mass.{mass_asked, mass_contents, mass_wrong};
 
     /// A mass cancel whose words fit, or the first that does not.

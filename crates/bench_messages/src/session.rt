@@ -3,8 +3,8 @@ ghost use Rattle.std.specs.Prelude.{◌≡◌, []};
 ghost use Rattle.texts.specs.Bytes.{said};
 
 use codes::session::Version;
-use messages::logon::Logon as LogonMessage;
-use messages::logout::Logout as LogoutMessage;
+use session_messages::logon::Logon as LogonMessage;
+use session_messages::logout::Logout as LogoutMessage;
 use texts::fixed::FixedText;
 use texts::names::{CompId, LogoutReason, Password};
 
@@ -38,7 +38,7 @@ pub struct Logon {
 }
 
 impl Logon {
-    ghost use Rattle.messages.specs.Session.{logon_contents};
+    ghost use Rattle.session_messages.specs.Session.{logon_contents};
     ghost use Rattle.bench_messages.specs.Sessions.{logon_asked};
 
     pub fn new(sender: &Sender) -> Logon
@@ -71,7 +71,7 @@ pub struct Logout {
 }
 
 impl Logout {
-    ghost use Rattle.messages.specs.Session.{logout_contents};
+    ghost use Rattle.session_messages.specs.Session.{logout_contents};
     ghost use Rattle.bench_messages.specs.Sessions.{logout_asked};
 
     pub fn new() -> Logout {

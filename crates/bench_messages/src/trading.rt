@@ -9,9 +9,9 @@ use bench_words::misread::Misread;
 use codes::order::{
     AutoCancel, Book, ClearingAccount, OrderCapacity, OrderSubType, PassiveOnly, Side, TimeInForce,
 };
-use messages::new_order::NewOrder;
-use messages::order_cancel_replace_request::OrderCancelReplaceRequest;
-use messages::order_cancel_request::OrderCancelRequest;
+use order_messages::new_order::NewOrder;
+use order_messages::order_cancel_replace_request::OrderCancelReplaceRequest;
+use order_messages::order_cancel_request::OrderCancelRequest;
 use terms::pricing::Pricing;
 use terms::target::Target;
 use texts::fixed::{FixedText, RequestId};
@@ -44,7 +44,7 @@ fn auto_cancel(marked: bool) -> AutoCancel
 }
 
 impl Order {
-    ghost use Rattle.messages.specs.Requests.{new_order_contents};
+    ghost use Rattle.order_messages.specs.Requests.{new_order_contents};
     ghost use Rattle.bench_messages.specs.Letters.{order_contents, order_wrong, order_asked};
 
     /// An order whose words fit, or the first that does not.
@@ -109,7 +109,7 @@ pub struct Cancel {
 }
 
 impl Cancel {
-    ghost use Rattle.messages.specs.Requests.{order_cancel_request_contents};
+    ghost use Rattle.order_messages.specs.Requests.{order_cancel_request_contents};
     ghost use Rattle.bench_messages.specs.Letters.{cancel_contents, cancel_wrong, cancel_asked};
 
     /// A cancel whose words fit, or the first that does not.
@@ -157,7 +157,7 @@ pub struct Replace {
 }
 
 impl Replace {
-    ghost use Rattle.messages.specs.Requests.{order_cancel_replace_request_contents};
+    ghost use Rattle.order_messages.specs.Requests.{order_cancel_replace_request_contents};
     ghost use Rattle.bench_messages.specs.Letters.{cancel_wrong, replace_contents, replace_asked};
 
     /// A replacement whose words fit, or the first that does not.

@@ -38,7 +38,7 @@ use Rattle.layout.specs.declared.fault.Fault.{Fault}
 use Rattle.limits.specs.declared.TheConstants.{ORDERS}
 use Rattle.line.proofs.Effects.{Stays, Closes, Opens, RealTimeDoes, Grants, RecoveryDoes, SendDoes, RecoverDoes}
 use Rattle.line.specs.Runs.{blank}
-use Rattle.messages.specs.declared.missed_message_request.MissedMessageRequest.{MissedMessageRequest}
+use Rattle.session_messages.specs.declared.missed_message_request.MissedMessageRequest.{MissedMessageRequest}
 use Rattle.partitions.specs.PerPartition.{at, with_at}
 use Rattle.partitions.specs.declared.per_partition.PerPartition.{PerPartition}
 use Rattle.reports.specs.Tally.{is_of}

@@ -4,7 +4,7 @@ use Rattle.codes.specs.Session.{partition_code}
 use Rattle.codes.specs.declared.session.Partition.{Partition}
 use Rattle.layout.specs.Layout.Content.{figure, int8}
 use Rattle.layout.specs.Writing.{header, encode}
-use Rattle.messages.specs.declared.missed_message_request.MissedMessageRequest.{MissedMessageRequest}
+use Rattle.session_messages.specs.declared.missed_message_request.MissedMessageRequest.{MissedMessageRequest}
 use Rattle.wire.specs.declared.kinds.Channel.TheVariants.{Recovery}
 use Rattle.wire.specs.declared.kinds.Kind.TheVariants.{MissedMessageRequest as Request}
 use Rattle.wire.specs.declared.message.Message.{Message}

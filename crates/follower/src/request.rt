@@ -8,7 +8,7 @@ ghost use Rattle.follower.specs.Asking.{request, ReadBack};
 
 use crate::number::Number;
 use codes::session::Partition;
-use messages::missed_message_request::MissedMessageRequest;
+use session_messages::missed_message_request::MissedMessageRequest;
 use wire::message::{Message, write};
 
 // As the message has it, a signed byte.

@@ -2,10 +2,10 @@
 use codes::order::{Book, Side};
 use codes::report::{Capacity, Status};
 use codes::session::{AckResponse, Partition, ReportResponse};
-use messages::missed_message_report::MissedMessageReport;
-use messages::missed_message_request_ack::MissedMessageRequestAck;
 use report_messages::telling::Telling;
 use reports::report::{ExecutionReport, Report};
+use session_messages::missed_message_report::MissedMessageReport;
+use session_messages::missed_message_request_ack::MissedMessageRequestAck;
 use std::alloc::{AllocError, Global};
 use terms::execution::Execution;
 use texts::fixed::FixedText;

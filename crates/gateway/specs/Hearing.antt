@@ -18,7 +18,7 @@ use Rattle.gateway.specs.declared.fault.SessionFault.TheVariants.{NotLoggedOn, W
 use Rattle.layout.specs.Faults.{fault_number}
 use Rattle.layout.specs.declared.fault.Fault.{Fault}
 use Rattle.layout.specs.declared.fault.Fault.TheVariants as fault
-use Rattle.messages.specs.declared.missed_message_request.MissedMessageRequest.{MissedMessageRequest}
+use Rattle.session_messages.specs.declared.missed_message_request.MissedMessageRequest.{MissedMessageRequest}
 use Rattle.partitions.specs.PerPartition.{at}
 use Rattle.texts.specs.Says.{kept}
 use Rattle.requests.specs.Cancels.{cancel}

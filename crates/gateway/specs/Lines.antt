@@ -5,7 +5,7 @@ use Rattle.answers.specs.declared.answer.Answer.{Answer}
 use Rattle.answers.specs.declared.answer.Answer.TheVariants.{LogonReply}
 use Rattle.configuration.specs.declared.participant.Participant.{Participant}
 use Rattle.gateway.specs.State.{State, session, with_session, with_venue, lasts}
-use Rattle.messages.specs.declared.logon.Logon.{Logon}
+use Rattle.session_messages.specs.declared.logon.Logon.{Logon}
 use Rattle.orders.specs.Tables.{open_count}
 use Rattle.orders.specs.declared.row.Row.{Row}
 use Rattle.sessions.specs.Sessions.{logged_on, logon_number, closed}

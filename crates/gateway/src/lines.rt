@@ -8,7 +8,7 @@ use crate::gateway::Gateway;
 use answers::answer::Answer;
 use configuration::participant::Participant;
 use matching::matcher::Matcher;
-use messages::logon::Logon;
+use session_messages::logon::Logon;
 use sessions::session::Channel;
 use store::Store;
 use texts::values::Time;

@@ -13,12 +13,12 @@ use Rattle.keyed.specs.Numbers.{under}
 use Rattle.line.proofs.Moving.{Moving, still, onward, changes, adds}
 use Rattle.line.specs.Conservation.{Move, MayBy}
 use Rattle.matching.specs.Meaning.{serves}
-use Rattle.messages.specs.declared.new_order.NewOrder.{NewOrder}
-use Rattle.messages.specs.declared.order_cancel_request.OrderCancelRequest.{OrderCancelRequest}
-use Rattle.messages.specs.declared.order_cancel_replace_request.OrderCancelReplaceRequest.{OrderCancelReplaceRequest}
-use Rattle.messages.specs.declared.order_mass_cancel_request.OrderMassCancelRequest.{OrderMassCancelRequest}
-use Rattle.messages.specs.declared.order_mass_cancel_request.Scope.{Scope}
-use Rattle.messages.specs.declared.order_mass_cancel_request.Scope.TheVariants.{FirmInstrument, FirmSegment, CompId, Firm, CompIdInstrument, CompIdSegment}
+use Rattle.order_messages.specs.declared.new_order.NewOrder.{NewOrder}
+use Rattle.order_messages.specs.declared.order_cancel_request.OrderCancelRequest.{OrderCancelRequest}
+use Rattle.order_messages.specs.declared.order_cancel_replace_request.OrderCancelReplaceRequest.{OrderCancelReplaceRequest}
+use Rattle.order_messages.specs.declared.order_mass_cancel_request.OrderMassCancelRequest.{OrderMassCancelRequest}
+use Rattle.order_messages.specs.declared.order_mass_cancel_request.Scope.{Scope}
+use Rattle.order_messages.specs.declared.order_mass_cancel_request.Scope.TheVariants.{FirmInstrument, FirmSegment, CompId, Firm, CompIdInstrument, CompIdSegment}
 use Rattle.orders.specs.Rows.{orderable}
 use Rattle.orders.specs.declared.row.Ask.{Ask}
 use Rattle.orders.specs.declared.row.Row.{Row}

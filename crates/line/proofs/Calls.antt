@@ -20,7 +20,7 @@ use Rattle.line.specs.Conservation.{Move, May, MayBy, MayStep, MayUndo, MayLose}
 use Rattle.line.specs.Runs.{Does, blank}
 use Rattle.calls.specs.declared.venue.Done.{Done}
 use Rattle.calls.specs.declared.venue.Done.TheVariants as done
-use Rattle.messages.specs.declared.missed_message_request.MissedMessageRequest.{MissedMessageRequest}
+use Rattle.session_messages.specs.declared.missed_message_request.MissedMessageRequest.{MissedMessageRequest}
 use Rattle.orders.specs.declared.row.Row.{Row}
 use Rattle.orders.specs.declared.trade.Trade.{Trade}
 use Rattle.orders.specs.declared.trade.Fill.{Fill as Side}

@@ -31,8 +31,8 @@ use Rattle.line.specs.Runs.{Does, blank, bytes_of, left}
 use Rattle.calls.specs.declared.venue.Done.{Done}
 use Rattle.calls.specs.declared.venue.Done.TheVariants as done
 use Rattle.calls.specs.declared.venue.Reply.{Reply}
-use Rattle.messages.specs.declared.logon.Logon.{Logon}
-use Rattle.messages.specs.declared.missed_message_request.MissedMessageRequest.{MissedMessageRequest}
+use Rattle.session_messages.specs.declared.logon.Logon.{Logon}
+use Rattle.session_messages.specs.declared.missed_message_request.MissedMessageRequest.{MissedMessageRequest}
 use Rattle.partitions.specs.PerPartition.{at}
 use Rattle.requests.specs.Outcomes.{Outcome as Requested}
 use Rattle.requests.specs.Outcomes.Outcome.{Refused, Done as Did}

@@ -28,13 +28,13 @@ use Rattle.line.specs.Runs.{Does, blank}
 use Rattle.calls.specs.declared.venue.Done.{Done}
 use Rattle.calls.specs.declared.venue.Done.TheVariants as done
 use Rattle.matching.specs.Meaning.{serves}
-use Rattle.messages.specs.declared.missed_message_request.MissedMessageRequest.{MissedMessageRequest}
-use Rattle.messages.specs.declared.new_order.NewOrder.{NewOrder}
-use Rattle.messages.specs.declared.order_cancel_request.OrderCancelRequest.{OrderCancelRequest}
-use Rattle.messages.specs.declared.order_cancel_replace_request.OrderCancelReplaceRequest.{OrderCancelReplaceRequest}
-use Rattle.messages.specs.declared.order_mass_cancel_request.OrderMassCancelRequest.{OrderMassCancelRequest}
-use Rattle.messages.specs.declared.order_mass_cancel_request.Scope.{Scope}
-use Rattle.messages.specs.declared.order_mass_cancel_request.Scope.TheVariants.{FirmInstrument, FirmSegment, CompId, Firm, CompIdInstrument, CompIdSegment}
+use Rattle.session_messages.specs.declared.missed_message_request.MissedMessageRequest.{MissedMessageRequest}
+use Rattle.order_messages.specs.declared.new_order.NewOrder.{NewOrder}
+use Rattle.order_messages.specs.declared.order_cancel_request.OrderCancelRequest.{OrderCancelRequest}
+use Rattle.order_messages.specs.declared.order_cancel_replace_request.OrderCancelReplaceRequest.{OrderCancelReplaceRequest}
+use Rattle.order_messages.specs.declared.order_mass_cancel_request.OrderMassCancelRequest.{OrderMassCancelRequest}
+use Rattle.order_messages.specs.declared.order_mass_cancel_request.Scope.{Scope}
+use Rattle.order_messages.specs.declared.order_mass_cancel_request.Scope.TheVariants.{FirmInstrument, FirmSegment, CompId, Firm, CompIdInstrument, CompIdSegment}
 use Rattle.orders.specs.Rows.{orderable}
 use Rattle.line.proofs.Asked.{new_served}
 use Rattle.orders.specs.Tables.{goes_by, owned}

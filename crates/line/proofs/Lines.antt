@@ -15,7 +15,7 @@ use Rattle.line.specs.Laws.{LinesApart, line_of}
 use Rattle.line.specs.Runs.{Does, blank}
 use Rattle.calls.specs.declared.venue.Done.{Done}
 use Rattle.calls.specs.declared.venue.Done.TheVariants as done
-use Rattle.messages.specs.declared.missed_message_request.MissedMessageRequest.{MissedMessageRequest}
+use Rattle.session_messages.specs.declared.missed_message_request.MissedMessageRequest.{MissedMessageRequest}
 use Rattle.requests.specs.Outcomes.{Outcome as Requested}
 use Rattle.requests.specs.Outcomes.Outcome.{Refused, Done as Did}
 use Rattle.sessions.specs.Sessions.{on, fresh}

@@ -1,7 +1,7 @@
 -- Logging on: what is written, and what the answer makes of a link. Assumes nothing.
 use Rattle.std.specs.Prelude.{◌≡◌, ◌≢◌, ℕ, ℤ, List, pos, Ok, Err, Result, MatchOption, MatchResult}
-use Rattle.messages.specs.declared.logon.Logon.{Logon}
-use Rattle.messages.specs.declared.logout.Logout.{Logout}
+use Rattle.session_messages.specs.declared.logon.Logon.{Logon}
+use Rattle.session_messages.specs.declared.logout.Logout.{Logout}
 use Rattle.wire.specs.declared.kinds.Channel.TheVariants.{Follower}
 use Rattle.wire.specs.declared.message.Message.{Message}
 use Rattle.wire.specs.declared.message.Message.TheVariants as message

@@ -5,7 +5,7 @@ ghost use Rattle.link.specs.Replies.{code_in, ReplyIn, Accepted, Became, Replied
 use crate::offline::Offline;
 use crate::trading::Trading;
 use layout::fault::Fault;
-use messages::logon::Logon;
+use session_messages::logon::Logon;
 use texts::fixed::FixedText;
 use wire::kinds::{Channel, Kind};
 use wire::message::{Message, read};

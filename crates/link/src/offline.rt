@@ -3,7 +3,7 @@ ghost use Rattle.link.specs.Replies.{Asked};
 
 use crate::awaiting::Awaiting;
 use crate::sending::send;
-use messages::logon::Logon;
+use session_messages::logon::Logon;
 use wire::message::{Message, TooShort};
 
 /// A link that is not logged on.

@@ -4,12 +4,12 @@ ghost use Rattle.std.specs.Prelude.{◌≡◌, pos};
 
 use crate::offline::Offline;
 use crate::sending::send;
-use messages::heartbeat::Heartbeat;
-use messages::logout::Logout;
-use messages::new_order::NewOrder;
-use messages::order_cancel_replace_request::OrderCancelReplaceRequest;
-use messages::order_cancel_request::OrderCancelRequest;
-use messages::order_mass_cancel_request::OrderMassCancelRequest;
+use order_messages::new_order::NewOrder;
+use order_messages::order_cancel_replace_request::OrderCancelReplaceRequest;
+use order_messages::order_cancel_request::OrderCancelRequest;
+use order_messages::order_mass_cancel_request::OrderMassCancelRequest;
+use session_messages::heartbeat::Heartbeat;
+use session_messages::logout::Logout;
 use texts::fixed::FixedText;
 use wire::message::{Message, TooShort};
 

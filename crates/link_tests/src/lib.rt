@@ -10,8 +10,8 @@ ghost use Rattle.link.specs.Requests.{Sent};
 use answers::answer::Answer;
 use link::awaiting::Awaiting;
 use link::offline::Offline;
-use messages::logon::Logon;
-use messages::new_order::NewOrder;
+use order_messages::new_order::NewOrder;
+use session_messages::logon::Logon;
 
 #[cfg(test)]
 mod days;

@@ -5,9 +5,9 @@ use Rattle.texts.specs.Identifiers.{number_of, execution_of}
 use Rattle.texts.specs.Says.{says, kept}
 use Rattle.texts.specs.declared.identifiers.OrderId.{OrderId}
 use Rattle.texts.specs.declared.identifiers.ExecutionId.{ExecutionId}
-use Rattle.messages.specs.declared.execution_report.ExecutionReport.{ExecutionReport as ExecutionMessage}
-use Rattle.messages.specs.declared.order_cancel_reject.OrderCancelReject.{OrderCancelReject}
-use Rattle.messages.specs.declared.order_mass_cancel_report.OrderMassCancelReport.{OrderMassCancelReport}
+use Rattle.order_messages.specs.declared.execution_report.ExecutionReport.{ExecutionReport as ExecutionMessage}
+use Rattle.order_messages.specs.declared.order_cancel_reject.OrderCancelReject.{OrderCancelReject}
+use Rattle.order_messages.specs.declared.order_mass_cancel_report.OrderMassCancelReport.{OrderMassCancelReport}
 use Rattle.wire.specs.declared.message.Message.{Message}
 use Rattle.wire.specs.declared.message.Message.TheVariants as message
 use Rattle.reports.specs.declared.report.ExecutionReport.{ExecutionReport}

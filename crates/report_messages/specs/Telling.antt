@@ -10,7 +10,7 @@ use Rattle.terms.specs.Execution.{kind_of}
 use Rattle.texts.specs.Bytes.{said}
 use Rattle.layout.specs.Layout.{Content}
 use Rattle.layout.specs.Layout.Content.{words, figure, int32, price, clock, nothing}
-use Rattle.messages.specs.Terms.{execution_reject, execution_liquidity, execution_trade}
+use Rattle.order_messages.specs.Terms.{execution_reject, execution_liquidity, execution_trade}
 use Rattle.wire.specs.declared.kinds.Kind.{Kind}
 use Rattle.wire.specs.declared.kinds.Kind.TheVariants as kind
 use Rattle.wire.specs.Messages.{message_bytes}

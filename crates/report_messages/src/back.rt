@@ -3,9 +3,9 @@ ghost use Rattle.std.specs.Prelude.{◌≡◌};
 ghost use Rattle.texts.specs.Says.{says};
 ghost use Rattle.report_messages.specs.Back.{order_in, reference_in, execution_in, reject_in, mass_in, report_in};
 
-use messages::execution_report::ExecutionReport as ExecutionMessage;
-use messages::order_cancel_reject::OrderCancelReject;
-use messages::order_mass_cancel_report::OrderMassCancelReport;
+use order_messages::execution_report::ExecutionReport as ExecutionMessage;
+use order_messages::order_cancel_reject::OrderCancelReject;
+use order_messages::order_mass_cancel_report::OrderMassCancelReport;
 use reports::report::{CancelReject, ExecutionReport, MassCancelReport, Report};
 use texts::identifiers::{ExecutionId, OrderId};
 use texts::text::Text;

@@ -7,9 +7,9 @@ ghost use Rattle.report_messages.specs.Identifiers.{order_of, reference_of, orde
 
 use codes::report::PriceDifferential;
 use codes::session::Partition;
-use messages::execution_report::ExecutionReport as ExecutionMessage;
-use messages::order_cancel_reject::OrderCancelReject;
-use messages::order_mass_cancel_report::OrderMassCancelReport;
+use order_messages::execution_report::ExecutionReport as ExecutionMessage;
+use order_messages::order_cancel_reject::OrderCancelReject;
+use order_messages::order_mass_cancel_report::OrderMassCancelReport;
 use reports::report::{CancelReject, ExecutionReport, MassCancelReport, Report};
 use texts::fixed::FixedText;
 use texts::identifiers::{ExecutionId, OrderId};
@@ -101,7 +101,7 @@ fn reference_of(report: &Report) -> Option<ExecutionId>
 }
 
 impl Telling {
-    ghost use Rattle.messages.specs.Reports.{execution_report_contents, order_cancel_reject_contents, order_mass_cancel_report_contents};
+    ghost use Rattle.order_messages.specs.Reports.{execution_report_contents, order_cancel_reject_contents, order_mass_cancel_report_contents};
     ghost use Rattle.wire.specs.Messages.{kind_of, contents_of};
     ghost use Rattle.report_messages.specs.Telling.{execution_told, reject_told, mass_told, told_as, kind_told};
 

@@ -3,7 +3,7 @@ use Rattle.std.specs.Prelude.{nat_lt}
 use Rattle.std.proofs.Common.{◌≡◌, ℕ, ◌+◌, ◌-◌, ◌≤◌, Bool, true, false, cond, List, Some, Ok, sym, refl, ap, ◌∙◌, subst, arith}
 use Rattle.codes.specs.declared.order.Book.{Book}
 use Rattle.matching.specs.Meaning.{serves}
-use Rattle.messages.specs.declared.order_mass_cancel_request.OrderMassCancelRequest.{OrderMassCancelRequest}
+use Rattle.order_messages.specs.declared.order_mass_cancel_request.OrderMassCancelRequest.{OrderMassCancelRequest}
 use Rattle.texts.specs.Says.{kept}
 use Rattle.requests.specs.MassCancels.{accepted, refused, told_everywhere, swept, of_instrument, in_all, in_instrument}
 use Rattle.requests.specs.Outcomes.{Outcome, Gives, spare}

@@ -2,7 +2,7 @@
 use Rattle.std.specs.Prelude.{ℕ, pos, Some, None, Ok, Err, Option, Result, nat_lt, if◌then◌else◌}
 use Rattle.codes.specs.declared.order.Book.{Book}
 use Rattle.matching.specs.Meaning.{serves}
-use Rattle.messages.specs.declared.order_cancel_request.OrderCancelRequest.{OrderCancelRequest}
+use Rattle.order_messages.specs.declared.order_cancel_request.OrderCancelRequest.{OrderCancelRequest}
 use Rattle.orders.specs.declared.row.Ending.TheVariants.{Cancelled}
 use Rattle.orders.specs.declared.row.Row.{Row}
 use Rattle.reports.specs.declared.report.Entry.{Entry}

@@ -9,9 +9,9 @@ use Rattle.codes.specs.declared.session.Partition.TheVariants.{One, Two, Three}
 use Rattle.configuration.specs.declared.instrument.Instrument.{Instrument}
 use Rattle.configuration.specs.declared.participant.Participant.{Participant}
 use Rattle.matching.specs.Meaning.{serves}
-use Rattle.messages.specs.declared.order_mass_cancel_request.OrderMassCancelRequest.{OrderMassCancelRequest}
-use Rattle.messages.specs.declared.order_mass_cancel_request.Scope.{Scope}
-use Rattle.messages.specs.declared.order_mass_cancel_request.Scope.TheVariants.{FirmInstrument, FirmSegment, CompId, Firm, CompIdInstrument, CompIdSegment}
+use Rattle.order_messages.specs.declared.order_mass_cancel_request.OrderMassCancelRequest.{OrderMassCancelRequest}
+use Rattle.order_messages.specs.declared.order_mass_cancel_request.Scope.{Scope}
+use Rattle.order_messages.specs.declared.order_mass_cancel_request.Scope.TheVariants.{FirmInstrument, FirmSegment, CompId, Firm, CompIdInstrument, CompIdSegment}
 use Rattle.orders.specs.Tables.{open_count}
 use Rattle.orders.specs.declared.row.Row.{Row}
 use Rattle.reports.specs.declared.report.Entry.{Entry}

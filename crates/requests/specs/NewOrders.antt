@@ -3,7 +3,7 @@ use Rattle.std.specs.Prelude.{ℕ, ◌&&◌, pos, Some, None, Ok, Err, Option, R
 use Rattle.std.specs.Option.{option_map}
 use Rattle.codes.specs.declared.report.Status.TheVariants as status
 use Rattle.matching.specs.Meaning.{serves}
-use Rattle.messages.specs.declared.new_order.NewOrder.{NewOrder}
+use Rattle.order_messages.specs.declared.new_order.NewOrder.{NewOrder}
 use Rattle.orders.specs.declared.row.Ask.{Ask}
 use Rattle.orders.specs.declared.row.Terms.{Terms}
 use Rattle.reports.specs.declared.report.Entry.{Entry}

@@ -10,7 +10,7 @@ use crate::naming::Naming;
 use crate::refusal::{Refusal, Turned};
 use codes::order::Book;
 use matching::matcher::Matcher;
-use messages::order_cancel_request::OrderCancelRequest;
+use order_messages::order_cancel_request::OrderCancelRequest;
 use orders::row::Row;
 use reports::report::{CancelReject, Entry, Report};
 use store::Store;

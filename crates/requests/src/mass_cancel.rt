@@ -19,7 +19,7 @@ use codes::session::Partition;
 use configuration::instrument::Instrument;
 use configuration::participant::Participant;
 use matching::matcher::Matcher;
-use messages::order_mass_cancel_request::{OrderMassCancelRequest, Scope};
+use order_messages::order_mass_cancel_request::{OrderMassCancelRequest, Scope};
 use reports::report::{Entry, MassCancelReport, Report};
 use store::Store;
 use texts::values::Time;

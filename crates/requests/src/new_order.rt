@@ -11,7 +11,7 @@ use crate::listing::{Listing, look_up};
 use crate::refusal::{Refusal, Turned};
 use codes::report::Status;
 use matching::matcher::Matcher;
-use messages::new_order::NewOrder;
+use order_messages::new_order::NewOrder;
 use orders::row::{Ask, Terms};
 use reports::report::{Entry, ExecutionReport, Report};
 use store::Store;

@@ -13,7 +13,7 @@ use crate::naming::Naming;
 use crate::refusal::{Refusal, Turned};
 use codes::code::Code;
 use matching::matcher::Matcher;
-use messages::order_cancel_replace_request::OrderCancelReplaceRequest;
+use order_messages::order_cancel_replace_request::OrderCancelReplaceRequest;
 use orders::row::{Ask, Row};
 use store::Store;
 use texts::values::Time;

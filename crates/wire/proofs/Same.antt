@@ -20,7 +20,7 @@ use Rattle.codes.specs.contracts.session.VersionCode.TheImpl.Laws.{one-law as ve
 use Rattle.layout.specs.declared.sequence.LastSequence.{LastSequence}
 use Rattle.layout.specs.Layout.{Content, words_of, figure_of, int8_of, int32_of}
 use Rattle.layout.specs.Layout.Content.{nothing}
-use Rattle.messages.specs.declared.missed_message_request.MissedMessageRequest.{MissedMessageRequest}
+use Rattle.session_messages.specs.declared.missed_message_request.MissedMessageRequest.{MissedMessageRequest}
 use Rattle.wire.specs.declared.message.Message.{Message}
 use Rattle.wire.specs.declared.message.Message.TheVariants as message
 use Rattle.wire.specs.Messages.{kind_of, contents_of}

@@ -32,9 +32,9 @@ use Rattle.terms.specs.declared.pricing.Pricing.{Pricing}
 use Rattle.terms.specs.declared.pricing.Pricing.TheVariants as pricing
 use Rattle.terms.specs.declared.target.Target.{Target}
 use Rattle.terms.specs.declared.target.Target.TheVariants as target
-use Rattle.messages.specs.declared.order_mass_cancel_request.Scope.{Scope}
-use Rattle.messages.specs.declared.order_mass_cancel_request.Scope.TheVariants as scope
-use Rattle.messages.specs.Terms.{pricing_price, target_instruction, execution_reject, execution_liquidity, execution_trade, scope_kind, scope_symbol, scope_book, scope_segment}
+use Rattle.order_messages.specs.declared.order_mass_cancel_request.Scope.{Scope}
+use Rattle.order_messages.specs.declared.order_mass_cancel_request.Scope.TheVariants as scope
+use Rattle.order_messages.specs.Terms.{pricing_price, target_instruction, execution_reject, execution_liquidity, execution_trade, scope_kind, scope_symbol, scope_book, scope_segment}
 use Rattle.wire.specs.Plain.{plain_text, plain_name, plain_scope}
 
 -- texts that say the same

@@ -3,21 +3,21 @@ use Rattle.std.specs.Prelude.{ℕ, List, Option, ◌==◌}
 use Rattle.std.specs.List.{find}
 use Rattle.layout.specs.declared.field.Field.{Field}
 use Rattle.layout.specs.declared.framed.Layout.{Ghosts}
-use Rattle.messages.specs.contracts.execution_report.ExecutionReportLayout.TheImpl as execution_report
-use Rattle.messages.specs.contracts.heartbeat.HeartbeatLayout.TheImpl as heartbeat
-use Rattle.messages.specs.contracts.logon.LogonLayout.TheImpl as logon
-use Rattle.messages.specs.contracts.logon_reply.LogonReplyLayout.TheImpl as logon_reply
-use Rattle.messages.specs.contracts.logout.LogoutLayout.TheImpl as logout
-use Rattle.messages.specs.contracts.missed_message_report.MissedMessageReportLayout.TheImpl as missed_message_report
-use Rattle.messages.specs.contracts.missed_message_request.MissedMessageRequestLayout.TheImpl as missed_message_request
-use Rattle.messages.specs.contracts.missed_message_request_ack.MissedMessageRequestAckLayout.TheImpl as missed_message_request_ack
-use Rattle.messages.specs.contracts.new_order.NewOrderLayout.TheImpl as new_order
-use Rattle.messages.specs.contracts.order_cancel_reject.OrderCancelRejectLayout.TheImpl as order_cancel_reject
-use Rattle.messages.specs.contracts.order_cancel_replace_request.OrderCancelReplaceRequestLayout.TheImpl as order_cancel_replace_request
-use Rattle.messages.specs.contracts.order_cancel_request.OrderCancelRequestLayout.TheImpl as order_cancel_request
-use Rattle.messages.specs.contracts.order_mass_cancel_report.OrderMassCancelReportLayout.TheImpl as order_mass_cancel_report
-use Rattle.messages.specs.contracts.order_mass_cancel_request.OrderMassCancelRequestLayout.TheImpl as order_mass_cancel_request
-use Rattle.messages.specs.contracts.reject.RejectLayout.TheImpl as reject
+use Rattle.order_messages.specs.contracts.execution_report.ExecutionReportLayout.TheImpl as execution_report
+use Rattle.session_messages.specs.contracts.heartbeat.HeartbeatLayout.TheImpl as heartbeat
+use Rattle.session_messages.specs.contracts.logon.LogonLayout.TheImpl as logon
+use Rattle.session_messages.specs.contracts.logon_reply.LogonReplyLayout.TheImpl as logon_reply
+use Rattle.session_messages.specs.contracts.logout.LogoutLayout.TheImpl as logout
+use Rattle.session_messages.specs.contracts.missed_message_report.MissedMessageReportLayout.TheImpl as missed_message_report
+use Rattle.session_messages.specs.contracts.missed_message_request.MissedMessageRequestLayout.TheImpl as missed_message_request
+use Rattle.session_messages.specs.contracts.missed_message_request_ack.MissedMessageRequestAckLayout.TheImpl as missed_message_request_ack
+use Rattle.order_messages.specs.contracts.new_order.NewOrderLayout.TheImpl as new_order
+use Rattle.order_messages.specs.contracts.order_cancel_reject.OrderCancelRejectLayout.TheImpl as order_cancel_reject
+use Rattle.order_messages.specs.contracts.order_cancel_replace_request.OrderCancelReplaceRequestLayout.TheImpl as order_cancel_replace_request
+use Rattle.order_messages.specs.contracts.order_cancel_request.OrderCancelRequestLayout.TheImpl as order_cancel_request
+use Rattle.order_messages.specs.contracts.order_mass_cancel_report.OrderMassCancelReportLayout.TheImpl as order_mass_cancel_report
+use Rattle.order_messages.specs.contracts.order_mass_cancel_request.OrderMassCancelRequestLayout.TheImpl as order_mass_cancel_request
+use Rattle.session_messages.specs.contracts.reject.RejectLayout.TheImpl as reject
 use Rattle.wire.specs.declared.kinds.Channel.{Channel}
 use Rattle.wire.specs.declared.kinds.Channel.TheVariants as channel
 use Rattle.wire.specs.declared.kinds.Kind.{Kind}

@@ -7,9 +7,9 @@ use Rattle.layout.specs.declared.put.TheConstants.{START}
 use Rattle.layout.specs.Layout.{Content, part, fault_of, Says, text_places}
 use Rattle.layout.specs.Writing.{header, encode}
 use Rattle.layout.specs.Holding.{HoldsIn}
-use Rattle.messages.specs.Session.{logon_contents, logon_places, logon_reply_contents, logon_reply_places, logout_contents, logout_places, heartbeat_contents, heartbeat_places, missed_message_request_contents, missed_message_request_places, missed_message_request_ack_contents, missed_message_request_ack_places, missed_message_report_contents, missed_message_report_places, reject_contents, reject_places}
-use Rattle.messages.specs.Requests.{new_order_contents, new_order_places, order_cancel_request_contents, order_cancel_request_places, order_cancel_replace_request_contents, order_cancel_replace_request_places, order_mass_cancel_request_contents, order_mass_cancel_request_places}
-use Rattle.messages.specs.Reports.{execution_report_contents, execution_report_places, order_cancel_reject_contents, order_cancel_reject_places, order_mass_cancel_report_contents, order_mass_cancel_report_places}
+use Rattle.session_messages.specs.Session.{logon_contents, logon_places, logon_reply_contents, logon_reply_places, logout_contents, logout_places, heartbeat_contents, heartbeat_places, missed_message_request_contents, missed_message_request_places, missed_message_request_ack_contents, missed_message_request_ack_places, missed_message_report_contents, missed_message_report_places, reject_contents, reject_places}
+use Rattle.order_messages.specs.Requests.{new_order_contents, new_order_places, order_cancel_request_contents, order_cancel_request_places, order_cancel_replace_request_contents, order_cancel_replace_request_places, order_mass_cancel_request_contents, order_mass_cancel_request_places}
+use Rattle.order_messages.specs.Reports.{execution_report_contents, execution_report_places, order_cancel_reject_contents, order_cancel_reject_places, order_mass_cancel_report_contents, order_mass_cancel_report_places}
 use Rattle.wire.specs.declared.kinds.Channel.{Channel}
 use Rattle.wire.specs.declared.kinds.Kind.{Kind}
 use Rattle.wire.specs.declared.kinds.Kind.TheVariants as kind

@@ -2,8 +2,8 @@
 use Rattle.std.specs.Prelude.{ℕ}
 use Rattle.texts.specs.declared.text.Name.{Name}
 use Rattle.texts.specs.declared.text.Text.{Text}
-use Rattle.messages.specs.declared.order_mass_cancel_request.Scope.{Scope}
-use Rattle.messages.specs.declared.order_mass_cancel_request.Scope.TheVariants as scope
+use Rattle.order_messages.specs.declared.order_mass_cancel_request.Scope.{Scope}
+use Rattle.order_messages.specs.declared.order_mass_cancel_request.Scope.TheVariants as scope
 use Rattle.wire.specs.declared.message.Message.{Message}
 use Rattle.wire.specs.declared.message.Message.TheVariants as message
 

@@ -4,21 +4,21 @@ ghost use Rattle.wire.specs.Kinds.{kinds_of, letter_of, total_of, table_of, take
 
 use layout::field::Field;
 use layout::framed::Layout;
-use messages::execution_report::ExecutionReport;
-use messages::heartbeat::Heartbeat;
-use messages::logon::Logon;
-use messages::logon_reply::LogonReply;
-use messages::logout::Logout;
-use messages::missed_message_report::MissedMessageReport;
-use messages::missed_message_request::MissedMessageRequest;
-use messages::missed_message_request_ack::MissedMessageRequestAck;
-use messages::new_order::NewOrder;
-use messages::order_cancel_reject::OrderCancelReject;
-use messages::order_cancel_replace_request::OrderCancelReplaceRequest;
-use messages::order_cancel_request::OrderCancelRequest;
-use messages::order_mass_cancel_report::OrderMassCancelReport;
-use messages::order_mass_cancel_request::OrderMassCancelRequest;
-use messages::reject::Reject;
+use order_messages::execution_report::ExecutionReport;
+use order_messages::new_order::NewOrder;
+use order_messages::order_cancel_reject::OrderCancelReject;
+use order_messages::order_cancel_replace_request::OrderCancelReplaceRequest;
+use order_messages::order_cancel_request::OrderCancelRequest;
+use order_messages::order_mass_cancel_report::OrderMassCancelReport;
+use order_messages::order_mass_cancel_request::OrderMassCancelRequest;
+use session_messages::heartbeat::Heartbeat;
+use session_messages::logon::Logon;
+use session_messages::logon_reply::LogonReply;
+use session_messages::logout::Logout;
+use session_messages::missed_message_report::MissedMessageReport;
+use session_messages::missed_message_request::MissedMessageRequest;
+use session_messages::missed_message_request_ack::MissedMessageRequestAck;
+use session_messages::reject::Reject;
 
 /// Who reads: the gateway on one of its two channels, or a follower.
 #[derive(Clone, Copy, Debug, PartialEq)]

@@ -2,7 +2,7 @@
 use codes::order::{
     AutoCancel, ClearingAccount, OrderCapacity, OrderSubType, PassiveOnly, Side, TimeInForce,
 };
-use messages::new_order::NewOrder;
+use order_messages::new_order::NewOrder;
 use terms::pricing::Pricing;
 use terms::target::Target;
 use texts::fixed::{FixedText, RequestId};

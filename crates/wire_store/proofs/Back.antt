@@ -39,7 +39,7 @@ use Rattle.layout.specs.declared.fault.Fault.TheVariants as fault
 use Rattle.layout.specs.declared.field.Field.{Field}
 use Rattle.layout.specs.Layout.{Content, got, Says}
 use Rattle.layout.specs.Writing.{header, encode}
-use Rattle.messages.specs.Terms.{execution_reject, execution_liquidity, execution_trade}
+use Rattle.order_messages.specs.Terms.{execution_reject, execution_liquidity, execution_trade}
 use Rattle.wire.specs.declared.kinds.Channel.TheVariants.{Follower}
 use Rattle.wire.specs.declared.kinds.Kind.{Kind}
 use Rattle.wire.specs.declared.message.Message.{Message}

@@ -1,5 +1,0 @@
-use Rattle.std.proofs.Common.{rules}
-use Rattle.messages.proofs.new_order.NewOrderFramed.fields.Goals as goal
-
-pub returns-clause-says : goal.returns-clause-says
-returns-clause-says c = search rules depth 60 fits 400

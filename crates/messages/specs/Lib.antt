@@ -1,4 +1,0 @@
-pub mod Reports
-pub mod Requests
-pub mod Session
-pub mod Terms

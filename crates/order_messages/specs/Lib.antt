@@ -1,0 +1,3 @@
+pub mod Reports
+pub mod Requests
+pub mod Terms

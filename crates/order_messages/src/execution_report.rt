@@ -1,0 +1,258 @@
+// Execution Report: type 8, 145 bytes.
+ghost use Rattle.std.specs.Prelude.{◌≡◌, ◌+◌, ◌≤◌, length, refl};
+ghost use Rattle.std.proofs.Common.{rules};
+ghost use Rattle.order_messages.specs.declared.execution_report.TheConstants.{LETTER, TABLE, TOTAL};
+ghost use Rattle.codes.specs.Report.{exec_type_code};
+ghost use Rattle.terms.specs.Execution.{kind_of};
+ghost use Rattle.layout.specs.Holding.{Holds};
+ghost use Rattle.layout.specs.Layout.{AllOk, Says};
+ghost use Rattle.layout.specs.Writing.{field_bytes, over};
+ghost use Rattle.order_messages.specs.Terms.{execution_contents, execution_fields, execution_liquidity, execution_reject, execution_trade, liquidity_field, reject_field, trade_field};
+
+use codes::lists::Codes;
+use codes::order::{Book, Side};
+use codes::report::{Capacity, ExecType, PriceDifferential, Status};
+use codes::session::Partition;
+use layout::field::{Field, Form};
+use layout::framed::{Framed, Layout};
+use layout::put::{put_blank, put_code, put_i32, put_price, put_text, put_time, put_u64};
+use layout::reader::Reader;
+use layout::take::{code_at, i32_at, price_at, text_at, time_at, u64_at};
+use terms::execution::Execution;
+use texts::text::Text;
+use texts::values::{Price, Time};
+
+/// What became of an order.
+#[derive(Clone, Copy, Debug)]
+pub struct ExecutionReport<'a> {
+    pub partition: Partition,
+    /// Its number among the reports of its partition.
+    pub sequence: i32,
+    pub execution_id: Text<'a, 12>,
+    pub client_order_id: Text<'a, 20>,
+    pub order_id: Text<'a, 12>,
+    /// Why the report is sent, with what only such a report tells.
+    pub execution: Execution,
+    /// The execution that the report refers back to, if any.
+    pub reference_id: Text<'a, 12>,
+    pub status: Status,
+    /// Of this execution, as the next one is.
+    pub executed_price: Price,
+    /// In shares, as the next two are.
+    pub executed_quantity: i32,
+    /// What is open after the report.
+    pub leaves_quantity: i32,
+    /// How much of the order is shown.
+    pub display_quantity: i32,
+    pub symbol: Text<'a, 6>,
+    pub side: Side,
+    pub secondary_order_id: u64,
+    pub counterparty: Text<'a, 11>,
+    /// The number of the trade, or 0.
+    pub trade_match_id: u64,
+    pub transact_time: Time,
+    pub book: Book,
+    pub capacity: Capacity,
+    pub price_differential: PriceDifferential,
+}
+
+/// The byte that names the type.
+pub const LETTER: u8 = b'8';
+
+/// How many bytes it has in all.
+pub const TOTAL: u16 = 145;
+
+/// Its fields, one behind the other.
+pub const TABLE: [Field; 26] = [
+    Field::Always(4, Form::Code(Codes::Partitions)),
+    Field::Always(5, Form::Int32),
+    Field::Always(9, Form::Text(12)),
+    Field::Always(21, Form::Text(20)),
+    Field::Always(41, Form::Text(12)),
+    Field::Always(53, Form::Code(Codes::ExecTypes)),
+    Field::Always(54, Form::Text(12)),
+    Field::Always(66, Form::Code(Codes::Statuses)),
+    Field::When(67, Form::Int32, 53, Codes::RejectedOnly),
+    Field::Always(71, Form::Price),
+    Field::Always(79, Form::Int32),
+    Field::Always(83, Form::Int32),
+    Field::Always(87, Form::Reserved(1)),
+    Field::Always(88, Form::Int32),
+    Field::Always(92, Form::Text(6)),
+    Field::Always(98, Form::Code(Codes::Sides)),
+    Field::Always(99, Form::UInt64),
+    Field::Always(107, Form::Text(11)),
+    Field::When(
+        118,
+        Form::Code(Codes::Liquidities),
+        53,
+        Codes::TradeOrCancel,
+    ),
+    Field::Always(119, Form::UInt64),
+    Field::Always(127, Form::Time),
+    Field::Always(135, Form::Code(Codes::Books)),
+    Field::When(136, Form::Code(Codes::TradeTypes), 53, Codes::TradeOnly),
+    Field::Always(137, Form::Code(Codes::Capacities)),
+    Field::Always(138, Form::Code(Codes::PriceDifferentials)),
+    Field::Always(139, Form::Reserved(6)),
+];
+
+impl Layout for ExecutionReport<'_> {
+    ghost table = { TABLE };
+
+    ghost letter = { LETTER };
+
+    ghost total = { TOTAL };
+
+    ghost inside = { refl };
+
+    ghost tiles = { refl };
+
+    ghost headed = { Prim.search rules };
+
+    fn table() -> &'static [Field]
+        ensures { result.now ≡ TABLE }
+    {
+        &TABLE
+    }
+
+    fn letter() -> u8
+        ensures { result ≡ LETTER }
+    {
+        LETTER
+    }
+
+    fn total() -> u16
+        ensures { result ≡ TOTAL }
+    {
+        TOTAL
+    }
+}
+
+impl<'a> Framed<'a> for ExecutionReport<'a> {
+    ghost use Rattle.order_messages.specs.Reports.{execution_report_contents, execution_report_places};
+
+    ghost contents = { λ m. execution_report_contents m };
+
+    ghost places = { λ m. execution_report_places m };
+
+    fn fields(r: &Reader<'a>) -> Self {
+        ExecutionReport {
+            partition: code_at(r, 4),
+            sequence: i32_at(r, 5),
+            execution_id: text_at(r, 9),
+            client_order_id: text_at(r, 21),
+            order_id: text_at(r, 41),
+            execution: execution_at(r),
+            reference_id: text_at(r, 54),
+            status: code_at(r, 66),
+            executed_price: price_at(r, 71),
+            executed_quantity: i32_at(r, 79),
+            leaves_quantity: i32_at(r, 83),
+            display_quantity: i32_at(r, 88),
+            symbol: text_at(r, 92),
+            side: code_at(r, 98),
+            secondary_order_id: u64_at(r, 99),
+            counterparty: text_at(r, 107),
+            trade_match_id: u64_at(r, 119),
+            transact_time: time_at(r, 127),
+            book: code_at(r, 135),
+            capacity: code_at(r, 137),
+            price_differential: code_at(r, 138),
+        }
+    }
+
+    fn put(&self, out: &mut [u8]) {
+        put_code(out, 4, &self.partition);
+        put_i32(out, 5, &self.sequence);
+        put_text(out, 9, &self.execution_id);
+        put_text(out, 21, &self.client_order_id);
+        put_text(out, 41, &self.order_id);
+        put_code(out, 53, &self.execution.kind());
+        put_text(out, 54, &self.reference_id);
+        put_code(out, 66, &self.status);
+        put_reject_code(out, 67, &self.execution);
+        put_price(out, 71, &self.executed_price);
+        put_i32(out, 79, &self.executed_quantity);
+        put_i32(out, 83, &self.leaves_quantity);
+        put_blank(out, 87, 1);
+        put_i32(out, 88, &self.display_quantity);
+        put_text(out, 92, &self.symbol);
+        put_code(out, 98, &self.side);
+        put_u64(out, 99, self.secondary_order_id);
+        put_text(out, 107, &self.counterparty);
+        put_liquidity(out, 118, &self.execution);
+        put_u64(out, 119, self.trade_match_id);
+        put_time(out, 127, &self.transact_time);
+        put_code(out, 135, &self.book);
+        put_trade_type(out, 136, &self.execution);
+        put_code(out, 137, &self.capacity);
+        put_code(out, 138, &self.price_differential);
+        put_blank(out, 139, 6);
+    }
+}
+
+// Why the report is sent, with what only such a report tells.
+#[tactic(auto, unfolding(layout::specs::Layout::taken))]
+fn execution_at(r: &Reader<'_>) -> Execution
+    requires room { 145 ≤ length r.now.src.now }
+    requires good { AllOk execution_fields r.now.src.now }
+    ensures { Says (execution_contents result) execution_fields r.now.src.now }
+{
+    let kind: ExecType = r.code(53);
+    match kind {
+        ExecType::Unspecified => Execution::Unspecified,
+        ExecType::New => Execution::New,
+        ExecType::Cancelled => Execution::Cancelled,
+        ExecType::Replaced => Execution::Replaced,
+        ExecType::Rejected => Execution::Rejected(r.i32(67)),
+        ExecType::Expired => Execution::Expired,
+        ExecType::Restated => Execution::Restated,
+        ExecType::Trade => Execution::Trade(r.code(118), r.code(136)),
+        ExecType::TradeCancel => Execution::TradeCancel(r.code(118)),
+    }
+}
+
+// The reject code, or nulls.
+#[tactic(auto, unfolding(layout::specs::Writing::field_bytes, layout::specs::Layout::taken))]
+fn put_reject_code(out: &mut [u8], at: usize, execution: &Execution)
+    requires { at + 4 ≤ length out.old }
+    ensures wrote { out.new ≡ over out.old at (field_bytes (reject_field at) (execution_reject execution.now)) }
+    ensures holds { Holds (λ n. exec_type_code (kind_of execution.now)) (reject_field at)
+        (execution_reject execution.now) }
+{
+    match execution {
+        Execution::Rejected(code) => put_i32(out, at, code),
+        _ => put_blank(out, at, 4),
+    }
+}
+
+// Whether the trade added or removed liquidity, or a null.
+#[tactic(auto, unfolding(layout::specs::Writing::field_bytes, layout::specs::Layout::taken))]
+fn put_liquidity(out: &mut [u8], at: usize, execution: &Execution)
+    requires { at + 1 ≤ length out.old }
+    ensures wrote { out.new ≡ over out.old at (field_bytes (liquidity_field at) (execution_liquidity execution.now)) }
+    ensures holds { Holds (λ n. exec_type_code (kind_of execution.now)) (liquidity_field at)
+        (execution_liquidity execution.now) }
+{
+    match execution {
+        Execution::Trade(liquidity, _) | Execution::TradeCancel(liquidity) => put_code(
+            out, at, liquidity,
+        ),
+        _ => put_blank(out, at, 1),
+    }
+}
+
+// Whether the executed part was shown, or a null.
+#[tactic(auto, unfolding(layout::specs::Writing::field_bytes, layout::specs::Layout::taken))]
+fn put_trade_type(out: &mut [u8], at: usize, execution: &Execution)
+    requires { at + 1 ≤ length out.old }
+    ensures wrote { out.new ≡ over out.old at (field_bytes (trade_field at) (execution_trade execution.now)) }
+    ensures holds { Holds (λ n. exec_type_code (kind_of execution.now)) (trade_field at)
+        (execution_trade execution.now) }
+{
+    match execution {
+        Execution::Trade(_, trade_type) => put_code(out, at, trade_type),
+        _ => put_blank(out, at, 1),
+    }
+}

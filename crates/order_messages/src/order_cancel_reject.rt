@@ -1,0 +1,104 @@
+// Order Cancel Reject: type 9, 63 bytes.
+ghost use Rattle.std.specs.Prelude.{◌≡◌, ◌≤◌, length, refl};
+ghost use Rattle.std.proofs.Common.{rules};
+ghost use Rattle.order_messages.specs.declared.order_cancel_reject.TheConstants.{LETTER, TABLE, TOTAL};
+
+use codes::lists::Codes;
+use codes::session::Partition;
+use layout::field::{Field, Form};
+use layout::framed::{Framed, Layout};
+use layout::put::{put_blank, put_code, put_i32, put_text, put_time};
+use layout::reader::Reader;
+use layout::take::{code_at, i32_at, text_at, time_at};
+use texts::text::Text;
+use texts::values::Time;
+
+/// A cancel or a replacement that was refused.
+#[derive(Clone, Copy, Debug)]
+pub struct OrderCancelReject<'a> {
+    pub partition: Partition,
+    /// Its number among the reports of its partition.
+    pub sequence: i32,
+    pub client_order_id: Text<'a, 20>,
+    pub order_id: Text<'a, 12>,
+    pub reason: i32,
+    pub transact_time: Time,
+}
+
+/// The byte that names the type.
+pub const LETTER: u8 = b'9';
+
+/// How many bytes it has in all.
+pub const TOTAL: u16 = 63;
+
+/// Its fields, one behind the other.
+pub const TABLE: [Field; 7] = [
+    Field::Always(4, Form::Code(Codes::Partitions)),
+    Field::Always(5, Form::Int32),
+    Field::Always(9, Form::Text(20)),
+    Field::Always(29, Form::Text(12)),
+    Field::Always(41, Form::Int32),
+    Field::Always(45, Form::Time),
+    Field::Always(53, Form::Reserved(10)),
+];
+
+impl Layout for OrderCancelReject<'_> {
+    ghost table = { TABLE };
+
+    ghost letter = { LETTER };
+
+    ghost total = { TOTAL };
+
+    ghost inside = { refl };
+
+    ghost tiles = { refl };
+
+    ghost headed = { Prim.search rules };
+
+    fn table() -> &'static [Field]
+        ensures { result.now ≡ TABLE }
+    {
+        &TABLE
+    }
+
+    fn letter() -> u8
+        ensures { result ≡ LETTER }
+    {
+        LETTER
+    }
+
+    fn total() -> u16
+        ensures { result ≡ TOTAL }
+    {
+        TOTAL
+    }
+}
+
+impl<'a> Framed<'a> for OrderCancelReject<'a> {
+    ghost use Rattle.order_messages.specs.Reports.{order_cancel_reject_contents, order_cancel_reject_places};
+
+    ghost contents = { λ m. order_cancel_reject_contents m };
+
+    ghost places = { λ m. order_cancel_reject_places m };
+
+    fn fields(r: &Reader<'a>) -> Self {
+        OrderCancelReject {
+            partition: code_at(r, 4),
+            sequence: i32_at(r, 5),
+            client_order_id: text_at(r, 9),
+            order_id: text_at(r, 29),
+            reason: i32_at(r, 41),
+            transact_time: time_at(r, 45),
+        }
+    }
+
+    fn put(&self, out: &mut [u8]) {
+        put_code(out, 4, &self.partition);
+        put_i32(out, 5, &self.sequence);
+        put_text(out, 9, &self.client_order_id);
+        put_text(out, 29, &self.order_id);
+        put_i32(out, 41, &self.reason);
+        put_time(out, 45, &self.transact_time);
+        put_blank(out, 53, 10);
+    }
+}

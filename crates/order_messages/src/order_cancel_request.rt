@@ -1,0 +1,105 @@
+// Order Cancel Request: type F, 73 bytes.
+ghost use Rattle.std.specs.Prelude.{◌≡◌, ◌≤◌, length, refl};
+ghost use Rattle.std.proofs.Common.{rules};
+ghost use Rattle.order_messages.specs.declared.order_cancel_request.TheConstants.{LETTER, TABLE, TOTAL};
+
+use codes::lists::Codes;
+use codes::order::{Book, Side};
+use layout::field::{Field, Form};
+use layout::framed::{Framed, Layout};
+use layout::put::{put_blank, put_code, put_name, put_order, put_text};
+use layout::reader::Reader;
+use layout::take::{code_at, name_at, order_at, text_at};
+use texts::identifiers::OrderId;
+use texts::text::{Name, Text};
+
+/// Cancels an order, named by its Order ID or its current Client Order ID.
+#[derive(Clone, Copy, Debug)]
+pub struct OrderCancelRequest<'a> {
+    /// The identifier of this request.
+    pub client_order_id: Name<'a, 20>,
+    /// The order's Client Order ID, or empty.
+    pub original_id: Text<'a, 20>,
+    pub order_id: Option<OrderId>,
+    pub symbol: Text<'a, 6>,
+    pub side: Side,
+    pub book: Book,
+}
+
+/// The byte that names the type.
+pub const LETTER: u8 = b'F';
+
+/// How many bytes it has in all.
+pub const TOTAL: u16 = 73;
+
+/// Its fields, one behind the other.
+pub const TABLE: [Field; 7] = [
+    Field::Always(4, Form::Name(20)),
+    Field::Always(24, Form::Text(20)),
+    Field::Always(44, Form::Order),
+    Field::Always(56, Form::Text(6)),
+    Field::Always(62, Form::Code(Codes::Sides)),
+    Field::Always(63, Form::Code(Codes::Books)),
+    Field::Always(64, Form::Reserved(9)),
+];
+
+impl Layout for OrderCancelRequest<'_> {
+    ghost table = { TABLE };
+
+    ghost letter = { LETTER };
+
+    ghost total = { TOTAL };
+
+    ghost inside = { refl };
+
+    ghost tiles = { refl };
+
+    ghost headed = { Prim.search rules };
+
+    fn table() -> &'static [Field]
+        ensures { result.now ≡ TABLE }
+    {
+        &TABLE
+    }
+
+    fn letter() -> u8
+        ensures { result ≡ LETTER }
+    {
+        LETTER
+    }
+
+    fn total() -> u16
+        ensures { result ≡ TOTAL }
+    {
+        TOTAL
+    }
+}
+
+impl<'a> Framed<'a> for OrderCancelRequest<'a> {
+    ghost use Rattle.order_messages.specs.Requests.{order_cancel_request_contents, order_cancel_request_places};
+
+    ghost contents = { λ m. order_cancel_request_contents m };
+
+    ghost places = { λ m. order_cancel_request_places m };
+
+    fn fields(r: &Reader<'a>) -> Self {
+        OrderCancelRequest {
+            client_order_id: name_at(r, 4),
+            original_id: text_at(r, 24),
+            order_id: order_at(r, 44),
+            symbol: text_at(r, 56),
+            side: code_at(r, 62),
+            book: code_at(r, 63),
+        }
+    }
+
+    fn put(&self, out: &mut [u8]) {
+        put_name(out, 4, &self.client_order_id);
+        put_text(out, 24, &self.original_id);
+        put_order(out, 44, &self.order_id);
+        put_text(out, 56, &self.symbol);
+        put_code(out, 62, &self.side);
+        put_code(out, 63, &self.book);
+        put_blank(out, 64, 9);
+    }
+}

@@ -1,0 +1,107 @@
+// Order Mass Cancel Report: type r, 56 bytes.
+ghost use Rattle.std.specs.Prelude.{◌≡◌, ◌≤◌, length, refl};
+ghost use Rattle.std.proofs.Common.{rules};
+ghost use Rattle.order_messages.specs.declared.order_mass_cancel_report.TheConstants.{LETTER, TABLE, TOTAL};
+
+use codes::lists::Codes;
+use codes::report::MassResponse;
+use codes::session::Partition;
+use layout::field::{Field, Form};
+use layout::framed::{Framed, Layout};
+use layout::put::{put_blank, put_code, put_i32, put_text, put_time};
+use layout::reader::Reader;
+use layout::take::{code_at, i32_at, text_at, time_at};
+use texts::text::Text;
+use texts::values::Time;
+
+/// Whether a mass cancel was accepted.
+#[derive(Clone, Copy, Debug)]
+pub struct OrderMassCancelReport<'a> {
+    pub partition: Partition,
+    /// Its number among the reports of its partition.
+    pub sequence: i32,
+    pub client_order_id: Text<'a, 20>,
+    pub response: MassResponse,
+    pub reason: i32,
+    pub transact_time: Time,
+}
+
+/// The byte that names the type.
+pub const LETTER: u8 = b'r';
+
+/// How many bytes it has in all.
+pub const TOTAL: u16 = 56;
+
+/// Its fields, one behind the other.
+pub const TABLE: [Field; 8] = [
+    Field::Always(4, Form::Code(Codes::Partitions)),
+    Field::Always(5, Form::Int32),
+    Field::Always(9, Form::Text(20)),
+    Field::Always(29, Form::Code(Codes::MassResponses)),
+    Field::Always(30, Form::Int32),
+    Field::Always(34, Form::Reserved(4)),
+    Field::Always(38, Form::Time),
+    Field::Always(46, Form::Reserved(10)),
+];
+
+impl Layout for OrderMassCancelReport<'_> {
+    ghost table = { TABLE };
+
+    ghost letter = { LETTER };
+
+    ghost total = { TOTAL };
+
+    ghost inside = { refl };
+
+    ghost tiles = { refl };
+
+    ghost headed = { Prim.search rules };
+
+    fn table() -> &'static [Field]
+        ensures { result.now ≡ TABLE }
+    {
+        &TABLE
+    }
+
+    fn letter() -> u8
+        ensures { result ≡ LETTER }
+    {
+        LETTER
+    }
+
+    fn total() -> u16
+        ensures { result ≡ TOTAL }
+    {
+        TOTAL
+    }
+}
+
+impl<'a> Framed<'a> for OrderMassCancelReport<'a> {
+    ghost use Rattle.order_messages.specs.Reports.{order_mass_cancel_report_contents, order_mass_cancel_report_places};
+
+    ghost contents = { λ m. order_mass_cancel_report_contents m };
+
+    ghost places = { λ m. order_mass_cancel_report_places m };
+
+    fn fields(r: &Reader<'a>) -> Self {
+        OrderMassCancelReport {
+            partition: code_at(r, 4),
+            sequence: i32_at(r, 5),
+            client_order_id: text_at(r, 9),
+            response: code_at(r, 29),
+            reason: i32_at(r, 30),
+            transact_time: time_at(r, 38),
+        }
+    }
+
+    fn put(&self, out: &mut [u8]) {
+        put_code(out, 4, &self.partition);
+        put_i32(out, 5, &self.sequence);
+        put_text(out, 9, &self.client_order_id);
+        put_code(out, 29, &self.response);
+        put_i32(out, 30, &self.reason);
+        put_blank(out, 34, 4);
+        put_time(out, 38, &self.transact_time);
+        put_blank(out, 46, 10);
+    }
+}

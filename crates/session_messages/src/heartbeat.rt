@@ -1,0 +1,61 @@
+// Heartbeat: type 0, 4 bytes.
+ghost use Rattle.std.specs.Prelude.{◌≡◌, ◌≤◌, length, refl};
+ghost use Rattle.std.proofs.Common.{rules};
+ghost use Rattle.session_messages.specs.declared.heartbeat.TheConstants.{LETTER, TABLE, TOTAL};
+
+use layout::field::Field;
+use layout::framed::{Framed, Layout};
+use layout::reader::Reader;
+
+/// A sign of life.
+#[derive(Clone, Copy, Debug)]
+pub struct Heartbeat;
+
+/// The byte that names the type.
+pub const LETTER: u8 = b'0';
+
+/// How many bytes it has in all.
+pub const TOTAL: u16 = 4;
+
+/// Its fields, one behind the other.
+pub const TABLE: [Field; 0] = [];
+
+impl Layout for Heartbeat {
+    ghost table = { TABLE };
+
+    ghost letter = { LETTER };
+
+    ghost total = { TOTAL };
+
+    ghost inside = { refl };
+
+    ghost tiles = { refl };
+
+    ghost headed = { Prim.search rules };
+
+    fn table() -> &'static [Field] {
+        &TABLE
+    }
+
+    fn letter() -> u8 {
+        LETTER
+    }
+
+    fn total() -> u16 {
+        TOTAL
+    }
+}
+
+impl<'a> Framed<'a> for Heartbeat {
+    ghost use Rattle.session_messages.specs.Session.{heartbeat_contents, heartbeat_places};
+
+    ghost contents = { λ m. heartbeat_contents m };
+
+    ghost places = { λ m. heartbeat_places m };
+
+    fn fields(_r: &Reader<'a>) -> Self {
+        Heartbeat
+    }
+
+    fn put(&self, _out: &mut [u8]) {}
+}

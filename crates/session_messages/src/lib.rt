@@ -1,0 +1,11 @@
+// The messages of a session: what each one carries, its table of fields, its reader and its writer.
+#![tactic(auto)]
+
+pub mod heartbeat;
+pub mod logon;
+pub mod logon_reply;
+pub mod logout;
+pub mod missed_message_report;
+pub mod missed_message_request;
+pub mod missed_message_request_ack;
+pub mod reject;

@@ -1,0 +1,92 @@
+// Logon: type A, 80 bytes.
+ghost use Rattle.std.specs.Prelude.{◌≡◌, ◌≤◌, length, refl};
+ghost use Rattle.std.proofs.Common.{rules};
+ghost use Rattle.session_messages.specs.declared.logon.TheConstants.{LETTER, TABLE, TOTAL};
+
+use codes::lists::Codes;
+use codes::session::Version;
+use layout::field::{Field, Form};
+use layout::framed::{Framed, Layout};
+use layout::put::{put_code, put_text};
+use layout::reader::Reader;
+use layout::take::{code_at, text_at};
+use texts::text::Text;
+
+/// Asks for a session.
+#[derive(Clone, Copy, Debug)]
+pub struct Logon<'a> {
+    pub comp_id: Text<'a, 25>,
+    pub password: Text<'a, 25>,
+    pub new_password: Text<'a, 25>,
+    pub version: Version,
+}
+
+/// The byte that names the type.
+pub const LETTER: u8 = b'A';
+
+/// How many bytes it has in all.
+pub const TOTAL: u16 = 80;
+
+/// Its fields, one behind the other.
+pub const TABLE: [Field; 4] = [
+    Field::Always(4, Form::Text(25)),
+    Field::Always(29, Form::Text(25)),
+    Field::Always(54, Form::Text(25)),
+    Field::Always(79, Form::Code(Codes::Versions)),
+];
+
+impl Layout for Logon<'_> {
+    ghost table = { TABLE };
+
+    ghost letter = { LETTER };
+
+    ghost total = { TOTAL };
+
+    ghost inside = { refl };
+
+    ghost tiles = { refl };
+
+    ghost headed = { Prim.search rules };
+
+    fn table() -> &'static [Field]
+        ensures { result.now ≡ TABLE }
+    {
+        &TABLE
+    }
+
+    fn letter() -> u8
+        ensures { result ≡ LETTER }
+    {
+        LETTER
+    }
+
+    fn total() -> u16
+        ensures { result ≡ TOTAL }
+    {
+        TOTAL
+    }
+}
+
+impl<'a> Framed<'a> for Logon<'a> {
+    ghost use Rattle.session_messages.specs.Session.{logon_contents, logon_places};
+
+    ghost contents = { λ m. logon_contents m };
+
+    ghost places = { λ m. logon_places m };
+
+    fn fields(r: &Reader<'a>) -> Self {
+        Logon {
+            comp_id: text_at(r, 4),
+            password: text_at(r, 29),
+            new_password: text_at(r, 54),
+            version: code_at(r, 79),
+        }
+    }
+
+    fn put(&self, out: &mut [u8]) {
+        put_text(out, 4, &self.comp_id);
+        put_text(out, 29, &self.password);
+        put_text(out, 54, &self.new_password);
+        put_code(out, 79, &self.version);
+    }
+}

@@ -1,0 +1,84 @@
+// Logon Reply: type B, 38 bytes.
+ghost use Rattle.std.specs.Prelude.{◌≡◌, ◌≤◌, length, refl};
+ghost use Rattle.std.proofs.Common.{rules};
+ghost use Rattle.session_messages.specs.declared.logon_reply.TheConstants.{LETTER, TABLE, TOTAL};
+
+use layout::field::{Field, Form};
+use layout::framed::{Framed, Layout};
+use layout::put::{put_i32, put_text};
+use layout::reader::Reader;
+use layout::take::{i32_at, text_at};
+use texts::text::Text;
+
+/// The answer to a Logon.
+#[derive(Clone, Copy, Debug)]
+pub struct LogonReply<'a> {
+    /// 0 where the Logon was accepted, else why not.
+    pub reject_code: i32,
+    /// In how many days the password expires.
+    pub expiry_days: Text<'a, 30>,
+}
+
+/// The byte that names the type.
+pub const LETTER: u8 = b'B';
+
+/// How many bytes it has in all.
+pub const TOTAL: u16 = 38;
+
+/// Its fields, one behind the other.
+pub const TABLE: [Field; 2] = [
+    Field::Always(4, Form::Int32),
+    Field::Always(8, Form::Text(30)),
+];
+
+impl Layout for LogonReply<'_> {
+    ghost table = { TABLE };
+
+    ghost letter = { LETTER };
+
+    ghost total = { TOTAL };
+
+    ghost inside = { refl };
+
+    ghost tiles = { refl };
+
+    ghost headed = { Prim.search rules };
+
+    fn table() -> &'static [Field]
+        ensures { result.now ≡ TABLE }
+    {
+        &TABLE
+    }
+
+    fn letter() -> u8
+        ensures { result ≡ LETTER }
+    {
+        LETTER
+    }
+
+    fn total() -> u16
+        ensures { result ≡ TOTAL }
+    {
+        TOTAL
+    }
+}
+
+impl<'a> Framed<'a> for LogonReply<'a> {
+    ghost use Rattle.session_messages.specs.Session.{logon_reply_contents, logon_reply_places};
+
+    ghost contents = { λ m. logon_reply_contents m };
+
+    ghost places = { λ m. logon_reply_places m };
+
+    fn fields(r: &Reader<'a>) -> Self {
+        LogonReply {
+            reject_code: i32_at(r, 4),
+            expiry_days: text_at(r, 8),
+        }
+    }
+
+    fn put(&self, out: &mut [u8]) {
+        put_i32(out, 4, &self.reject_code);
+        put_text(out, 8, &self.expiry_days);
+    }
+}

@@ -1,0 +1,76 @@
+// Logout: type 5, 24 bytes.
+ghost use Rattle.std.specs.Prelude.{◌≡◌, ◌≤◌, length, refl};
+ghost use Rattle.std.proofs.Common.{rules};
+ghost use Rattle.session_messages.specs.declared.logout.TheConstants.{LETTER, TABLE, TOTAL};
+
+use layout::field::{Field, Form};
+use layout::framed::{Framed, Layout};
+use layout::put::put_text;
+use layout::reader::Reader;
+use layout::take::text_at;
+use texts::text::Text;
+
+/// Ends a session.
+#[derive(Clone, Copy, Debug)]
+pub struct Logout<'a> {
+    pub reason: Text<'a, 20>,
+}
+
+/// The byte that names the type.
+pub const LETTER: u8 = b'5';
+
+/// How many bytes it has in all.
+pub const TOTAL: u16 = 24;
+
+/// Its fields, one behind the other.
+pub const TABLE: [Field; 1] = [Field::Always(4, Form::Text(20))];
+
+impl Layout for Logout<'_> {
+    ghost table = { TABLE };
+
+    ghost letter = { LETTER };
+
+    ghost total = { TOTAL };
+
+    ghost inside = { refl };
+
+    ghost tiles = { refl };
+
+    ghost headed = { Prim.search rules };
+
+    fn table() -> &'static [Field]
+        ensures { result.now ≡ TABLE }
+    {
+        &TABLE
+    }
+
+    fn letter() -> u8
+        ensures { result ≡ LETTER }
+    {
+        LETTER
+    }
+
+    fn total() -> u16
+        ensures { result ≡ TOTAL }
+    {
+        TOTAL
+    }
+}
+
+impl<'a> Framed<'a> for Logout<'a> {
+    ghost use Rattle.session_messages.specs.Session.{logout_contents, logout_places};
+
+    ghost contents = { λ m. logout_contents m };
+
+    ghost places = { λ m. logout_places m };
+
+    fn fields(r: &Reader<'a>) -> Self {
+        Logout {
+            reason: text_at(r, 4),
+        }
+    }
+
+    fn put(&self, out: &mut [u8]) {
+        put_text(out, 4, &self.reason);
+    }
+}

@@ -1,0 +1,71 @@
+// Missed Message Report: type P, 5 bytes.
+ghost use Rattle.std.specs.Prelude.{◌≡◌, ◌≤◌, length, refl};
+ghost use Rattle.std.proofs.Common.{rules};
+ghost use Rattle.session_messages.specs.declared.missed_message_report.TheConstants.{LETTER, TABLE, TOTAL};
+
+use codes::lists::Codes;
+use codes::session::ReportResponse;
+use layout::field::{Field, Form};
+use layout::framed::{Framed, Layout};
+use layout::put::put_code;
+use layout::reader::Reader;
+use layout::take::code_at;
+
+/// How a download ended.
+#[derive(Clone, Copy, Debug)]
+pub struct MissedMessageReport {
+    pub response: ReportResponse,
+}
+
+/// The byte that names the type.
+pub const LETTER: u8 = b'P';
+
+/// How many bytes it has in all.
+pub const TOTAL: u16 = 5;
+
+/// Its fields, one behind the other.
+pub const TABLE: [Field; 1] = [Field::Always(4, Form::Code(Codes::ReportResponses))];
+
+impl Layout for MissedMessageReport {
+    ghost table = { TABLE };
+
+    ghost letter = { LETTER };
+
+    ghost total = { TOTAL };
+
+    ghost inside = { refl };
+
+    ghost tiles = { refl };
+
+    ghost headed = { Prim.search rules };
+
+    fn table() -> &'static [Field] {
+        &TABLE
+    }
+
+    fn letter() -> u8 {
+        LETTER
+    }
+
+    fn total() -> u16 {
+        TOTAL
+    }
+}
+
+impl<'a> Framed<'a> for MissedMessageReport {
+    ghost use Rattle.session_messages.specs.Session.{missed_message_report_contents, missed_message_report_places};
+
+    ghost contents = { λ m. missed_message_report_contents m };
+
+    ghost places = { λ m. missed_message_report_places m };
+
+    fn fields(r: &Reader<'a>) -> Self {
+        MissedMessageReport {
+            response: code_at(r, 4),
+        }
+    }
+
+    fn put(&self, out: &mut [u8]) {
+        put_code(out, 4, &self.response);
+    }
+}

@@ -1,0 +1,78 @@
+// Missed Message Request: type M, 9 bytes.
+ghost use Rattle.std.specs.Prelude.{◌≡◌, ◌≤◌, length, refl};
+ghost use Rattle.std.proofs.Common.{rules};
+ghost use Rattle.session_messages.specs.declared.missed_message_request.TheConstants.{LETTER, TABLE, TOTAL};
+
+use layout::field::{Field, Form};
+use layout::framed::{Framed, Layout};
+use layout::put::{put_i8, put_sequence};
+use layout::reader::Reader;
+use layout::sequence::LastSequence;
+use layout::take::{i8_at, sequence_at};
+
+/// Asks for a download of the reports behind the last one seen.
+#[derive(Clone, Copy, Debug)]
+pub struct MissedMessageRequest {
+    /// Any partition may be named, also one that there is none of.
+    pub partition: i8,
+    /// The number of the last report seen, 0 for none.
+    pub last: LastSequence,
+}
+
+/// The byte that names the type.
+pub const LETTER: u8 = b'M';
+
+/// How many bytes it has in all.
+pub const TOTAL: u16 = 9;
+
+/// Its fields, one behind the other.
+pub const TABLE: [Field; 2] = [
+    Field::Always(4, Form::Int8),
+    Field::Always(5, Form::Sequence),
+];
+
+impl Layout for MissedMessageRequest {
+    ghost table = { TABLE };
+
+    ghost letter = { LETTER };
+
+    ghost total = { TOTAL };
+
+    ghost inside = { refl };
+
+    ghost tiles = { refl };
+
+    ghost headed = { Prim.search rules };
+
+    fn table() -> &'static [Field] {
+        &TABLE
+    }
+
+    fn letter() -> u8 {
+        LETTER
+    }
+
+    fn total() -> u16 {
+        TOTAL
+    }
+}
+
+impl<'a> Framed<'a> for MissedMessageRequest {
+    ghost use Rattle.session_messages.specs.Session.{missed_message_request_contents, missed_message_request_places};
+
+    ghost contents = { λ m. missed_message_request_contents m };
+
+    ghost places = { λ m. missed_message_request_places m };
+
+    fn fields(r: &Reader<'a>) -> Self {
+        MissedMessageRequest {
+            partition: i8_at(r, 4),
+            last: sequence_at(r, 5),
+        }
+    }
+
+    fn put(&self, out: &mut [u8]) {
+        put_i8(out, 4, &self.partition);
+        put_sequence(out, 5, &self.last);
+    }
+}

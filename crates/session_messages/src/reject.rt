@@ -1,0 +1,92 @@
+// Reject: type 3, 59 bytes.
+ghost use Rattle.std.specs.Prelude.{◌≡◌, ◌≤◌, length, refl};
+ghost use Rattle.std.proofs.Common.{rules};
+ghost use Rattle.session_messages.specs.declared.reject.TheConstants.{LETTER, TABLE, TOTAL};
+
+use layout::field::{Field, Form};
+use layout::framed::{Framed, Layout};
+use layout::put::{put_i32, put_text, put_u8};
+use layout::reader::Reader;
+use layout::take::{i32_at, text_at, u8_at};
+use texts::text::Text;
+
+/// A message that was not taken, by its type and its Client Order ID where they are known.
+#[derive(Clone, Copy, Debug)]
+pub struct Reject<'a> {
+    /// Why: the number of the check that the message failed.
+    pub code: i32,
+    pub reason: Text<'a, 30>,
+    /// The type of the message, or 0.
+    pub message_type: u8,
+    pub client_order_id: Text<'a, 20>,
+}
+
+/// The byte that names the type.
+pub const LETTER: u8 = b'3';
+
+/// How many bytes it has in all.
+pub const TOTAL: u16 = 59;
+
+/// Its fields, one behind the other.
+pub const TABLE: [Field; 4] = [
+    Field::Always(4, Form::Int32),
+    Field::Always(8, Form::Text(30)),
+    Field::Always(38, Form::Alpha),
+    Field::Always(39, Form::Text(20)),
+];
+
+impl Layout for Reject<'_> {
+    ghost table = { TABLE };
+
+    ghost letter = { LETTER };
+
+    ghost total = { TOTAL };
+
+    ghost inside = { refl };
+
+    ghost tiles = { refl };
+
+    ghost headed = { Prim.search rules };
+
+    fn table() -> &'static [Field]
+        ensures { result.now ≡ TABLE }
+    {
+        &TABLE
+    }
+
+    fn letter() -> u8
+        ensures { result ≡ LETTER }
+    {
+        LETTER
+    }
+
+    fn total() -> u16
+        ensures { result ≡ TOTAL }
+    {
+        TOTAL
+    }
+}
+
+impl<'a> Framed<'a> for Reject<'a> {
+    ghost use Rattle.session_messages.specs.Session.{reject_contents, reject_places};
+
+    ghost contents = { λ m. reject_contents m };
+
+    ghost places = { λ m. reject_places m };
+
+    fn fields(r: &Reader<'a>) -> Self {
+        Reject {
+            code: i32_at(r, 4),
+            reason: text_at(r, 8),
+            message_type: u8_at(r, 38),
+            client_order_id: text_at(r, 39),
+        }
+    }
+
+    fn put(&self, out: &mut [u8]) {
+        put_i32(out, 4, &self.code);
+        put_text(out, 8, &self.reason);
+        put_u8(out, 38, self.message_type);
+        put_text(out, 39, &self.client_order_id);
+    }
+}
