@@ -2,8 +2,8 @@
 use crate::state::{Carried, State, front};
 use bench_account::answer::{Answer, Trade};
 use bench_script::command::Call;
-use calls::both::Done;
-use calls::venue::{Done as VenueDone, Reply};
+use call::both_ends::Done;
+use call::venue_side::{Done as VenueDone, Reply};
 use gateway::fault::GatewayFault;
 use gateway::gateway::Gateway;
 use matching::matcher::Matcher;

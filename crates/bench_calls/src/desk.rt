@@ -4,7 +4,7 @@ use bench_account::answer::Answer;
 use bench_account::compared::Seen;
 use bench_account::listing::{Followed, Place};
 use bench_script::command::Desk as Call;
-use calls::both::{Asked, Done};
+use call::both_ends::{Asked, Done};
 use codes::code::Code;
 use codes::session::Partition;
 use follower::answer::{Live, Recovered};

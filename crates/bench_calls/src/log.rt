@@ -1,6 +1,6 @@
 // What each call of a day was given and answered.
-use calls::both::{Asked, Done};
-use calls::venue::{Done as VenueDone, Reply};
+use call::both_ends::{Asked, Done};
+use call::venue_side::{Done as VenueDone, Reply};
 use follower::answer::{Live, Recovered};
 use follower::fault::FollowerFault;
 use gateway::fault::GatewayFault;

@@ -21,9 +21,9 @@ use Rattle.ends.specs.Allowed.{Allowed, Line, accepted, quiet, behind, after_log
 use Rattle.ends.specs.Laws.{is_full, state_of}
 use Rattle.ends.specs.Runs.{Desk, Does, Runs, Tells, fresh, blank}
 use Rattle.ends.specs.declared.allowed.Breach.TheVariants.{NoLogon}
-use Rattle.calls.specs.declared.both.Asked.{Asked}
-use Rattle.calls.specs.declared.both.Done.{Done}
-use Rattle.calls.specs.declared.both.Done.TheVariants as done
+use Rattle.call.specs.declared.both_ends.Asked.{Asked}
+use Rattle.call.specs.declared.both_ends.Done.{Done}
+use Rattle.call.specs.declared.both_ends.Done.TheVariants as done
 use Rattle.follower.proofs.Quiets.{stays_quiet}
 use Rattle.follower.specs.Asking.{request, ReadBack, is_free, asking_of, asking, partition_of, asks_of}
 use Rattle.follower.specs.Following.{Following, turned, live_step, recovered_step}
@@ -47,9 +47,9 @@ use Rattle.line.proofs.Walking.{hands_by}
 use Rattle.line.specs.Laws.{line_of}
 use Rattle.line.specs.Runs as venue
 use Rattle.line.specs.Runs.{bytes_of}
-use Rattle.calls.specs.declared.venue.Done.{Done as VenueDone}
-use Rattle.calls.specs.declared.venue.Done.TheVariants as call
-use Rattle.calls.specs.declared.venue.Reply.{Reply}
+use Rattle.call.specs.declared.venue_side.Done.{Done as VenueDone}
+use Rattle.call.specs.declared.venue_side.Done.TheVariants as call
+use Rattle.call.specs.declared.venue_side.Reply.{Reply}
 use Rattle.partitions.specs.PerPartition.{at}
 use Rattle.partitions.specs.declared.per_partition.PerPartition.{PerPartition}
 use Rattle.sessions.specs.Sessions.{Sound as SoundSession, fresh as fresh_session}

@@ -1,8 +1,8 @@
 -- A run and one call more, and the gateway's part of a run. Assumes nothing.
 use Rattle.std.proofs.Common.{◌≡◌, ◌≤◌, List, [], ◌∷◌, ◌++◌, length, refl, subst}
 use Rattle.ends.specs.Runs.{Desk, Does, Runs, Tells, venue_log}
-use Rattle.calls.specs.declared.both.Done.{Done}
-use Rattle.calls.specs.declared.both.Done.TheVariants as done
+use Rattle.call.specs.declared.both_ends.Done.{Done}
+use Rattle.call.specs.declared.both_ends.Done.TheVariants as done
 use Rattle.follower.specs.Owing.{Tied}
 use Rattle.gateway.specs.State.{State}
 use Rattle.limits.specs.declared.TheConstants.{ORDERS}

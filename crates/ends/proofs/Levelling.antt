@@ -10,8 +10,8 @@ use Rattle.ends.specs.Agreement.{DownloadsLevel, IsComplete, Took, is_unfit}
 use Rattle.ends.specs.Allowed.{Line, quiet, after_call, after_log, onward}
 use Rattle.ends.specs.Laws.{state_of}
 use Rattle.ends.specs.Runs.{Desk, Does}
-use Rattle.calls.specs.declared.both.Done.{Done}
-use Rattle.calls.specs.declared.both.Done.TheVariants as done
+use Rattle.call.specs.declared.both_ends.Done.{Done}
+use Rattle.call.specs.declared.both_ends.Done.TheVariants as done
 use Rattle.follower.specs.Folding.{Reached, reached, caught_up}
 use Rattle.follower.specs.Following.{Following, Step, levelled, recovering, recovered_step, refused, ended}
 use Rattle.follower.specs.Hearing.{heard_in}

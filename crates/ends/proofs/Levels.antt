@@ -10,8 +10,8 @@ use Rattle.codes.specs.declared.session.ReportResponse.{ReportResponse}
 use Rattle.codes.specs.declared.session.ReportResponse.TheVariants as ending
 use Rattle.ends.specs.Laws.{StaysLevel, StaysBehind, state_of, is_full, gives}
 use Rattle.ends.specs.Runs.{Desk, Does, Runs, fresh, blank}
-use Rattle.calls.specs.declared.both.Done.{Done}
-use Rattle.calls.specs.declared.both.Done.TheVariants as done
+use Rattle.call.specs.declared.both_ends.Done.{Done}
+use Rattle.call.specs.declared.both_ends.Done.TheVariants as done
 use Rattle.follower.specs.Asking.{asks_of, asking}
 use Rattle.follower.specs.Folding.{Reached, reached, caught_up}
 use Rattle.follower.specs.Following.{Following, Step, turned, answered, folded, folded_to, held, overrun, live_by, lived, acked, acked_of, same, recovered_of, reported, levelled, ended, ended_of, rejected, recovering, live_step, recovered_step, refused}

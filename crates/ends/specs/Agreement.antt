@@ -9,8 +9,8 @@ use Rattle.ends.specs.Allowed.{Allowed}
 use Rattle.ends.specs.Laws.{state_of}
 use Rattle.ends.specs.Runs.{Desk, Does, Runs, fresh}
 use Rattle.ends.specs.Tallied.{there, Tallied}
-use Rattle.calls.specs.declared.both.Done.{Done}
-use Rattle.calls.specs.declared.both.Done.TheVariants as done
+use Rattle.call.specs.declared.both_ends.Done.{Done}
+use Rattle.call.specs.declared.both_ends.Done.TheVariants as done
 use Rattle.follower.specs.Hearing.{heard_in}
 use Rattle.follower.specs.Numbers.{number_of}
 use Rattle.follower.specs.declared.fault.FollowerFault.{FollowerFault}

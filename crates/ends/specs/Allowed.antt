@@ -7,16 +7,16 @@ use Rattle.answers.specs.declared.answer.Answer.TheVariants.{LogonReply}
 use Rattle.ends.specs.Laws.{is_full}
 use Rattle.ends.specs.declared.allowed.Breach.{Breach}
 use Rattle.ends.specs.declared.allowed.Breach.TheVariants.{StillUp, NoLogon, LiveOutOfTurn, RecoveredOutOfTurn, NotAsked}
-use Rattle.calls.specs.declared.both.Done.{Done}
-use Rattle.calls.specs.declared.both.Done.TheVariants as done
+use Rattle.call.specs.declared.both_ends.Done.{Done}
+use Rattle.call.specs.declared.both_ends.Done.TheVariants as done
 use Rattle.follower.specs.Hearing.{heard_in}
 use Rattle.follower.specs.declared.fault.FollowerFault.{FollowerFault}
 use Rattle.follower.specs.declared.heard.Heard.{Heard}
 use Rattle.follower.specs.declared.heard.Heard.TheVariants.{Report, Ack, End, Reject, Nothing}
 use Rattle.layout.specs.declared.fault.Fault.{Fault}
 use Rattle.line.specs.Runs.{bytes_of}
-use Rattle.calls.specs.declared.venue.Done.{Done as VenueDone}
-use Rattle.calls.specs.declared.venue.Done.TheVariants as venue
+use Rattle.call.specs.declared.venue_side.Done.{Done as VenueDone}
+use Rattle.call.specs.declared.venue_side.Done.TheVariants as venue
 
 abbrev pub Message : Type 0
 Message = List ℕ

@@ -3,8 +3,8 @@ use Rattle.std.specs.Prelude.{◌≡◌, Bool, true, false, List, Err, Result}
 use Rattle.std.specs.List.{list_any}
 use Rattle.codes.specs.declared.session.Partition.{Partition}
 use Rattle.ends.specs.Runs.{Desk, Does, Runs, fresh}
-use Rattle.calls.specs.declared.both.Done.{Done}
-use Rattle.calls.specs.declared.both.Done.TheVariants as done
+use Rattle.call.specs.declared.both_ends.Done.{Done}
+use Rattle.call.specs.declared.both_ends.Done.TheVariants as done
 use Rattle.follower.specs.declared.answer.Live.{Live}
 use Rattle.follower.specs.declared.fault.FollowerFault.{FollowerFault}
 use Rattle.follower.specs.declared.fault.FollowerFault.TheVariants.{HoldFull}

@@ -1,9 +1,9 @@
 -- Runs of both ends. Assumes nothing.
 use Rattle.std.specs.Prelude.{◌≡◌, ℕ, ◌≤◌, true, false, List, [], ◌∷◌, length, replicate, IfOk}
-use Rattle.calls.specs.declared.both.Call.{Call}
-use Rattle.calls.specs.declared.both.Call.TheVariants as call
-use Rattle.calls.specs.declared.both.Done.{Done}
-use Rattle.calls.specs.declared.both.Done.TheVariants as done
+use Rattle.call.specs.declared.both_ends.Call.{Call}
+use Rattle.call.specs.declared.both_ends.Call.TheVariants as call
+use Rattle.call.specs.declared.both_ends.Done.{Done}
+use Rattle.call.specs.declared.both_ends.Done.TheVariants as done
 use Rattle.follower.specs.Asking.{asks, asking, ReadBack}
 use Rattle.follower.specs.Following.{Following, start, turned, live_step, recovered_step}
 use Rattle.follower.specs.Hearing.{heard_in}
@@ -14,7 +14,7 @@ use Rattle.wire.specs.declared.message.TheConstants.{BUFFER}
 use Rattle.gateway.specs.State.{State}
 use Rattle.limits.specs.declared.TheConstants.{ORDERS}
 use Rattle.line.specs.Runs as venue
-use Rattle.calls.specs.declared.venue.Done.{Done as VenueDone}
+use Rattle.call.specs.declared.venue_side.Done.{Done as VenueDone}
 use Rattle.partitions.specs.PerPartition.{at}
 use Rattle.venue.specs.View.{Sound}
 

@@ -4,8 +4,8 @@ ghost use Rattle.ends.specs.Allowed.{after_log, quiet};
 ghost use Rattle.ends.specs.Breaches.{breach_text};
 ghost use Rattle.ends.specs.Deciding.{verdict};
 
-use calls::both::Done;
 use crate::watch::Watch;
+use call::both_ends::Done;
 use std::alloc::{AllocError, Global};
 
 /// Why the line does not allow a call: an accepted Logon while the follower is up, an up with no new accepted Logon, a

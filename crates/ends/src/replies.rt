@@ -6,9 +6,9 @@ ghost use Rattle.ends.specs.Laws.{is_full};
 ghost use Rattle.line.specs.Runs.{bytes_of};
 
 use answers::answer::Answer;
+use call::venue_side::Reply;
 use follower::answer::Live;
 use follower::fault::FollowerFault;
-use calls::venue::Reply;
 use wire::message::BUFFER;
 
 /// Whether two messages have the same bytes.

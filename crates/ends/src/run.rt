@@ -7,7 +7,7 @@ ghost use Rattle.follower.specs.Owing.{Tied};
 ghost use Rattle.gateway.specs.State.{fresh as fresh_state};
 ghost use Rattle.venue.specs.View.{fresh as fresh_venue};
 
-use calls::both::{Asked, Call, Done};
+use call::both_ends::{Asked, Call, Done};
 use configuration::config::{Config, StartRefusal};
 use follower::pending::Pending;
 use follower::state::Follower;

@@ -3,12 +3,12 @@ ghost use Rattle.std.specs.Prelude.{◌≡◌, IfOk};
 ghost use Rattle.follower.specs.Hearing.{heard_in};
 
 use crate::allowed::Breach;
-use calls::both::{Asked, Done};
 use crate::replies::{bytes, is_accepted, is_full};
 use crate::under_way::UnderWay;
+use call::both_ends::{Asked, Done};
+use call::venue_side::Done as VenueDone;
 use follower::heard::Heard;
 use follower::reading::hear;
-use calls::venue::Done as VenueDone;
 use std::alloc::{AllocError, Global};
 use std::marker::Model;
 use wire::message::BUFFER;

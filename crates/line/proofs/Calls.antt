@@ -18,8 +18,8 @@ use Rattle.line.proofs.Walking.{hears_by, hands_by}
 use Rattle.line.proofs.Moving.{Moving, still, onward, wider, changes}
 use Rattle.line.specs.Conservation.{Move, May, MayBy, MayStep, MayUndo, MayLose}
 use Rattle.line.specs.Runs.{Does, blank}
-use Rattle.calls.specs.declared.venue.Done.{Done}
-use Rattle.calls.specs.declared.venue.Done.TheVariants as done
+use Rattle.call.specs.declared.venue_side.Done.{Done}
+use Rattle.call.specs.declared.venue_side.Done.TheVariants as done
 use Rattle.session_messages.specs.declared.missed_message_request.MissedMessageRequest.{MissedMessageRequest}
 use Rattle.orders.specs.declared.row.Row.{Row}
 use Rattle.orders.specs.declared.trade.Trade.{Trade}

@@ -7,7 +7,7 @@ use Rattle.line.proofs.Calls.{call_moves}
 use Rattle.line.proofs.Moving.{moved_on, order_made}
 use Rattle.line.specs.Conservation.{Move, Moved, Made, of, Conserves}
 use Rattle.line.specs.Runs.{Runs}
-use Rattle.calls.specs.declared.venue.Done.{Done}
+use Rattle.call.specs.declared.venue_side.Done.{Done}
 
 runs_made : (s : State) (ds : List Done) (w : State) → Runs s ds w → (ms : List Move) × Made s ds w ms × Moved s.venue.rows ms w.venue.rows
 runs_made s [] w e = ([], (e, refl), ap (λ (z : State). z.venue.rows) e)

@@ -28,9 +28,9 @@ use Rattle.line.proofs.Leading.{call_there, first_none, line_there}
 use Rattle.line.proofs.Lines.{lines_apart}
 use Rattle.line.specs.Laws.{line_of}
 use Rattle.line.specs.Runs.{Does, blank, bytes_of, left}
-use Rattle.calls.specs.declared.venue.Done.{Done}
-use Rattle.calls.specs.declared.venue.Done.TheVariants as done
-use Rattle.calls.specs.declared.venue.Reply.{Reply}
+use Rattle.call.specs.declared.venue_side.Done.{Done}
+use Rattle.call.specs.declared.venue_side.Done.TheVariants as done
+use Rattle.call.specs.declared.venue_side.Reply.{Reply}
 use Rattle.session_messages.specs.declared.logon.Logon.{Logon}
 use Rattle.session_messages.specs.declared.missed_message_request.MissedMessageRequest.{MissedMessageRequest}
 use Rattle.partitions.specs.PerPartition.{at}

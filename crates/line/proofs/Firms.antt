@@ -25,8 +25,8 @@ use Rattle.line.proofs.Walking.{hears_by, hands_by}
 use Rattle.line.specs.Conservation.{Move, Moved, Each}
 use Rattle.line.specs.Laws.{FirmOf, FirmsApart, line_of}
 use Rattle.line.specs.Runs.{Does, blank}
-use Rattle.calls.specs.declared.venue.Done.{Done}
-use Rattle.calls.specs.declared.venue.Done.TheVariants as done
+use Rattle.call.specs.declared.venue_side.Done.{Done}
+use Rattle.call.specs.declared.venue_side.Done.TheVariants as done
 use Rattle.matching.specs.Meaning.{serves}
 use Rattle.session_messages.specs.declared.missed_message_request.MissedMessageRequest.{MissedMessageRequest}
 use Rattle.order_messages.specs.declared.new_order.NewOrder.{NewOrder}

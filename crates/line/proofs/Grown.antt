@@ -2,7 +2,7 @@
 use Rattle.std.proofs.Common.{List, [], ◌∷◌, ◌++◌, refl, subst}
 use Rattle.gateway.specs.State.{State}
 use Rattle.line.specs.Runs.{Does, Runs}
-use Rattle.calls.specs.declared.venue.Done.{Done}
+use Rattle.call.specs.declared.venue_side.Done.{Done}
 use Rattle.venue.specs.View.{Sound}
 
 pub runs_more : (s : State) (ds : List Done) (x : State) (d : Done) (w : State) → Runs s ds x → Does x d w → Sound w.venue → Runs s (ds ++ d ∷ []) w

@@ -13,8 +13,8 @@ use Rattle.gateway.specs.declared.fault.GatewayFault.{GatewayFault}
 use Rattle.line.proofs.Walking.{hears_by, hands_by}
 use Rattle.line.specs.Laws.{LinesApart, line_of}
 use Rattle.line.specs.Runs.{Does, blank}
-use Rattle.calls.specs.declared.venue.Done.{Done}
-use Rattle.calls.specs.declared.venue.Done.TheVariants as done
+use Rattle.call.specs.declared.venue_side.Done.{Done}
+use Rattle.call.specs.declared.venue_side.Done.TheVariants as done
 use Rattle.session_messages.specs.declared.missed_message_request.MissedMessageRequest.{MissedMessageRequest}
 use Rattle.requests.specs.Outcomes.{Outcome as Requested}
 use Rattle.requests.specs.Outcomes.Outcome.{Refused, Done as Did}

@@ -9,7 +9,7 @@ use Rattle.gateway.specs.declared.fault.GatewayFault.{GatewayFault}
 use Rattle.line.proofs.Walking.{hears_by}
 use Rattle.line.specs.Laws.{RefusedStand}
 use Rattle.line.specs.Runs.{blank}
-use Rattle.calls.specs.declared.venue.Done.TheVariants as done
+use Rattle.call.specs.declared.venue_side.Done.TheVariants as done
 use Rattle.sessions.specs.declared.session.Channel.{Channel}
 use Rattle.sessions.specs.declared.session.Channel.TheVariants.{RealTime, Recovery}
 use Rattle.texts.specs.declared.values.Time.{Time}

@@ -5,8 +5,8 @@ use Rattle.gateway.specs.Hearing.{firm}
 use Rattle.gateway.specs.State.{State, session}
 use Rattle.keyed.specs.Numbers.{under}
 use Rattle.line.specs.Runs.{Does}
-use Rattle.calls.specs.declared.venue.Done.{Done}
-use Rattle.calls.specs.declared.venue.Done.TheVariants as done
+use Rattle.call.specs.declared.venue_side.Done.{Done}
+use Rattle.call.specs.declared.venue_side.Done.TheVariants as done
 use Rattle.orders.specs.declared.row.Row.{Row}
 use Rattle.partitions.specs.PerPartition.{at}
 use Rattle.reports.specs.declared.report.Entry.{Entry}

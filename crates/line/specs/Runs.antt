@@ -6,11 +6,11 @@ use Rattle.gateway.specs.Hearing.{Hears}
 use Rattle.gateway.specs.State.{State}
 use Rattle.gateway.specs.Telling.{SendTold, RecoverTold}
 use Rattle.gateway.specs.declared.fault.GatewayFault.{GatewayFault}
-use Rattle.calls.specs.declared.venue.Call.{Call}
-use Rattle.calls.specs.declared.venue.Call.TheVariants as call
-use Rattle.calls.specs.declared.venue.Done.{Done}
-use Rattle.calls.specs.declared.venue.Done.TheVariants as done
-use Rattle.calls.specs.declared.venue.Reply.{Reply}
+use Rattle.call.specs.declared.venue_side.Call.{Call}
+use Rattle.call.specs.declared.venue_side.Call.TheVariants as call
+use Rattle.call.specs.declared.venue_side.Done.{Done}
+use Rattle.call.specs.declared.venue_side.Done.TheVariants as done
+use Rattle.call.specs.declared.venue_side.Reply.{Reply}
 use Rattle.sessions.specs.declared.session.Channel.TheVariants.{RealTime, Recovery}
 use Rattle.venue.specs.View.{Sound}
 

@@ -3,7 +3,7 @@ ghost use Rattle.std.specs.Prelude.{◌≡◌, [], map, IfOk, OnErr};
 ghost use Rattle.line.specs.Conservation.{Conserves};
 ghost use Rattle.line.specs.Runs.{Does, Runs, Tells, call_of};
 
-use calls::venue::{Call, Done, Reply};
+use call::venue_side::{Call, Done, Reply};
 use gateway::gateway::Gateway;
 use matching::matcher::Matcher;
 use std::alloc::{AllocError, Global};

@@ -1,5 +1,5 @@
 // A call on one of both ends, and one that was made.
-use crate::venue::{Call as VenueCall, Done as VenueDone};
+use crate::venue_side::{Call as VenueCall, Done as VenueDone};
 use follower::answer::{Live, Recovered};
 use follower::fault::FollowerFault;
 use wire::message::BUFFER;
