@@ -9,7 +9,7 @@ use Rattle.wire.specs.declared.message.Message.{Message}
 use Rattle.wire.specs.declared.message.Message.TheVariants as message
 use Rattle.wire.specs.Kinds.{letter_of, total_of, table_of, takes}
 use Rattle.wire.specs.Messages.{kind_of, contents_of, after_opening, written}
-use Rattle.wire.proofs.Headers.{opened}
+use Rattle.wire.proofs.Opening.{opened}
 use Rattle.wire.proofs.Sound.{sound}
 use Rattle.wire.proofs.Trips.{trip}
 use Rattle.reports.specs.declared.standing.Told.{Told}

@@ -128,7 +128,7 @@ fn read_kind<'a>(channel: Channel, bytes: &'a [u8]) -> Result<Message<'a>, Fault
 }
 
 /// Reads one message, or says which check is the first to fail, and where.
-#[tactic(auto, using(crate::proofs::Reading::again))]
+#[tactic(auto, using(crate::proofs::Rewriting::again))]
 pub fn read<'a>(channel: Channel, bytes: &'a [u8]) -> Result<Message<'a>, Fault>
     ensures checks { WasRead channel bytes.now result }
     ensures again { IfOk result (λ m. Again bytes.now m) }
@@ -163,7 +163,7 @@ fn write_kind(message: &Message<'_>, out: &mut [u8])
 
 /// Writes a message in its one form to the front of a buffer, and says how many bytes it has; those past it stay.
 /// A buffer that is too short stays as it is.
-#[tactic(auto, using(crate::proofs::Writing::given_back, crate::proofs::Writing::apart))]
+#[tactic(auto, using(crate::proofs::Returning::given_back, crate::proofs::Returning::apart))]
 pub fn write(message: &Message<'_>, out: &mut [u8]) -> Result<usize, TooShort>
     ensures bytes { Wrote message.now out.old out.new result }
     ensures holds { OnOk result (Holdable message.now) }
