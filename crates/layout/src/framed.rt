@@ -11,6 +11,17 @@ use crate::field::Field;
 use crate::put::put_header;
 use crate::reader::Reader;
 
+/// How the messages of a type are laid out.
+#[derive(Clone, Copy)]
+pub struct Shape {
+    /// The byte that names the type.
+    pub letter: u8,
+    /// How many bytes a message has in all.
+    pub total: u16,
+    /// The fields, one behind the other.
+    pub table: &'static [Field],
+}
+
 /// The layout of a message's bytes.
 pub trait Layout {
     // the fields, one behind the other
@@ -22,24 +33,19 @@ pub trait Layout {
     // how many bytes a message has in all
     ghost total: { ℕ };
 
-    /// The fields, one behind the other.
-    fn table() -> &'static [Field]
-        ensures { result.now ≡ table };
-
-    /// The byte that names the type.
-    fn letter() -> u8
-        ensures { result ≡ letter };
-
-    /// How many bytes a message has in all.
-    fn total() -> u16
-        ensures { result ≡ total };
+    /// How such messages are laid out.
+    fn shape() -> Shape
+        ensures letter { result.letter ≡ letter }
+        ensures total { result.total ≡ total }
+        ensures table { result.table.now ≡ table };
 
     /// The check of all fields: the first that does not hold what its form asks for is refused.
     fn check(r: &Reader<'_>) -> Result<(), Fault>
         requires { length r.now.src.now ≡ total }
         ensures { Checked table r.now.src.now result }
     {
-        check(Self::table(), usize::from(Self::total()), r)
+        let shape = Self::shape();
+        check(shape.table, usize::from(shape.total), r)
     }
 
     ghost inside: { within total table ≡ true };
@@ -89,6 +95,7 @@ pub fn write<'a, M: Framed<'a>>(m: &M, out: &mut [u8])
     ensures wrote { Wrote M.letter M.total M.table (M.contents m.now) out.old out.new }
     ensures holds { HoldsIn M.table (M.contents m.now) }
 {
-    put_header(out, M::letter(), M::total());
+    let shape = M::shape();
+    put_header(out, shape.letter, shape.total);
     m.put(out);
 }

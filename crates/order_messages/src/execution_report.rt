@@ -14,7 +14,7 @@ use codes::order::{Book, Side};
 use codes::report::{Capacity, ExecType, PriceDifferential, Status};
 use codes::session::Partition;
 use layout::field::{Field, Form};
-use layout::framed::{Framed, Layout};
+use layout::framed::{Framed, Layout, Shape};
 use layout::put::{put_blank, put_code, put_i32, put_price, put_text, put_time, put_u64};
 use layout::reader::Reader;
 use layout::take::{code_at, i32_at, price_at, text_at, time_at, u64_at};
@@ -110,22 +110,16 @@ impl Layout for ExecutionReport<'_> {
 
     ghost headed = { Prim.search rules };
 
-    fn table() -> &'static [Field]
-        ensures { result.now ≡ TABLE }
+    fn shape() -> Shape
+        ensures letter { result.letter ≡ LETTER }
+        ensures total { result.total ≡ TOTAL }
+        ensures table { result.table.now ≡ TABLE }
     {
-        &TABLE
-    }
-
-    fn letter() -> u8
-        ensures { result ≡ LETTER }
-    {
-        LETTER
-    }
-
-    fn total() -> u16
-        ensures { result ≡ TOTAL }
-    {
-        TOTAL
+        Shape {
+            letter: LETTER,
+            total: TOTAL,
+            table: &TABLE,
+        }
     }
 }
 

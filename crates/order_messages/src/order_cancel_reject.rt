@@ -6,7 +6,7 @@ ghost use Rattle.order_messages.specs.declared.order_cancel_reject.TheConstants.
 use codes::lists::Codes;
 use codes::session::Partition;
 use layout::field::{Field, Form};
-use layout::framed::{Framed, Layout};
+use layout::framed::{Framed, Layout, Shape};
 use layout::put::{put_blank, put_code, put_i32, put_text, put_time};
 use layout::reader::Reader;
 use layout::take::{code_at, i32_at, text_at, time_at};
@@ -55,22 +55,16 @@ impl Layout for OrderCancelReject<'_> {
 
     ghost headed = { Prim.search rules };
 
-    fn table() -> &'static [Field]
-        ensures { result.now ≡ TABLE }
+    fn shape() -> Shape
+        ensures letter { result.letter ≡ LETTER }
+        ensures total { result.total ≡ TOTAL }
+        ensures table { result.table.now ≡ TABLE }
     {
-        &TABLE
-    }
-
-    fn letter() -> u8
-        ensures { result ≡ LETTER }
-    {
-        LETTER
-    }
-
-    fn total() -> u16
-        ensures { result ≡ TOTAL }
-    {
-        TOTAL
+        Shape {
+            letter: LETTER,
+            total: TOTAL,
+            table: &TABLE,
+        }
     }
 }
 

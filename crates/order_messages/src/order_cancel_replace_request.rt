@@ -7,7 +7,7 @@ use crate::target::{put_target, target_at};
 use codes::lists::Codes;
 use codes::order::{PassiveOnly, Side, TimeInForce};
 use layout::field::{Field, Form};
-use layout::framed::{Framed, Layout};
+use layout::framed::{Framed, Layout, Shape};
 use layout::put::{
     put_blank, put_code, put_i32, put_name, put_order, put_price, put_text, put_u32,
 };
@@ -89,22 +89,16 @@ impl Layout for OrderCancelReplaceRequest<'_> {
 
     ghost headed = { Prim.search rules };
 
-    fn table() -> &'static [Field]
-        ensures { result.now ≡ TABLE }
+    fn shape() -> Shape
+        ensures letter { result.letter ≡ LETTER }
+        ensures total { result.total ≡ TOTAL }
+        ensures table { result.table.now ≡ TABLE }
     {
-        &TABLE
-    }
-
-    fn letter() -> u8
-        ensures { result ≡ LETTER }
-    {
-        LETTER
-    }
-
-    fn total() -> u16
-        ensures { result ≡ TOTAL }
-    {
-        TOTAL
+        Shape {
+            letter: LETTER,
+            total: TOTAL,
+            table: &TABLE,
+        }
     }
 }
 

@@ -6,7 +6,7 @@ ghost use Rattle.order_messages.specs.declared.order_cancel_request.TheConstants
 use codes::lists::Codes;
 use codes::order::{Book, Side};
 use layout::field::{Field, Form};
-use layout::framed::{Framed, Layout};
+use layout::framed::{Framed, Layout, Shape};
 use layout::put::{put_blank, put_code, put_name, put_order, put_text};
 use layout::reader::Reader;
 use layout::take::{code_at, name_at, order_at, text_at};
@@ -56,22 +56,16 @@ impl Layout for OrderCancelRequest<'_> {
 
     ghost headed = { Prim.search rules };
 
-    fn table() -> &'static [Field]
-        ensures { result.now ≡ TABLE }
+    fn shape() -> Shape
+        ensures letter { result.letter ≡ LETTER }
+        ensures total { result.total ≡ TOTAL }
+        ensures table { result.table.now ≡ TABLE }
     {
-        &TABLE
-    }
-
-    fn letter() -> u8
-        ensures { result ≡ LETTER }
-    {
-        LETTER
-    }
-
-    fn total() -> u16
-        ensures { result ≡ TOTAL }
-    {
-        TOTAL
+        Shape {
+            letter: LETTER,
+            total: TOTAL,
+            table: &TABLE,
+        }
     }
 }
 

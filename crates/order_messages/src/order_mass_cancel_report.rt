@@ -7,7 +7,7 @@ use codes::lists::Codes;
 use codes::report::MassResponse;
 use codes::session::Partition;
 use layout::field::{Field, Form};
-use layout::framed::{Framed, Layout};
+use layout::framed::{Framed, Layout, Shape};
 use layout::put::{put_blank, put_code, put_i32, put_text, put_time};
 use layout::reader::Reader;
 use layout::take::{code_at, i32_at, text_at, time_at};
@@ -57,22 +57,16 @@ impl Layout for OrderMassCancelReport<'_> {
 
     ghost headed = { Prim.search rules };
 
-    fn table() -> &'static [Field]
-        ensures { result.now ≡ TABLE }
+    fn shape() -> Shape
+        ensures letter { result.letter ≡ LETTER }
+        ensures total { result.total ≡ TOTAL }
+        ensures table { result.table.now ≡ TABLE }
     {
-        &TABLE
-    }
-
-    fn letter() -> u8
-        ensures { result ≡ LETTER }
-    {
-        LETTER
-    }
-
-    fn total() -> u16
-        ensures { result ≡ TOTAL }
-    {
-        TOTAL
+        Shape {
+            letter: LETTER,
+            total: TOTAL,
+            table: &TABLE,
+        }
     }
 }
 

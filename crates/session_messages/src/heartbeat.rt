@@ -4,7 +4,7 @@ ghost use Rattle.std.proofs.Common.{rules};
 ghost use Rattle.session_messages.specs.declared.heartbeat.TheConstants.{LETTER, TABLE, TOTAL};
 
 use layout::field::Field;
-use layout::framed::{Framed, Layout};
+use layout::framed::{Framed, Layout, Shape};
 use layout::reader::Reader;
 
 /// A sign of life.
@@ -33,16 +33,12 @@ impl Layout for Heartbeat {
 
     ghost headed = { Prim.search rules };
 
-    fn table() -> &'static [Field] {
-        &TABLE
-    }
-
-    fn letter() -> u8 {
-        LETTER
-    }
-
-    fn total() -> u16 {
-        TOTAL
+    fn shape() -> Shape {
+        Shape {
+            letter: LETTER,
+            total: TOTAL,
+            table: &TABLE,
+        }
     }
 }
 

@@ -6,7 +6,7 @@ ghost use Rattle.session_messages.specs.declared.logon.TheConstants.{LETTER, TAB
 use codes::lists::Codes;
 use codes::session::Version;
 use layout::field::{Field, Form};
-use layout::framed::{Framed, Layout};
+use layout::framed::{Framed, Layout, Shape};
 use layout::put::{put_code, put_text};
 use layout::reader::Reader;
 use layout::take::{code_at, text_at};
@@ -48,22 +48,16 @@ impl Layout for Logon<'_> {
 
     ghost headed = { Prim.search rules };
 
-    fn table() -> &'static [Field]
-        ensures { result.now ≡ TABLE }
+    fn shape() -> Shape
+        ensures letter { result.letter ≡ LETTER }
+        ensures total { result.total ≡ TOTAL }
+        ensures table { result.table.now ≡ TABLE }
     {
-        &TABLE
-    }
-
-    fn letter() -> u8
-        ensures { result ≡ LETTER }
-    {
-        LETTER
-    }
-
-    fn total() -> u16
-        ensures { result ≡ TOTAL }
-    {
-        TOTAL
+        Shape {
+            letter: LETTER,
+            total: TOTAL,
+            table: &TABLE,
+        }
     }
 }
 

@@ -4,7 +4,7 @@ ghost use Rattle.std.proofs.Common.{rules};
 ghost use Rattle.session_messages.specs.declared.logout.TheConstants.{LETTER, TABLE, TOTAL};
 
 use layout::field::{Field, Form};
-use layout::framed::{Framed, Layout};
+use layout::framed::{Framed, Layout, Shape};
 use layout::put::put_text;
 use layout::reader::Reader;
 use layout::take::text_at;
@@ -38,22 +38,16 @@ impl Layout for Logout<'_> {
 
     ghost headed = { Prim.search rules };
 
-    fn table() -> &'static [Field]
-        ensures { result.now ≡ TABLE }
+    fn shape() -> Shape
+        ensures letter { result.letter ≡ LETTER }
+        ensures total { result.total ≡ TOTAL }
+        ensures table { result.table.now ≡ TABLE }
     {
-        &TABLE
-    }
-
-    fn letter() -> u8
-        ensures { result ≡ LETTER }
-    {
-        LETTER
-    }
-
-    fn total() -> u16
-        ensures { result ≡ TOTAL }
-    {
-        TOTAL
+        Shape {
+            letter: LETTER,
+            total: TOTAL,
+            table: &TABLE,
+        }
     }
 }
 

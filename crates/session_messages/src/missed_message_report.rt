@@ -6,7 +6,7 @@ ghost use Rattle.session_messages.specs.declared.missed_message_report.TheConsta
 use codes::lists::Codes;
 use codes::session::ReportResponse;
 use layout::field::{Field, Form};
-use layout::framed::{Framed, Layout};
+use layout::framed::{Framed, Layout, Shape};
 use layout::put::put_code;
 use layout::reader::Reader;
 use layout::take::code_at;
@@ -39,16 +39,12 @@ impl Layout for MissedMessageReport {
 
     ghost headed = { Prim.search rules };
 
-    fn table() -> &'static [Field] {
-        &TABLE
-    }
-
-    fn letter() -> u8 {
-        LETTER
-    }
-
-    fn total() -> u16 {
-        TOTAL
+    fn shape() -> Shape {
+        Shape {
+            letter: LETTER,
+            total: TOTAL,
+            table: &TABLE,
+        }
     }
 }
 

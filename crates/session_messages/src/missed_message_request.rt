@@ -4,7 +4,7 @@ ghost use Rattle.std.proofs.Common.{rules};
 ghost use Rattle.session_messages.specs.declared.missed_message_request.TheConstants.{LETTER, TABLE, TOTAL};
 
 use layout::field::{Field, Form};
-use layout::framed::{Framed, Layout};
+use layout::framed::{Framed, Layout, Shape};
 use layout::put::{put_i8, put_sequence};
 use layout::reader::Reader;
 use layout::sequence::LastSequence;
@@ -44,16 +44,12 @@ impl Layout for MissedMessageRequest {
 
     ghost headed = { Prim.search rules };
 
-    fn table() -> &'static [Field] {
-        &TABLE
-    }
-
-    fn letter() -> u8 {
-        LETTER
-    }
-
-    fn total() -> u16 {
-        TOTAL
+    fn shape() -> Shape {
+        Shape {
+            letter: LETTER,
+            total: TOTAL,
+            table: &TABLE,
+        }
     }
 }
 

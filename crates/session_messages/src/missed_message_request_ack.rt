@@ -6,7 +6,7 @@ ghost use Rattle.session_messages.specs.declared.missed_message_request_ack.TheC
 use codes::lists::Codes;
 use codes::session::AckResponse;
 use layout::field::{Field, Form};
-use layout::framed::{Framed, Layout};
+use layout::framed::{Framed, Layout, Shape};
 use layout::put::put_code;
 use layout::reader::Reader;
 use layout::take::code_at;
@@ -39,16 +39,12 @@ impl Layout for MissedMessageRequestAck {
 
     ghost headed = { Prim.search rules };
 
-    fn table() -> &'static [Field] {
-        &TABLE
-    }
-
-    fn letter() -> u8 {
-        LETTER
-    }
-
-    fn total() -> u16 {
-        TOTAL
+    fn shape() -> Shape {
+        Shape {
+            letter: LETTER,
+            total: TOTAL,
+            table: &TABLE,
+        }
     }
 }
 

@@ -3,7 +3,7 @@ ghost use Rattle.std.specs.Prelude.{◌≡◌};
 ghost use Rattle.wire.specs.Kinds.{kinds_of, letter_of, total_of, table_of, takes};
 
 use layout::field::Field;
-use layout::framed::Layout;
+use layout::framed::{Layout, Shape};
 use order_messages::execution_report::ExecutionReport;
 use order_messages::new_order::NewOrder;
 use order_messages::order_cancel_reject::OrderCancelReject;
@@ -80,48 +80,29 @@ pub const FOLLOWER: [Kind; 9] = [
     Kind::Logout,
 ];
 
-// How the messages of a kind are laid out.
-#[derive(Clone, Copy)]
-struct Shape {
-    letter: u8,
-    total: u16,
-    table: &'static [Field],
-}
-
-fn shape_of<M: Layout>() -> Shape
-    ensures letter { result.letter ≡ M.letter }
-    ensures total { result.total ≡ M.total }
-    ensures table { result.table.now ≡ M.table }
-{
-    Shape {
-        letter: M::letter(),
-        total: M::total(),
-        table: M::table(),
-    }
-}
-
 impl Kind {
+    // How its messages are laid out.
     fn shape(self) -> Shape
         ensures letter { result.letter ≡ letter_of self }
         ensures total { result.total ≡ total_of self }
         ensures table { result.table.now ≡ table_of self }
     {
         match self {
-            Kind::Logon => shape_of::<Logon>(),
-            Kind::LogonReply => shape_of::<LogonReply>(),
-            Kind::Logout => shape_of::<Logout>(),
-            Kind::Heartbeat => shape_of::<Heartbeat>(),
-            Kind::MissedMessageRequest => shape_of::<MissedMessageRequest>(),
-            Kind::MissedMessageRequestAck => shape_of::<MissedMessageRequestAck>(),
-            Kind::MissedMessageReport => shape_of::<MissedMessageReport>(),
-            Kind::Reject => shape_of::<Reject>(),
-            Kind::NewOrder => shape_of::<NewOrder>(),
-            Kind::OrderCancelRequest => shape_of::<OrderCancelRequest>(),
-            Kind::OrderCancelReplaceRequest => shape_of::<OrderCancelReplaceRequest>(),
-            Kind::OrderMassCancelRequest => shape_of::<OrderMassCancelRequest>(),
-            Kind::ExecutionReport => shape_of::<ExecutionReport>(),
-            Kind::OrderCancelReject => shape_of::<OrderCancelReject>(),
-            Kind::OrderMassCancelReport => shape_of::<OrderMassCancelReport>(),
+            Kind::Logon => Logon::shape(),
+            Kind::LogonReply => LogonReply::shape(),
+            Kind::Logout => Logout::shape(),
+            Kind::Heartbeat => Heartbeat::shape(),
+            Kind::MissedMessageRequest => MissedMessageRequest::shape(),
+            Kind::MissedMessageRequestAck => MissedMessageRequestAck::shape(),
+            Kind::MissedMessageReport => MissedMessageReport::shape(),
+            Kind::Reject => Reject::shape(),
+            Kind::NewOrder => NewOrder::shape(),
+            Kind::OrderCancelRequest => OrderCancelRequest::shape(),
+            Kind::OrderCancelReplaceRequest => OrderCancelReplaceRequest::shape(),
+            Kind::OrderMassCancelRequest => OrderMassCancelRequest::shape(),
+            Kind::ExecutionReport => ExecutionReport::shape(),
+            Kind::OrderCancelReject => OrderCancelReject::shape(),
+            Kind::OrderMassCancelReport => OrderMassCancelReport::shape(),
         }
     }
 
