@@ -16,4 +16,4 @@ returns g c =
     c.in-Some.ensures ∙ ap (λ is. look_up is c.args.symbol.now) c.instruments.ensures in
     subst (λ l. Gives (in_instrument l (is_owner c.args.owners) c.args.book c.args.line c.args.m.now c.args.time v) v (Ok tt) c.withdraw_all.new.self) there
     (swept_one (is_owner c.args.owners) c.in-Some.listing c.args.book c.args.line c.args.m.now c.args.time v c.note-2.new.self c.withdraw_all.new.self
-    c.accepted.result c.kept.result c.spare.result c.spare.ensures c.if-spare-lt1.false served c.accepted.ensures c.note-2.ensures.after c.kept.ensures c.withdraw_all.ensures)
+    c.accepted.result c.keep.result c.spare.result c.spare.ensures c.if-spare-lt1.false served c.accepted.ensures c.note-2.ensures.after c.keep.ensures c.withdraw_all.ensures)
