@@ -12,7 +12,7 @@ use limits::{REPORTS, TRADES};
 use lit_book::book::LitBook;
 use matching::matcher::Matcher;
 use matching::tape::{Line, Tape};
-use std::alloc::Global;
+use std::alloc::{AllocError, Global};
 use std::io;
 use std::process::ExitCode;
 use std::rt::Clock;
@@ -165,14 +165,17 @@ fn play<R: Print + Eprint + Clock + AllocGlobal, M: Matcher, S: Store>(
     came_to(rt, name, gateway)
 }
 
-// A day over a matcher and a store that hold nothing.
+// A day over a matcher and a store that hold nothing, if there is memory for them. They are let go here, where they are
+// of any type: elsewhere all that theirs hold is taken apart in the function's proof.
 fn day<R: Print + Eprint + Clock + AllocGlobal, M: Matcher + Drop, S: Store + Drop>(
     rt: &R,
     name: &str,
-    matcher: M,
-    store: S,
+    matcher: Result<M, AllocError>,
+    store: Result<S, AllocError>,
     plan: &Plan,
 ) -> io::Result<()> {
+    let matcher = matcher?;
+    let store = store?;
     let Ok(config) = config(rt.alloc()) else {
         return println!(rt; "{name}: no configuration");
     };
@@ -183,7 +186,7 @@ fn day<R: Print + Eprint + Clock + AllocGlobal, M: Matcher + Drop, S: Store + Dr
 }
 
 // A tape that trades each order of the first row sixteen times: as many trades as a day has room for.
-fn tape(heap: Global) -> io::Result<Tape> {
+fn tape(heap: Global) -> Result<Tape, AllocError> {
     let mut lines = Vec::new(heap);
     for place in 0..TRADES as u64 {
         lines.push(Line {
@@ -194,7 +197,7 @@ fn tape(heap: Global) -> io::Result<Tape> {
             },
         })?;
     }
-    Ok(Tape::new(heap, lines)?)
+    Tape::new(heap, lines)
 }
 
 /// Both matchers over both stores.
@@ -205,14 +208,14 @@ impl Task for Bench {
         let heap = rt.alloc();
         let plan = made_up(heap)?;
         let bytes = REPORTS * LONGEST;
-        let records = Records::new(heap, REPORTS)?;
-        day(rt, "lit book, records", LitBook::new(heap)?, records, &plan)?;
-        let wire = wire_store::new(heap, bytes)?;
-        day(rt, "lit book, wire bytes", LitBook::new(heap)?, wire, &plan)?;
-        let records = Records::new(heap, REPORTS)?;
-        day(rt, "tape, records", tape(heap)?, records, &plan)?;
-        let wire = wire_store::new(heap, bytes)?;
-        day(rt, "tape, wire bytes", tape(heap)?, wire, &plan)
+        let records = Records::new(heap, REPORTS);
+        day(rt, "lit book, records", LitBook::new(heap), records, &plan)?;
+        let wire = wire_store::new(heap, bytes);
+        day(rt, "lit book, wire bytes", LitBook::new(heap), wire, &plan)?;
+        let records = Records::new(heap, REPORTS);
+        day(rt, "tape, records", tape(heap), records, &plan)?;
+        let wire = wire_store::new(heap, bytes);
+        day(rt, "tape, wire bytes", tape(heap), wire, &plan)
     }
 }
 
