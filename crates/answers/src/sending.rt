@@ -26,7 +26,8 @@ pub(crate) fn send(message: &Message<'_>, out: &mut [u8]) -> usize
 
 fn tell(telling: &Telling, out: &mut [u8]) -> usize
     requires { BUFFER ≤ length out.old }
-    ensures sent { Sent (report_bytes telling.now.partition telling.now.number telling.now.report) out.old out.new result }
+    ensures sent { Sent (report_bytes telling.now.partition telling.now.number telling.now.report)
+        out.old out.new result }
     ensures told { ReportTold telling.now.partition telling.now.number telling.now.report }
 {
     send(&telling.message(), out)

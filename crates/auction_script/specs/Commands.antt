@@ -1,4 +1,5 @@
--- What the words of a call say: a command whose parts are those words, or the first word that cannot be read. Assumes nothing.
+-- What the words of a call say: a command whose parts are those words, or the first word that cannot be read. Assumes
+-- nothing.
 use Rattle.std.specs.Prelude.{◌≡◌, ℕ, List, [], length, Ok, Err, codes, Result, slice_index_or}
 use Rattle.std.specs.Borrow.{Bor}
 use Rattle.codes.specs.declared.order.Book.TheVariants.{Integrated}
@@ -78,7 +79,8 @@ EnterWrong n i s k f p q Quantity = ToPrice n i s k f × IsPrice p × (IsNumber 
 
 abbrev pub EnterRead : List ℕ → List ℕ → List ℕ → List ℕ → List ℕ → List ℕ → List ℕ → Result Command Misread → Type 0
 EnterRead n i s k f p q (Ok (Enter m t)) =
-    NumberRead 64 Number n (Ok m) × NumberRead 8 Instrument i (Ok t.instrument) × SideRead s (Ok t.side) × PricingRead k p t.pricing
+    NumberRead 64 Number n (Ok m) × NumberRead 8 Instrument i (Ok t.instrument) × SideRead s (Ok t.side)
+    × PricingRead k p t.pricing
     × ForceRead f (Ok t.time_in_force) × NumberRead 32 Quantity q (Ok t.quantity) × (t.book ≡ Integrated)
 EnterRead n i s k f p q (Ok (Cancel m)) = ⊥
 EnterRead n i s k f p q (Ok (Amend m r z)) = ⊥
@@ -101,7 +103,8 @@ IsCall ws name count = (length ws ≡ count) × (word ws 0 ≡ name)
 
 -- a call by its name and the number of its words; any other is none
 pub record WordsRead (ws : Words) (r : Result Command Misread) : Type 0 where
-  pub enter : IsCall ws (codes "enter") 8 → EnterRead (word ws 1) (word ws 2) (word ws 3) (word ws 4) (word ws 5) (word ws 6) (word ws 7) r
+  pub enter : IsCall ws (codes "enter") 8 → EnterRead (word ws 1) (word ws 2) (word ws 3) (word ws 4) (word ws 5)
+      (word ws 6) (word ws 7) r
   pub cancel : IsCall ws (codes "cancel") 2 → CancelRead (word ws 1) r
   pub amend : IsCall ws (codes "amend") 4 → AmendRead (word ws 1) (word ws 2) (word ws 3) r
   pub run : IsCall ws (codes "run") 1 → r ≡ Ok Run

@@ -11,7 +11,8 @@ use Rattle.auction_script.specs.Commands.{Words, WordsRead}
 
 -- the words of a text, as std parts them at white space
 abbrev pub IsWordsOf : List ℕ → Words → Type 0
-IsWordsOf text words = (it : SplitWhitespace) × (split_whitespace_rest it ≡ text) × DrainsIf split_whitespace_steps ⊤ it words
+IsWordsOf text words =
+    (it : SplitWhitespace) × (split_whitespace_rest it ≡ text) × DrainsIf split_whitespace_steps ⊤ it words
 
 -- the byte of `#`
 abbrev pub hash : ℕ
@@ -34,4 +35,5 @@ Said ws (Unread e) = (skips ws ≡ false) × WordsRead ws (Err e)
 
 -- a line that is no text is misread as such, and any other says what its words say
 abbrev pub LineRead : List ℕ → Says → Type 0
-LineRead bytes l = ((IsUtf8 bytes → ⊥) × (l ≡ Unread Text)) ⊎ (IsUtf8 bytes × ((ws : Words) × (IsWordsOf bytes ws × Said ws l)))
+LineRead bytes l =
+    ((IsUtf8 bytes → ⊥) × (l ≡ Unread Text)) ⊎ (IsUtf8 bytes × ((ws : Words) × (IsWordsOf bytes ws × Said ws l)))

@@ -12,7 +12,8 @@ no_calls = record { calls = 0; answered = 0; sent = 0; refused = 0; by_number = 
 
 -- one refusal more, and one of its number
 abbrev pub with_refusal : Account → ℕ → Account
-with_refusal a n = record a { refused = more a.refused; by_number = slice_set a.by_number n (more (slice_index a.by_number n)) }
+with_refusal a n =
+    record a { refused = more a.refused; by_number = slice_set a.by_number n (more (slice_index a.by_number n)) }
 
 abbrev pub with_answer : Account → Answer → Account
 with_answer a (answer.Message p) = record a { answered = more a.answered }

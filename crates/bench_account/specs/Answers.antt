@@ -30,7 +30,8 @@ party_text None = codes "-"
 abbrev pub trade_text : Trade → List ℕ
 trade_text t =
     (codes "trade " ++ (decimal t.number ++ (codes " passive " ++ (party_text t.passive ++ codes " "))))
-    ++ (codes "aggressive " ++ (party_text t.aggressive ++ (codes " " ++ (decimal t.quantity ++ (codes " at " ++ signed_decimal t.price.raw)))))
+    ++ (codes "aggressive " ++ (party_text t.aggressive
+    ++ (codes " " ++ (decimal t.quantity ++ (codes " at " ++ signed_decimal t.price.raw)))))
 
 abbrev pub answer_text : Answer → List ℕ
 answer_text answer.Started = codes "started"
@@ -47,4 +48,5 @@ answer_text (answer.Request p) = codes "request " ++ payload_text p
 answer_text (answer.Became w) = w.now
 answer_text (answer.Refused n) = codes "refused " ++ decimal n
 answer_text (answer.RefusedAt n at) = codes "refused " ++ (decimal n ++ (codes " at " ++ decimal at))
-answer_text (answer.Rejected n at p) = codes "refused " ++ (decimal n ++ (codes " at " ++ (decimal at ++ (codes " answer " ++ payload_text p))))
+answer_text (answer.Rejected n at p) =
+    codes "refused " ++ (decimal n ++ (codes " at " ++ (decimal at ++ (codes " answer " ++ payload_text p))))

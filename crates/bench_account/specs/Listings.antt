@@ -10,7 +10,8 @@ use Rattle.bench_account.specs.declared.listing.Totals.{Totals}
 abbrev pub naming_text : Naming → List ℕ
 naming_text n =
     (codes "order " ++ (decimal n.number ++ (codes " compid " ++ (n.comp_id.now ++ codes " "))))
-    ++ (codes "symbol " ++ (n.symbol.now ++ (codes " side " ++ (decimal n.side ++ (codes " status " ++ decimal n.status)))))
+    ++ (codes "symbol " ++ (n.symbol.now ++ (codes " side "
+    ++ (decimal n.side ++ (codes " status " ++ decimal n.status)))))
 
 abbrev pub figures_text : Figures → List ℕ
 figures_text f =
@@ -21,7 +22,9 @@ abbrev pub listed_text : Listed → List ℕ
 listed_text o = naming_text o.naming ++ (codes " " ++ figures_text o.figures)
 
 abbrev pub totals_text : Totals → List ℕ
-totals_text t = codes "orders " ++ (decimal t.orders ++ (codes " trades " ++ (decimal t.trades ++ (codes " reports " ++ decimal t.reports))))
+totals_text t =
+    codes "orders " ++ (decimal t.orders ++ (codes " trades "
+    ++ (decimal t.trades ++ (codes " reports " ++ decimal t.reports))))
 
 abbrev pub state_text : Bool → List ℕ
 state_text true = codes "level"
@@ -35,4 +38,5 @@ place_text p =
 abbrev pub followed_text : Followed → List ℕ
 followed_text o =
     (codes "order " ++ (decimal o.number ++ (codes " partition " ++ (decimal o.partition ++ codes " "))))
-    ++ (codes "status " ++ (decimal o.status ++ (codes " executed " ++ (decimal o.executed ++ (codes " open " ++ decimal o.leaves)))))
+    ++ (codes "status " ++ (decimal o.status ++ (codes " executed "
+    ++ (decimal o.executed ++ (codes " open " ++ decimal o.leaves)))))

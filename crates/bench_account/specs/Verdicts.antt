@@ -25,7 +25,8 @@ first_of (Some v) w = v
 first_of None w = w
 
 abbrev pub verdict_of : Part → Part → Part → Verdict
-verdict_of one two three = first_of (trouble_of one) (first_of (trouble_of two) (first_of (trouble_of three) verdict.Agree))
+verdict_of one two three =
+    first_of (trouble_of one) (first_of (trouble_of two) (first_of (trouble_of three) verdict.Agree))
 
 abbrev pub verdict_text : Verdict → List ℕ
 verdict_text verdict.Agree = codes "yes"

@@ -27,8 +27,8 @@ pub struct State {
     pub log: Log,
 }
 
-/// How a message comes: as an answer, as one that is sent, as a request that a follower writes, or as the Reject of a check
-/// with its number and offset.
+/// How a message comes: as an answer, as one that is sent, as a request that a follower writes, or as the Reject of a
+/// check with its number and offset.
 #[derive(Clone, Copy)]
 pub enum Carried {
     Answer,

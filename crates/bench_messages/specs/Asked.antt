@@ -21,7 +21,8 @@ abbrev pub asked : List ℕ → List ℕ → Request → List Content
 asked name password request.Logon = logon_asked name password
 asked name password request.Recover = logon_asked name password
 asked name password request.Logout = logout_asked
-asked name password (request.Order side symbol shares pricing client marked) = order_asked side symbol.now shares pricing client.now marked
+asked name password (request.Order side symbol shares pricing client marked) =
+    order_asked side symbol.now shares pricing client.now marked
 asked name password (request.Cancel symbol side client original) = cancel_asked symbol.now side client.now original.now
 asked name password (request.Replace symbol side shares price client original) =
     replace_asked symbol.now side shares price client.now original.now

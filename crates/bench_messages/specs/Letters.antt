@@ -64,7 +64,8 @@ abbrev pub cancel_contents : Cancel → List Content
 cancel_contents c = cancel_asked (said c.symbol.bytes) c.side (said c.client.id.bytes) (said c.original.bytes)
 
 abbrev pub cancel_wrong : List ℕ → List ℕ → List ℕ → Option Misread
-cancel_wrong symbol client original = or_else (symbol_wrong symbol) (or_else (client_wrong client) (original_wrong original))
+cancel_wrong symbol client original =
+    or_else (symbol_wrong symbol) (or_else (client_wrong client) (original_wrong original))
 
 -- a replacement of the quantity and the price of the order that goes by a Client Order ID
 abbrev pub replace_asked : List ℕ → Side → ℤ → Price → List ℕ → List ℕ → List Content
@@ -89,4 +90,5 @@ replace_asked symbol side shares limit client original =
     ∷ []
 
 abbrev pub replace_contents : Replace → List Content
-replace_contents r = replace_asked (said r.symbol.bytes) r.side r.shares r.price (said r.client.id.bytes) (said r.original.bytes)
+replace_contents r =
+    replace_asked (said r.symbol.bytes) r.side r.shares r.price (said r.client.id.bytes) (said r.original.bytes)

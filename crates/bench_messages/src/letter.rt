@@ -47,7 +47,8 @@ impl Letter {
     pub fn of(request: &Request<'_>, sender: &Sender) -> Result<Letter, Misread>
         ensures wrong { result_err result ≡ wrong_of request.now }
         ensures kind { IfOk result (λ l. letter_kind l ≡ kind_asked request.now) }
-        ensures asked { IfOk result (λ l. letter_contents l ≡ asked (said sender.now.name.bytes) (said sender.now.password.bytes) request.now) }
+        ensures asked { IfOk result (λ l. letter_contents l
+            ≡ asked (said sender.now.name.bytes) (said sender.now.password.bytes) request.now) }
     {
         match *request {
             Request::Logon | Request::Recover => Ok(Letter::Logon(Logon::new(sender))),

@@ -52,7 +52,8 @@ impl Logon {
 
     /// The message, which lends the texts.
     pub fn message(&self) -> LogonMessage<'_>
-        ensures { logon_contents result ≡ logon_asked (said self.now.sender.name.bytes) (said self.now.sender.password.bytes) }
+        ensures { logon_contents result ≡ logon_asked (said self.now.sender.name.bytes)
+            (said self.now.sender.password.bytes) }
     {
         LogonMessage {
             comp_id: self.sender.name.as_text(),

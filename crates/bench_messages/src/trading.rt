@@ -57,7 +57,8 @@ impl Order {
         marked: bool,
     ) -> Result<Order, Misread>
         ensures wrong { result_err result ≡ order_wrong symbol.now client.now }
-        ensures asked { IfOk result (λ o. order_contents o ≡ order_asked side symbol.now shares pricing client.now marked) }
+        ensures asked { IfOk result (λ o. order_contents o
+            ≡ order_asked side symbol.now shares pricing client.now marked) }
     {
         let symbol = words::symbol(symbol)?;
         let client = words::client(client)?;
@@ -170,7 +171,8 @@ impl Replace {
         original: &str,
     ) -> Result<Replace, Misread>
         ensures wrong { result_err result ≡ cancel_wrong symbol.now client.now original.now }
-        ensures asked { IfOk result (λ r. replace_contents r ≡ replace_asked symbol.now side shares price client.now original.now) }
+        ensures asked { IfOk result (λ r. replace_contents r
+            ≡ replace_asked symbol.now side shares price client.now original.now) }
     {
         let symbol = words::symbol(symbol)?;
         let client = words::client(client)?;

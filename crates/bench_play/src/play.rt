@@ -1,4 +1,5 @@
-// A script as far as it has been played: what the gateway is started with, the gateway, and the follower of one of its lines.
+// A script as far as it has been played: what the gateway is started with, the gateway, and the follower of one of its
+// lines.
 use bench_account::answer::Answer;
 use bench_account::verdict::Verdict;
 use bench_calls::calls;

@@ -95,18 +95,22 @@ repeat_of ws =
 
 -- catch up
 abbrev pub catch_of : Words → Result Command Misread
-catch_of ws = if (length ws == 2) && bytes_eq (text ws 1) (codes "up") then Ok (command.Cable cable.CatchUp) else Err why.Name
+catch_of ws =
+    if (length ws == 2) && bytes_eq (text ws 1) (codes "up") then Ok (command.Cable cable.CatchUp) else Err why.Name
 
 -- ---- what a gateway is started with
 
 -- compid NAME PASSWORD FIRM yes|no
 abbrev pub comp_id_of : Words → Result Command Misread
 comp_id_of ws =
-    of_count 5 ws (small_of (text ws 3) then λ firm. yes_of (text ws 4) then λ ends. Ok (command.Setup (setup.CompId (word ws 1) (word ws 2) firm ends)))
+    of_count 5 ws (small_of (text ws 3) then λ firm. yes_of (text ws 4)
+    then λ ends. Ok (command.Setup (setup.CompId (word ws 1) (word ws 2) firm ends)))
 
 -- instrument SYMBOL SEGMENT PARTITION
 abbrev pub instrument_of : Words → Result Command Misread
-instrument_of ws = of_count 4 ws (part_of (text ws 3) then λ partition. Ok (command.Setup (setup.Instrument (word ws 1) (word ws 2) partition)))
+instrument_of ws =
+    of_count 4 ws (part_of (text ws 3) then λ partition. Ok
+    (command.Setup (setup.Instrument (word ws 1) (word ws 2) partition)))
 
 abbrev pub tape_said : Bor Words → Result Command Misread
 tape_said ws = if is_tape ws.now then Ok (command.Setup (setup.Tape (record { words = ws }))) else Err why.Tape
@@ -127,15 +131,19 @@ matcher_of ws =
 -- store records PLACES, or store wire BYTES
 abbrev pub store_of : Words → Result Command Misread
 store_of ws =
-    if (length ws == 3) && bytes_eq (text ws 1) (codes "records") then (number_of (text ws 2) then λ n. Ok (command.Setup (setup.Records n)))
-    else if (length ws == 3) && bytes_eq (text ws 1) (codes "wire") then (number_of (text ws 2) then λ n. Ok (command.Setup (setup.Wire n)))
+    if (length ws == 3) && bytes_eq (text ws 1) (codes "records")
+    then (number_of (text ws 2) then λ n. Ok (command.Setup (setup.Records n)))
+    else if (length ws == 3) && bytes_eq (text ws 1) (codes "wire")
+    then (number_of (text ws 2) then λ n. Ok (command.Setup (setup.Wire n)))
     else Err why.Store
 
 -- ---- the calls
 
 -- .. LINE TIME HEX
 abbrev pub message_of : Words → Result (ℕ × Time × Bytes) Misread
-message_of ws = of_count 4 ws (line_of (text ws 1) then λ line. time_of (text ws 2) then λ time. bytes_said (word ws 3) then λ bytes. Ok (line, time, bytes))
+message_of ws =
+    of_count 4 ws (line_of (text ws 1) then λ line. time_of (text ws 2) then λ time. bytes_said (word ws 3)
+    then λ bytes. Ok (line, time, bytes))
 
 abbrev pub real_time_of : Words → Result Command Misread
 real_time_of ws = message_of ws then λ m. Ok (command.Call (call.RealTime m.0 m.1 m.2))
@@ -145,11 +153,15 @@ recovery_of ws = message_of ws then λ m. Ok (command.Call (call.Recovery m.0 m.
 
 -- cancel-trade NUMBER TIME
 abbrev pub cancel_trade_of : Words → Result Command Misread
-cancel_trade_of ws = of_count 3 ws (number_of (text ws 1) then λ number. time_of (text ws 2) then λ time. Ok (command.Call (call.CancelTrade number time)))
+cancel_trade_of ws =
+    of_count 3 ws (number_of (text ws 1) then λ number. time_of (text ws 2)
+    then λ time. Ok (command.Call (call.CancelTrade number time)))
 
 -- line-lost LINE TIME
 abbrev pub line_lost_of : Words → Result Command Misread
-line_lost_of ws = of_count 3 ws (line_of (text ws 1) then λ line. time_of (text ws 2) then λ time. Ok (command.Call (call.LineLost line time)))
+line_lost_of ws =
+    of_count 3 ws (line_of (text ws 1) then λ line. time_of (text ws 2)
+    then λ time. Ok (command.Call (call.LineLost line time)))
 
 -- ---- the messages that a person asks for, each with its line
 
@@ -164,19 +176,22 @@ abbrev pub order_of : Side → Words → Result Command Misread
 order_of s ws =
     of_least 6 ws (
     line_of (text ws 1) then λ line. shares_of (text ws 3) then λ shares. pricing_of (text ws 4) then λ pricing.
-    marked_of (drop 6 ws) then λ marked. Ok (command.Request line (request.Order s (word ws 2) shares pricing (word ws 5) marked)))
+    marked_of (drop 6 ws) then λ marked. Ok (command.Request line
+    (request.Order s (word ws 2) shares pricing (word ws 5) marked)))
 
 -- cancel LINE SYMBOL SIDE CLIENTID ORIGINAL
 abbrev pub cancel_of : Words → Result Command Misread
 cancel_of ws =
-    of_count 6 ws (line_of (text ws 1) then λ line. side_of (text ws 3) then λ s. Ok (command.Request line (request.Cancel (word ws 2) s (word ws 4) (word ws 5))))
+    of_count 6 ws (line_of (text ws 1) then λ line. side_of (text ws 3)
+    then λ s. Ok (command.Request line (request.Cancel (word ws 2) s (word ws 4) (word ws 5))))
 
 -- replace LINE SYMBOL SIDE QTY PRICE CLIENTID ORIGINAL
 abbrev pub replace_of : Words → Result Command Misread
 replace_of ws =
     of_count 8 ws (
     line_of (text ws 1) then λ line. side_of (text ws 3) then λ s. shares_of (text ws 4) then λ shares.
-    price_of (text ws 5) then λ price. Ok (command.Request line (request.Replace (word ws 2) s shares price (word ws 6) (word ws 7))))
+    price_of (text ws 5) then λ price. Ok (command.Request line
+    (request.Replace (word ws 2) s shares price (word ws 6) (word ws 7))))
 
 abbrev pub firm_of : List ℕ → Result Bool Misread
 firm_of w = if bytes_eq w (codes "own") then Ok false else if bytes_eq w (codes "firm") then Ok true else Err why.Scope

@@ -571,8 +571,8 @@ fn by_verb<'a>(verb: Verb, words: &'a [&'a str]) -> Result<Command<'a>, Misread>
     }
 }
 
-/// What the words of a line ask for. Of several words that are not understood the first is told, as they are read: the name,
-/// how many there are, and then one after the other.
+/// What the words of a line ask for. Of several words that are not understood the first is told, as they are read: the
+/// name, how many there are, and then one after the other.
 pub fn read<'a>(words: &'a [&'a str]) -> Result<Command<'a>, Misread>
     ensures { result ≡ command_of words.entry }
 {

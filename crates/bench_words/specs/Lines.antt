@@ -13,7 +13,8 @@ Words = List (Bor (List ℕ))
 
 -- the words of a text, as std parts them at white space
 abbrev pub IsWordsOf : List ℕ → Words → Type 0
-IsWordsOf text words = (it : SplitWhitespace) × (split_whitespace_rest it ≡ text) × DrainsIf split_whitespace_steps ⊤ it words
+IsWordsOf text words =
+    (it : SplitWhitespace) × (split_whitespace_rest it ≡ text) × DrainsIf split_whitespace_steps ⊤ it words
 
 -- a line has its words where it is text, and else none
 abbrev pub Parted : List ℕ → Option (Vec (Bor (List ℕ)) Global) → Type 0

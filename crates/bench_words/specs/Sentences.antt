@@ -23,7 +23,8 @@ sentence_of why.Tape = codes "not understood: a line of the tape is not ORDER,QT
 sentence_of why.Scope = codes "not understood: what is cancelled is none of own, firm, instrument and segment"
 sentence_of why.Symbol = codes "not understood: the symbol has more than 6 characters, or others than printable ones"
 sentence_of why.Segment = codes "not understood: the segment has more than 4 characters, or others than printable ones"
-sentence_of why.ClientId = codes "not understood: the client order id has more than 20 characters, or others than printable ones"
+sentence_of why.ClientId =
+    codes "not understood: the client order id has more than 20 characters, or others than printable ones"
 sentence_of why.NotStarted = codes "not understood: the gateway is not started"
 sentence_of why.Started = codes "not understood: the gateway is started already"
 sentence_of why.NoFollower = codes "not understood: no line is followed"

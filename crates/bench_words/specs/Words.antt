@@ -31,7 +31,8 @@ whole_of k w =
     if is_numeral ds && nat_lt (digits_value 10 ds) (2 ^ k) then Some (digits_value 10 ds) else None
 
 abbrev pub negative_of : ℕ → List ℕ → Option ℤ
-negative_of k ds = if is_numeral ds && nat_le (digits_value 10 ds) (2 ^ k) then Some (neg_ℤ (pos (digits_value 10 ds))) else None
+negative_of k ds =
+    if is_numeral ds && nat_le (digits_value 10 ds) (2 ^ k) then Some (neg_ℤ (pos (digits_value 10 ds))) else None
 
 abbrev pub positive_of : ℕ → List ℕ → Option ℤ
 positive_of k ds = if is_numeral ds && nat_lt (digits_value 10 ds) (2 ^ k) then Some (pos (digits_value 10 ds)) else None
@@ -94,7 +95,8 @@ clock (Some s) (Some u) = Some (record { seconds = s; microseconds = u })
 -- two whole numbers round a point
 abbrev pub time_said : List ℕ → Option Time
 time_said w =
-    if list_any is_point w then clock (whole_of 32 (before_first is_point w)) (whole_of 32 (after_first is_point w)) else None
+    if list_any is_point w then clock (whole_of 32 (before_first is_point w)) (whole_of 32 (after_first is_point w))
+    else None
 
 abbrev pub time_of : List ℕ → Result Time Misread
 time_of w = or_misread why.Time (time_said w)
@@ -107,7 +109,8 @@ pair_of (Some q) (Ok p) = Some (q, p)
 -- a quantity and a price, with a comma between
 abbrev pub shares_at : List ℕ → Option (ℕ × Price)
 shares_at w =
-    if list_any is_comma w then pair_of (whole_of 32 (before_first is_comma w)) (price_of (after_first is_comma w)) else None
+    if list_any is_comma w then pair_of (whole_of 32 (before_first is_comma w)) (price_of (after_first is_comma w))
+    else None
 
 abbrev pub trade_of : Option ℕ → Option (ℕ × Price) → Option Line
 trade_of None t = None
@@ -117,4 +120,5 @@ trade_of (Some n) (Some t) = Some (record { number = n; quantity = t.0; price = 
 -- an order's number, and behind a comma a quantity and a price
 abbrev pub tape_line_of : List ℕ → Option Line
 tape_line_of w =
-    if list_any is_comma w then trade_of (whole_of 64 (before_first is_comma w)) (shares_at (after_first is_comma w)) else None
+    if list_any is_comma w then trade_of (whole_of 64 (before_first is_comma w)) (shares_at (after_first is_comma w))
+    else None

@@ -1,4 +1,5 @@
-// The lines of a script as words, and what a word says: numbers, times, prices, bytes, trades, or that it is not understood.
+// The lines of a script as words, and what a word says: numbers, times, prices, bytes, trades, or that it is not
+// understood.
 #![tactic(auto)]
 
 pub mod bytes;

@@ -37,7 +37,8 @@ listed list.PriceDifferentials = map price_differential_code price_differentials
 listed list.MassResponses = map mass_response_code mass_responses
 listed list.LimitOnly = map order_type_code (order_type.Limit ∷ [])
 listed list.DarkOnly = map book_code (book.DarkMidpoint ∷ [])
-listed list.ByInstrument = map mass_cancel_type_code (mass_cancel_type.FirmInstrument ∷ mass_cancel_type.CompIdInstrument ∷ [])
+listed list.ByInstrument =
+    map mass_cancel_type_code (mass_cancel_type.FirmInstrument ∷ mass_cancel_type.CompIdInstrument ∷ [])
 listed list.BySegment = map mass_cancel_type_code (mass_cancel_type.FirmSegment ∷ mass_cancel_type.CompIdSegment ∷ [])
 listed list.RejectedOnly = map exec_type_code (exec_type.Rejected ∷ [])
 listed list.TradeOnly = map exec_type_code (exec_type.Trade ∷ [])

@@ -52,7 +52,8 @@ Does s d (done.Recovered bs r) w e =
     (w ≡ s) × (r ≡ step.answer) × (e ≡ record { follower = step.after; token = after_recovered r d.token })
 Does s d (done.Ask n r) w e =
     let step = asks d.follower d.token n blank in
-    (w ≡ s) × (r.answer ≡ step.answer) × (r.buffer ≡ step.out) × (e ≡ record { follower = step.after; token = step.token })
+    (w ≡ s) × (r.answer ≡ step.answer) × (r.buffer ≡ step.out)
+    × (e ≡ record { follower = step.after; token = step.token })
 
 -- what is read at the other end: by a follower from what a gateway's call hands out, and by a gateway from a request
 abbrev pub Tells : State → Desk → Done → Type 0

@@ -27,7 +27,8 @@ fn make<'a, M: Matcher, S: Store>(
 ) -> (Done<'a>, Pending)
     requires { Tied token follower.old }
     ensures call { call_of result.0 ≡ call.entry }
-    ensures does { Does gateway.old (record { follower = follower.old; token = token }) result.0 gateway.new (record { follower = follower.new; token = result.1 }) }
+    ensures does { Does gateway.old (record { follower = follower.old; token = token }) result.0
+        gateway.new (record { follower = follower.new; token = result.1 }) }
     ensures told { Tells gateway.old (record { follower = follower.old; token = token }) result.0 }
     ensures tie { Tied result.1 follower.new }
 {
@@ -73,9 +74,15 @@ pub fn run<'a, M: Matcher, S: Store>(
     calls: &[Call<'a>],
 ) -> Result<Day<'a, M, S>, (StartRefusal, M, S)>
     ensures calls { IfOk result (λ d. map call_of d.log.items ≡ calls.now) }
-    ensures runs { IfOk result (λ d. Runs (fresh_state config.participants.items (fresh_venue config.instruments.items (M.meaning matcher) (M.next matcher) (S.free store))) fresh d.log.items d.gateway (record { follower = d.follower; token = d.token })) }
-    ensures conserved { IfOk result (λ d. Conserves (fresh_state config.participants.items (fresh_venue config.instruments.items (M.meaning matcher) (M.next matcher) (S.free store))) (venue_log d.log.items) d.gateway) }
-    ensures agreed { IfOk result (λ d. EndsAgree d.log.items d.gateway (record { follower = d.follower; token = d.token })) }
+    ensures runs { IfOk result (λ d. Runs (fresh_state config.participants.items
+        (fresh_venue config.instruments.items (M.meaning matcher) (M.next matcher) (S.free store))) fresh d.log.items
+        d.gateway (record { follower = d.follower; token = d.token })) }
+    ensures conserved { IfOk result (λ d. Conserves
+        (fresh_state config.participants.items
+        (fresh_venue config.instruments.items (M.meaning matcher) (M.next matcher) (S.free store)))
+        (venue_log d.log.items) d.gateway) }
+    ensures agreed { IfOk result (λ d. EndsAgree d.log.items d.gateway
+        (record { follower = d.follower; token = d.token })) }
 {
     let Ok(mut log) = Vec::with_capacity(alloc, calls.len()) else {
         return Err((StartRefusal::NoMemory, matcher, store));

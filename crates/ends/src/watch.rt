@@ -34,7 +34,14 @@ impl<'a> Model for Watch<'a> {
 
     ghost Value = { Line };
 
-    ghost view = { λ w. record { ready = w.ready; up = w.up; live = w.live; recovered = w.recovered; again = w.again; asked = w.asked } };
+    ghost view = { λ w. record {
+      ready = w.ready;
+      up = w.up;
+      live = w.live;
+      recovered = w.recovered;
+      again = w.again;
+      asked = w.asked;
+    } };
 }
 
 impl<'a> Watch<'a> {
@@ -93,7 +100,8 @@ impl<'a> Watch<'a> {
         request: &[u8],
         reply: &'a [u8],
     ) -> Result<Result<(), Breach>, AllocError>
-        ensures { IfOk result (λ r. after_recovery (heard_in reply.now) reply.now request.now self.old ≡ onto r self.new) }
+        ensures { IfOk result (λ r. after_recovery (heard_in reply.now) reply.now request.now self.old
+            ≡ onto r self.new) }
     {
         match hear(reply) {
             Ok(Heard::Ack(_) | Heard::Reject) => self.answered(request, reply),
@@ -170,7 +178,8 @@ impl<'a> Watch<'a> {
 
     // A report on the recovery channel is the next under way, or one of the download that came before.
     fn next_report(&mut self, message: &'a [u8]) -> Result<Result<(), Breach>, AllocError>
-        ensures { IfOk result (λ r. next_report message.now (next_of message.now self.old.recovered) self.old ≡ onto r self.new) }
+        ensures { IfOk result (λ r. next_report message.now (next_of message.now self.old.recovered) self.old
+            ≡ onto r self.new) }
     {
         if self.recovered.take(message) {
             self.again.push_front(message)?;

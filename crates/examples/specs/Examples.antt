@@ -12,7 +12,8 @@ use Rattle.wire.specs.Messages.{opening, verdict}
 -- a cancel of an order that is named by these bytes: its Order ID stands at 44
 abbrev pub cancel_of : List ℕ → List ℕ
 cancel_of id =
-    2 ∷ 70 ∷ 0 ∷ 70 ∷ codes "A2" ++ (replicate 18 0 ++ (codes "A1" ++ (replicate 18 0 ++ (id ++ (codes "VOD" ++ (replicate 3 0 ++ (1 ∷ 1 ∷ replicate 9 0)))))))
+    2 ∷ 70 ∷ 0 ∷ 70 ∷ codes "A2" ++ (replicate 18 0
+    ++ (codes "A1" ++ (replicate 18 0 ++ (id ++ (codes "VOD" ++ (replicate 3 0 ++ (1 ∷ 1 ∷ replicate 9 0)))))))
 
 -- the number of the check that refuses bytes on the real-time channel, and the offset of what fails it
 abbrev pub refusal_of : List ℕ → Option (ℕ × ℕ)

@@ -187,13 +187,15 @@ Settled (Answered a u) buffer r w after =
     (r ≡ Ok (length (answer_bytes a))) × (w ≡ u) × (after ≡ fronted (answer_bytes a) buffer)
 Settled (Reported most u) buffer r w after = (r ≡ Ok 0) × Follows most u w × (after ≡ buffer)
 
-abbrev pub Read : Option Fault → Channel → ℕ → List ℕ → Time → State → List ℕ → Result ℕ GatewayFault → State → List ℕ → Type 0
+abbrev pub Read : Option Fault → Channel → ℕ → List ℕ → Time → State → List ℕ
+    → Result ℕ GatewayFault → State → List ℕ → Type 0
 Read (Some f) ch line bs t s buffer r w after =
     (r ≡ Err (Session (Wire f))) × (w ≡ s) × (after ≡ fronted (answer_bytes (fault_rejection f bs)) buffer)
 Read None ch line bs t s buffer r w after =
     (m : Message) × Reads (reader_of ch) bs m × Settled (heard ch line m t s) buffer r w after
 
-abbrev pub Given : Option GatewayFault → Channel → ℕ → List ℕ → Time → State → List ℕ → Result ℕ GatewayFault → State → List ℕ → Type 0
+abbrev pub Given : Option GatewayFault → Channel → ℕ → List ℕ → Time → State → List ℕ
+    → Result ℕ GatewayFault → State → List ℕ → Type 0
 Given (Some e) ch line bs t s buffer r w after = (r ≡ Err e) × (w ≡ s) × (after ≡ buffer)
 Given None ch line bs t s buffer r w after = Read (verdict (reader_of ch) bs) ch line bs t s buffer r w after
 

@@ -70,7 +70,9 @@ impl<M: Matcher, S: Store> Gateway<M, S> {
         matcher: M,
         store: S,
     ) -> Result<Gateway<M, S>, (StartRefusal, M, S)>
-        ensures { Starts (is_new (M.meaning matcher) (S.kept store)) config.participants.items (fresh_venue config.instruments.items (M.meaning matcher) (M.next matcher) (S.free store)) matcher store result }
+        ensures { Starts (is_new (M.meaning matcher) (S.kept store)) config.participants.items
+            (fresh_venue config.instruments.items (M.meaning matcher) (M.next matcher) (S.free store)) matcher store
+            result }
     {
         if !matcher.is_empty() || !is_unused(&store) {
             return Err((StartRefusal::NotEmpty, matcher, store));

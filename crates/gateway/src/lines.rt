@@ -29,7 +29,8 @@ fn is_known(participant: &Participant, m: &Logon<'_>) -> bool
 // The line's marked orders expire, where they are to.
 #[tactic(auto, using(crate::proofs::Ends::ended_left, crate::proofs::Ends::left_alone))]
 fn expire_marked<M: Matcher, S: Store>(venue: &mut Venue<M, S>, ends: bool, line: usize, time: Time)
-    ensures { Leaves (ended venue.old (without_marked ends line time venue.old)) (without_marked ends line time venue.old) venue.new }
+    ensures { Leaves (ended venue.old (without_marked ends line time venue.old))
+        (without_marked ends line time venue.old) venue.new }
 {
     if ends {
         let selection = Selection {
@@ -80,7 +81,8 @@ impl<M: Matcher, S: Store> Gateway<M, S> {
     // Both channels of a line are closed.
     pub(crate) fn close_line(&mut self, line: usize, time: Time)
         requires { line < length self.old.lines }
-        ensures { Follows (ended self.old.venue (line_closed line time self.old).venue) (line_closed line time self.old) self.new }
+        ensures { Follows (ended self.old.venue (line_closed line time self.old).venue)
+            (line_closed line time self.old) self.new }
     {
         let session = self.session(line).close();
         self.set_session(line, session);

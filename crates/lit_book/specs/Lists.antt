@@ -1,4 +1,5 @@
--- Lists of the book's orders: who is found under a number, the best of those at rest, a change of one order. Assumes nothing.
+-- Lists of the book's orders: who is found under a number, the best of those at rest, a change of one order. Assumes
+-- nothing.
 use Rattle.std.specs.Prelude.{◌≡◌, ℕ, ◌<◌, Bool, true, if◌then◌else◌, not, ◌&&◌, List, [], ◌∷◌, ◌++◌, fold, length, take, Some, None, Option, ◌==◌, slice_index_or}
 use Rattle.std.specs.List.{find}
 use Rattle.keyed.specs.Look.{Found, distinct, keyed}

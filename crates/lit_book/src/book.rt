@@ -284,8 +284,8 @@ impl LitBook {
     }
 }
 
-// Beside the trait's contract each call says what it does to the orders that rest and the orders that wait, by the rules of
-// the book.
+// Beside the trait's contract each call says what it does to the orders that rest and the orders that wait, by the
+// rules of the book.
 impl Matcher for LitBook {
     ghost use Rattle.std.specs.Prelude.{◌≡◌, OnErr, is_ok, if◌then◌else◌, None};
     ghost use Rattle.std.specs.Result.{result_err};
@@ -304,9 +304,11 @@ impl Matcher for LitBook {
     #[tactic(auto, using(crate::proofs::Tables::count))]
     fn enter(&mut self, number: u64, terms: Terms) -> Result<(), Refusal>
         ensures refusal { result_err result ≡ enter_refusal (lit_meaning self.old) number terms.quantity }
-        ensures after { lit_meaning self.new ≡ (if is_ok result then opened (lit_meaning self.old) number (held_of terms) else lit_meaning self.old) }
+        ensures after { lit_meaning self.new ≡ (if is_ok result
+            then opened (lit_meaning self.old) number (held_of terms) else lit_meaning self.old) }
         ensures kept { OnErr result (lit_next self.new ≡ lit_next self.old) }
-        ensures lists { lit self.new ≡ (if is_ok result then entered (lit self.old) (order_of number terms) else lit self.old) }
+        ensures lists { lit self.new ≡ (if is_ok result then entered (lit self.old) (order_of number terms)
+            else lit self.old) }
     {
         if terms.quantity == 0 {
             return Err(Refusal::NoQuantity);
@@ -323,7 +325,8 @@ impl Matcher for LitBook {
 
     fn cancel(&mut self, number: u64) -> Result<(), Refusal>
         ensures refusal { result_err result ≡ cancel_refusal (lit_meaning self.old) number }
-        ensures after { lit_meaning self.new ≡ (if is_ok result then closed (lit_meaning self.old) number else lit_meaning self.old) }
+        ensures after { lit_meaning self.new ≡ (if is_ok result then closed (lit_meaning self.old) number
+            else lit_meaning self.old) }
         ensures kept { OnErr result (lit_next self.new ≡ lit_next self.old) }
         ensures lists { lit self.new ≡ (if is_ok result then altered (lit self.old) number None else lit self.old) }
     {
@@ -334,9 +337,11 @@ impl Matcher for LitBook {
 
     fn amend(&mut self, number: u64, quantity: u32, price: Price) -> Result<(), Refusal>
         ensures refusal { result_err result ≡ amend_refusal (lit_meaning self.old) number quantity }
-        ensures after { lit_meaning self.new ≡ (if is_ok result then resized (lit_meaning self.old) number quantity else lit_meaning self.old) }
+        ensures after { lit_meaning self.new ≡ (if is_ok result then resized (lit_meaning self.old) number quantity
+            else lit_meaning self.old) }
         ensures kept { OnErr result (lit_next self.new ≡ lit_next self.old) }
-        ensures lists { lit self.new ≡ (if is_ok result then amended (lit self.old) (order_under (lit self.old) number) quantity price else lit self.old) }
+        ensures lists { lit self.new ≡ (if is_ok result
+            then amended (lit self.old) (order_under (lit self.old) number) quantity price else lit self.old) }
     {
         let i = self.find(number).ok_or(Refusal::NotOpen)?;
         if quantity == 0 {

@@ -19,7 +19,8 @@ party_text None = codes "-"
 
 abbrev pub trade_text : List ℕ → List ℕ → ℕ → Price → List ℕ
 trade_text maker taker q price =
-    codes "trade " ++ (decimal q ++ (codes " at " ++ (signed_decimal price.raw ++ (codes ": " ++ (taker ++ (codes " with " ++ maker))))))
+    codes "trade " ++ (decimal q ++ (codes " at "
+    ++ (signed_decimal price.raw ++ (codes ": " ++ (taker ++ (codes " with " ++ maker))))))
 
 abbrev pub event_text : Event → List ℕ
 event_text Nothing = codes "nothing"

@@ -82,7 +82,8 @@ pub trait Matcher {
     /// order.
     fn enter(&mut self, number: u64, terms: Terms) -> Result<(), Refusal>
         ensures refusal { result_err result ≡ enter_refusal (meaning self.old) number terms.quantity }
-        ensures after { meaning self.new ≡ (if is_ok result then opened (meaning self.old) number (held_of terms) else meaning self.old) }
+        ensures after { meaning self.new ≡ (if is_ok result then opened (meaning self.old) number (held_of terms)
+            else meaning self.old) }
         ensures kept { OnErr result (next self.new ≡ next self.old) };
 
     /// Ends an open order. Refused exactly where it is not open.
@@ -95,7 +96,8 @@ pub trait Matcher {
     /// 0, tried in this order.
     fn amend(&mut self, number: u64, quantity: u32, price: Price) -> Result<(), Refusal>
         ensures refusal { result_err result ≡ amend_refusal (meaning self.old) number quantity }
-        ensures after { meaning self.new ≡ (if is_ok result then resized (meaning self.old) number quantity else meaning self.old) }
+        ensures after { meaning self.new ≡ (if is_ok result then resized (meaning self.old) number quantity
+            else meaning self.old) }
         ensures kept { OnErr result (next self.new ≡ next self.old) };
 
     /// The next event, and what it changes.

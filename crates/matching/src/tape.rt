@@ -136,7 +136,9 @@ impl Tape {
 
     // The place of the order that a line trades, where the line fits.
     fn place_for(&self, line: Line) -> Option<usize>
-        ensures { MatchOption result (fits (tape_meaning self.now).orders line ≡ false) (λ i. (fits (tape_meaning self.now).orders line ≡ true) × FoundRow self.now.rows.items line.number (Some i)) }
+        ensures { MatchOption result (fits (tape_meaning self.now).orders line ≡ false)
+            (λ i. (fits (tape_meaning self.now).orders line ≡ true)
+            × FoundRow self.now.rows.items line.number (Some i)) }
     {
         if line.quantity == 0 {
             return None;
@@ -151,7 +153,8 @@ impl Tape {
 
     // Goes on to the next line that fits, and gives it with the place of its order.
     fn next_line(&mut self) -> Option<(usize, Line)>
-        ensures line { NextLine (tape_meaning self.new).orders self.new.rows.items (played (tape_meaning self.old).orders (ahead self.old)).0 result }
+        ensures line { NextLine (tape_meaning self.new).orders self.new.rows.items
+            (played (tape_meaning self.old).orders (ahead self.old)).0 result }
         ensures lines { ahead self.new ≡ (played (tape_meaning self.old).orders (ahead self.old)).1 }
         ensures same { tape_meaning self.new ≡ tape_meaning self.old }
     {
@@ -198,7 +201,8 @@ impl Matcher for Tape {
     #[tactic(auto, using(crate::proofs::Rows::count))]
     fn enter(&mut self, number: u64, terms: Terms) -> Result<(), Refusal>
         ensures refusal { result_err result ≡ enter_refusal (tape_meaning self.old) number terms.quantity }
-        ensures after { tape_meaning self.new ≡ (if is_ok result then opened (tape_meaning self.old) number (held_of terms) else tape_meaning self.old) }
+        ensures after { tape_meaning self.new
+            ≡ (if is_ok result then opened (tape_meaning self.old) number (held_of terms) else tape_meaning self.old) }
         ensures kept { OnErr result (tape_next self.new ≡ tape_next self.old) }
         ensures ahead { ahead self.new ≡ ahead self.old }
     {
@@ -221,7 +225,8 @@ impl Matcher for Tape {
 
     fn cancel(&mut self, number: u64) -> Result<(), Refusal>
         ensures refusal { result_err result ≡ cancel_refusal (tape_meaning self.old) number }
-        ensures after { tape_meaning self.new ≡ (if is_ok result then closed (tape_meaning self.old) number else tape_meaning self.old) }
+        ensures after { tape_meaning self.new
+            ≡ (if is_ok result then closed (tape_meaning self.old) number else tape_meaning self.old) }
         ensures kept { OnErr result (tape_next self.new ≡ tape_next self.old) }
         ensures ahead { ahead self.new ≡ ahead self.old }
     {
@@ -233,7 +238,8 @@ impl Matcher for Tape {
     // A tape knows no prices of its orders.
     fn amend(&mut self, number: u64, quantity: u32, _price: Price) -> Result<(), Refusal>
         ensures refusal { result_err result ≡ amend_refusal (tape_meaning self.old) number quantity }
-        ensures after { tape_meaning self.new ≡ (if is_ok result then resized (tape_meaning self.old) number quantity else tape_meaning self.old) }
+        ensures after { tape_meaning self.new
+            ≡ (if is_ok result then resized (tape_meaning self.old) number quantity else tape_meaning self.old) }
         ensures kept { OnErr result (tape_next self.new ≡ tape_next self.old) }
         ensures ahead { ahead self.new ≡ ahead self.old }
     {

@@ -1,4 +1,5 @@
-// The messages of orders, and of what becomes of them: what each one carries, its table of fields, its reader and its writer.
+// The messages of orders, and of what becomes of them: what each one carries, its table of fields, its reader and its
+// writer.
 #![tactic(auto)]
 
 pub mod execution_report;

@@ -19,7 +19,8 @@ found line None original rows = latest line (said original.bytes) rows
 -- symbol, side and book are the order's
 abbrev pub agrees : Naming → Row → Bool
 agrees n r =
-    r.terms.instrument == n.place && (side_code r.terms.side == side_code n.side && book_code r.terms.book == book_code n.book)
+    r.terms.instrument == n.place
+    && (side_code r.terms.side == side_code n.side && book_code r.terms.book == book_code n.book)
 
 abbrev pub if_agreeing : Naming → Option Row → Result Row Refusal
 if_agreeing n None = Err NoSuchOrder

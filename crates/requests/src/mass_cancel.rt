@@ -100,7 +100,9 @@ fn in_instrument<M: Matcher, S: Store>(
     m: &OrderMassCancelRequest<'_>,
     time: Time,
 ) -> Result<(), Turned>
-    ensures { Gives (in_instrument (look_up venue.old.instruments symbol.now) (is_owner owners.entry) book line m.now time venue.old) venue.old result venue.new }
+    ensures { Gives (in_instrument (look_up venue.old.instruments symbol.now)
+        (is_owner owners.entry) book line m.now time venue.old)
+        venue.old result venue.new }
 {
     let Some(listing) = look_up(venue.instruments(), symbol) else {
         return Err(Turned::UnknownInstrument);
@@ -133,7 +135,9 @@ fn in_all<M: Matcher, S: Store>(
     time: Time,
 ) -> Result<(), Turned>
     requires { selection.now.marked ≡ false }
-    ensures { Gives (in_all (is_owner selection.now.owners) (in_scope venue.old.instruments selection.now.scope) line m.now time venue.old) venue.old result venue.new }
+    ensures { Gives (in_all (is_owner selection.now.owners)
+        (in_scope venue.old.instruments selection.now.scope) line m.now time venue.old)
+        venue.old result venue.new }
 {
     if venue.spare() < 3 {
         return Err(Turned::NoPlace);
@@ -166,7 +170,8 @@ fn in_segment<M: Matcher, S: Store>(
     m: &OrderMassCancelRequest<'_>,
     time: Time,
 ) -> Result<(), Turned>
-    ensures { Gives (in_segment segment.now (is_owner owners.entry) line m.now time venue.old) venue.old result venue.new }
+    ensures { Gives (in_segment segment.now (is_owner owners.entry) line m.now time venue.old)
+        venue.old result venue.new }
 {
     if !has_segment(venue.instruments(), segment) {
         return Err(Turned::UnknownInstrument);

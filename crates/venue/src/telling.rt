@@ -47,7 +47,8 @@ fn entry_of(owner: usize, report: ExecutionReport) -> Entry
 fn tell<S: Store>(store: &mut S, partition: Partition, owner: usize, made: &Made) -> u32
     requires { length (and_also made.now.report made.now.restated) ≤ S.free store.old }
     ensures number { result ≡ length (at (S.kept store.old) partition) + 1 }
-    ensures kept { S.kept store.new ≡ appended (S.kept store.old) partition (entries_of owner (and_also made.now.report made.now.restated)) }
+    ensures kept { S.kept store.new ≡ appended (S.kept store.old) partition
+        (entries_of owner (and_also made.now.report made.now.restated)) }
     ensures free { Uses (length (and_also made.now.report made.now.restated)) (S.free store.old) (S.free store.new) }
 {
     match made.restated {
@@ -73,7 +74,8 @@ pub(crate) fn open<S: Store>(
     requires room { length table.old < ORDERS }
     requires placed { terms.instrument < length instruments.now }
     requires place { 0 < S.free store.old }
-    ensures after { ledger table.new (S.kept store.new) ≡ entered instruments.now time terms ask (ledger table.old (S.kept store.old)) }
+    ensures after { ledger table.new (S.kept store.new)
+        ≡ entered instruments.now time terms ask (ledger table.old (S.kept store.old)) }
     ensures free { Uses 1 (S.free store.old) (S.free store.new) }
 {
     let instrument = instruments[terms.instrument];
@@ -107,7 +109,8 @@ pub(crate) fn change<S: Store>(
     requires placed { (r : Row) → under table.old number ≡ Some r → r.terms.instrument < length instruments.now }
     requires places { report_count change.now ≤ S.free store.old }
     ensures number { result ≡ next_report instruments.now number (ledger table.old (S.kept store.old)) }
-    ensures after { ledger table.new (S.kept store.new) ≡ changed instruments.now time number change.now (ledger table.old (S.kept store.old)) }
+    ensures after { ledger table.new (S.kept store.new)
+        ≡ changed instruments.now time number change.now (ledger table.old (S.kept store.old)) }
     ensures free { Uses (report_count change.now) (S.free store.old) (S.free store.new) }
 {
     let Some(order) = table.order(number) else {
@@ -139,7 +142,8 @@ pub(crate) fn expire<S: Store>(
     requires recorded { Recorded instruments.now table.old (S.kept store.old) }
     requires opened { is_some (open_of (under table.old number)) ≡ true }
     requires place { 1 ≤ S.free store.old }
-    ensures after { ledger table.new (S.kept store.new) ≡ ledger_expired instruments.now time number (ledger table.old (S.kept store.old)) }
+    ensures after { ledger table.new (S.kept store.new)
+        ≡ ledger_expired instruments.now time number (ledger table.old (S.kept store.old)) }
     ensures free { Uses 1 (S.free store.old) (S.free store.new) }
 {
     let Some(order) = table.order(number) else {

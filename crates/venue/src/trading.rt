@@ -78,7 +78,8 @@ fn fill_side<S: Store>(
     requires allowed { SideAllows fill side table.old }
     requires place { 1 ≤ S.free store.old }
     ensures side { result ≡ side_told instruments.now side (ledger table.old (S.kept store.old)) }
-    ensures after { ledger table.new (S.kept store.new) ≡ side_filled instruments.now time fill side (ledger table.old (S.kept store.old)) }
+    ensures after { ledger table.new (S.kept store.new)
+        ≡ side_filled instruments.now time fill side (ledger table.old (S.kept store.old)) }
     ensures free { Uses 1 (S.free store.old) (S.free store.new) }
 {
     match side {
@@ -102,11 +103,15 @@ pub(crate) fn trade<S: Store>(
 ) -> Trade
     requires recorded { Recorded instruments.now table.old (S.kept store.old) }
     requires first { SideAllows (filling deal Added) passive table.old }
-    requires between { Recorded instruments.now (passive_filled instruments.now time deal passive (ledger table.old (S.kept store.old))).rows (passive_filled instruments.now time deal passive (ledger table.old (S.kept store.old))).kept }
-    requires second { SideAllows (filling deal Removed) aggressive (passive_filled instruments.now time deal passive (ledger table.old (S.kept store.old))).rows }
+    requires between { Recorded instruments.now
+        (passive_filled instruments.now time deal passive (ledger table.old (S.kept store.old))).rows
+        (passive_filled instruments.now time deal passive (ledger table.old (S.kept store.old))).kept }
+    requires second { SideAllows (filling deal Removed) aggressive
+        (passive_filled instruments.now time deal passive (ledger table.old (S.kept store.old))).rows }
     requires places { 2 ≤ S.free store.old }
     ensures trade { result ≡ trade_of instruments.now time deal passive aggressive (ledger table.old (S.kept store.old)) }
-    ensures after { ledger table.new (S.kept store.new) ≡ both_filled instruments.now time deal passive aggressive (ledger table.old (S.kept store.old)) }
+    ensures after { ledger table.new (S.kept store.new)
+        ≡ both_filled instruments.now time deal passive aggressive (ledger table.old (S.kept store.old)) }
     ensures free { Uses 2 (S.free store.old) (S.free store.new) }
 {
     let at_rest = deal.fill(Liquidity::Added);
@@ -140,7 +145,8 @@ fn undo_side<S: Store>(
     requires recorded { Recorded instruments.now table.old (S.kept store.old) }
     requires executed { SideExecuted quantity side table.old }
     requires places { 2 ≤ S.free store.old }
-    ensures after { ledger table.new (S.kept store.new) ≡ side_undone instruments.now time quantity side (ledger table.old (S.kept store.old)) }
+    ensures after { ledger table.new (S.kept store.new)
+        ≡ side_undone instruments.now time quantity side (ledger table.old (S.kept store.old)) }
     ensures free { Uses 2 (S.free store.old) (S.free store.new) }
 {
     if let Some(side) = side {
@@ -169,10 +175,14 @@ pub(crate) fn undo<S: Store>(
 )
     requires recorded { Recorded instruments.now table.old (S.kept store.old) }
     requires first { SideExecuted trade.quantity trade.passive table.old }
-    requires between { Recorded instruments.now (passive_undone instruments.now time trade (ledger table.old (S.kept store.old))).rows (passive_undone instruments.now time trade (ledger table.old (S.kept store.old))).kept }
-    requires second { SideExecuted trade.quantity trade.aggressive (passive_undone instruments.now time trade (ledger table.old (S.kept store.old))).rows }
+    requires between { Recorded instruments.now
+        (passive_undone instruments.now time trade (ledger table.old (S.kept store.old))).rows
+        (passive_undone instruments.now time trade (ledger table.old (S.kept store.old))).kept }
+    requires second { SideExecuted trade.quantity trade.aggressive
+        (passive_undone instruments.now time trade (ledger table.old (S.kept store.old))).rows }
     requires places { 4 ≤ S.free store.old }
-    ensures after { ledger table.new (S.kept store.new) ≡ both_undone instruments.now time trade (ledger table.old (S.kept store.old)) }
+    ensures after { ledger table.new (S.kept store.new)
+        ≡ both_undone instruments.now time trade (ledger table.old (S.kept store.old)) }
     ensures free { Uses 4 (S.free store.old) (S.free store.new) }
 {
     undo_side(

@@ -80,7 +80,9 @@ impl<M: Matcher, S: Store> Venue<M, S> {
         requires listed { length instruments.items ≤ INSTRUMENTS }
         requires nothing_open { len (M.meaning matcher).orders ≡ 0 }
         requires nothing_kept { S.kept store ≡ empty }
-        ensures { MatchResult result (λ d. d ≡ fresh instruments.items (M.meaning matcher) (M.next matcher) (S.free store)) (λ back. back ≡ (matcher, store)) }
+        ensures { MatchResult result
+            (λ d. d ≡ fresh instruments.items (M.meaning matcher) (M.next matcher) (S.free store))
+            (λ back. back ≡ (matcher, store)) }
     {
         let Ok(table) = Table::new(alloc) else {
             return Err((matcher, store));
@@ -253,7 +255,9 @@ impl<M: Matcher, S: Store> Venue<M, S> {
 
     // Withdraws the order of a number, if it is meant.
     fn withdraw_if(&mut self, number: u64, selection: &Selection, cause: Cause, time: Time)
-        ensures { Withdraws self.old (withdrawn_if (picks self.old.instruments selection.now) cause time number self.old) self.new }
+        ensures { Withdraws self.old
+            (withdrawn_if (picks self.old.instruments selection.now) cause time number self.old)
+            self.new }
     {
         let Some(order) = self.table.order(number) else {
             return;
@@ -268,7 +272,9 @@ impl<M: Matcher, S: Store> Venue<M, S> {
 
     /// Withdraws the open orders that are meant, by rising number, each as `cancel` or `expire` does.
     pub fn withdraw_all(&mut self, selection: &Selection, cause: Cause, time: Time)
-        ensures { Withdraws self.old (withdrawn_all (picks self.old.instruments selection.now) cause time self.old) self.new }
+        ensures { Withdraws self.old
+            (withdrawn_all (picks self.old.instruments selection.now) cause time self.old)
+            self.new }
     {
         let count = self.table.len();
         for i in 0..count {
