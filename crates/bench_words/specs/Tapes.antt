@@ -1,5 +1,5 @@
 -- The trades that a tape is to play, as the words of a line. Assumes nothing.
-use Rattle.std.specs.Prelude.{ℕ, Bool, List, drop, is_some}
+use Rattle.std.specs.Prelude.{Bool, List, drop, is_some}
 use Rattle.std.specs.List.{filter_map, list_all}
 use Rattle.matching.specs.declared.tape.Line.{Line}
 use Rattle.bench_words.specs.Lines.{Words}

@@ -1,5 +1,5 @@
 -- A message that was read lies in its bytes, and one that was written stands at the front of its buffer. Assumes nothing.
-use Rattle.std.proofs.Common.{◌≡◌, ℕ, ◌+◌, ◌-◌, ◌<◌, ◌≤◌, true, List, ◌++◌, length, take, drop, ap, ◌∙◌, arith, lit≤, length-append, length-drop}
+use Rattle.std.proofs.Common.{◌≡◌, ℕ, ◌+◌, ◌-◌, ◌≤◌, true, List, ◌++◌, length, take, drop, ap, ◌∙◌, arith, lit≤, length-append, length-drop}
 use Rattle.std.proofs.lemmas.List.{take_at}
 use Rattle.layout.specs.Layout.{within}
 use Rattle.wire.specs.declared.kinds.Channel.{Channel}

@@ -1,12 +1,9 @@
 -- Identifiers give back what they name, and a message the report that it was made of. Assumes nothing.
-use Rattle.std.proofs.Common.{◌≡◌, ℕ, ℤ, ◌+◌, ◌*◌, ◌/◌, ◌%◌, ◌<◌, true, List, length, Some, None, Option, sym, ap, ◌∙◌, subst, arith}
+use Rattle.std.proofs.Common.{◌≡◌, ℕ, ℤ, ◌+◌, ◌*◌, ◌/◌, ◌%◌, ◌<◌, List, Some, None, Option, ap, ◌∙◌, arith}
 use Rattle.std.specs.Option.{option_map}
-use Rattle.std.proofs.Math.Bool.{Bool-set}
-use Rattle.std.proofs.Math.Nat.{ℕ_set}
 use Rattle.std.proofs.lemmas.Bool.{cond-true, lt-ltb}
-use Rattle.texts.specs.Bytes.{is_text, said}
+use Rattle.texts.specs.Bytes.{said}
 use Rattle.texts.specs.Identifiers.{Returns, number_of, execution_of, order_id_text, execution_id_text, execution_number}
-use Rattle.texts.specs.declared.fixed.FixedText.{FixedText}
 use Rattle.texts.specs.declared.identifiers.OrderId.{OrderId}
 use Rattle.texts.specs.declared.identifiers.ExecutionId.{ExecutionId}
 use Rattle.texts.specs.declared.identifiers.TheConstants.{SEQUENCES}

@@ -1,8 +1,6 @@
 -- What is told from a message's contents is what the message tells. Assumes nothing.
-use Rattle.std.proofs.Common.{◌≡◌, ℕ, ◌≤◌, true, cond, List, [], ◌∷◌, ◌++◌, map, length, take, drop, replicate, pos, Some, None, Ok, Option, refl, sym, ap, ◌∙◌, subst, arith, le-leb}
+use Rattle.std.proofs.Common.{◌≡◌, ℕ, ◌≤◌, cond, List, [], ◌∷◌, ◌++◌, map, length, take, drop, replicate, pos, Some, None, Ok, Option, refl, sym, ap, ◌∙◌, subst, arith, le-leb}
 use Rattle.std.specs.Option.{unwrap_or, is_some, option_map}
-use Rattle.std.proofs.Math.Bool.{Bool-set}
-use Rattle.std.proofs.Math.Nat.{ℕ_set}
 use Rattle.std.proofs.lemmas.Bool.{and_from, cond-true}
 use Rattle.std.proofs.lemmas.List.{length-take-le, take_at}
 use Rattle.std.proofs.lemmas.List.Sums.{prefix_len-le-length}
@@ -27,7 +25,7 @@ use Rattle.codes.specs.declared.session.Partition.{Partition}
 use Rattle.terms.specs.Execution.{kind_of as exec_of}
 use Rattle.terms.specs.declared.execution.Execution.{Execution}
 use Rattle.terms.specs.declared.execution.Execution.TheVariants as execution
-use Rattle.texts.specs.Bytes.{printable, is_text, padded}
+use Rattle.texts.specs.Bytes.{printable, padded}
 use Rattle.texts.specs.Texts.{fitting}
 use Rattle.texts.specs.Says.{says, kept}
 use Rattle.texts.specs.declared.fixed.FixedText.{FixedText}

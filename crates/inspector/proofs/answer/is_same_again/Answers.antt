@@ -1,6 +1,6 @@
 use Rattle.std.proofs.Common.{◌≡◌, ℕ, ◌-◌, length, take, replicate, ap, ◌∙◌, arith, rules}
 use Rattle.std.specs.Str.{bytes_eq}
-use Rattle.wire.specs.Messages.{kind_of, written}
+use Rattle.wire.specs.Messages.{written}
 use Rattle.inspector.proofs.Buffers.{front}
 use Rattle.inspector.proofs.answer.is_same_again.Goals as goal
 

@@ -1,4 +1,4 @@
-use Rattle.std.proofs.Common.{true, [], ◌++◌, refl, rules}
+use Rattle.std.proofs.Common.{true, ◌++◌, refl}
 use Rattle.std.proofs.Output.{has_written_append, has_written_of_eq}
 use Rattle.layout.specs.Layout.{form_of, got}
 use Rattle.inspector.specs.Shown.{field_text}
