@@ -35,12 +35,17 @@ answers_plain r a b e h = answers_from r a (subst (Answers r) (sym e) (answers_t
 -- the message of an answer is written as the answer's bytes
 form : (a : Answer) (m : Message) → Answers a m → written m ≡ answer_bytes a
 form (answer.LogonReply c) (message.LogonReply m) h =
-    ap (λ x. message_bytes kind.LogonReply (int32 x ∷ words (says m.expiry_days) ∷ [])) h.0 ∙ ap (λ x. message_bytes kind.LogonReply (int32 c ∷ words x ∷ [])) h.1
-form (answer.Ack r) (message.MissedMessageRequestAck m) h = ap (λ x. message_bytes kind.MissedMessageRequestAck (figure (ack_response_code x) ∷ [])) h
+    ap (λ x. message_bytes kind.LogonReply (int32 x ∷ words (says m.expiry_days) ∷ [])) h.0 ∙ ap
+    (λ x. message_bytes kind.LogonReply (int32 c ∷ words x ∷ [])) h.1
+form (answer.Ack r) (message.MissedMessageRequestAck m) h =
+    ap (λ x. message_bytes kind.MissedMessageRequestAck (figure (ack_response_code x) ∷ [])) h
 form (answer.Reject r) (message.Reject m) h =
-    ap (λ x. message_bytes kind.Reject (int32 x ∷ words (says m.reason) ∷ figure m.message_type ∷ words (says m.client_order_id) ∷ [])) h.0
-    ∙ ap (λ x. message_bytes kind.Reject (int32 (pos r.code) ∷ words x ∷ figure m.message_type ∷ words (says m.client_order_id) ∷ [])) h.1
-    ∙ ap (λ x. message_bytes kind.Reject (int32 (pos r.code) ∷ words [] ∷ figure x ∷ words (says m.client_order_id) ∷ [])) h.2
+    ap (λ x. message_bytes kind.Reject (int32 x ∷ words (says m.reason) ∷ figure m.message_type
+    ∷ words (says m.client_order_id) ∷ [])) h.0
+    ∙ ap (λ x. message_bytes kind.Reject (int32 (pos r.code) ∷ words x ∷ figure m.message_type
+    ∷ words (says m.client_order_id) ∷ [])) h.1
+    ∙ ap (λ x. message_bytes kind.Reject (int32 (pos r.code) ∷ words [] ∷ figure x ∷ words (says m.client_order_id)
+    ∷ [])) h.2
     ∙ ap (λ x. message_bytes kind.Reject (int32 (pos r.code) ∷ words [] ∷ figure r.message_type ∷ words x ∷ [])) h.3
 form a m h = absurd h
 
@@ -59,5 +64,6 @@ there (answer.Reject r) t = t
 pub told : (a : Answer) (m : Message) → Answers a m → Holdable m → GivenBack m → AnswerTold a
 told a m h w g = there a (heard (Answers a) (answer_bytes a) m (answers_plain a) (taken_by a m h) w g h (form a m h))
 
-pub sent : (a : Answer) (m : Message) (n : ℕ) (before after : List ℕ) → Answers a m → Sent (written m) before after n → Sent (answer_bytes a) before after n
+pub sent : (a : Answer) (m : Message) (n : ℕ) (before after : List ℕ) → Answers a m → Sent (written m) before after n
+    → Sent (answer_bytes a) before after n
 sent a m n before after h s = subst (λ bs. Sent bs before after n) (form a m h) s

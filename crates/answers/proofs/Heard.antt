@@ -36,7 +36,8 @@ total_short _ = omega arith
 pub short : (k : Kind) (n : ℕ) → n ≡ total_of k → n ≤ 512
 short k n e = let h = total_short k in omega (arith, e, h)
 
-pub sent : (m : Message) (n : ℕ) (before after : List ℕ) → Holdable m → n ≡ total_of (kind_of m) → after ≡ written m ++ drop n before → Sent (written m) before after n
+pub sent : (m : Message) (n : ℕ) (before after : List ℕ) → Holdable m → n ≡ total_of (kind_of m) → after ≡ written m
+    ++ drop n before → Sent (written m) before after n
 sent m n before after h e w =
     let k = kind_of m in
     let q = header (letter_of k) (total_of k) in
@@ -45,7 +46,9 @@ sent m n before after h e w =
     (omega (arith, l, e), short k n e, w)
 
 -- what was written is what a follower reads
-pub heard : (P : Message → Type 0) (bs : List ℕ) (m : Message) → ((a b : Message) → plain a ≡ plain b → P b → P a) → takes Follower (letter_of (kind_of m)) ≡ Some (kind_of m) → Holdable m → GivenBack m → P m → written m ≡ bs → Told P bs
+pub heard : (P : Message → Type 0) (bs : List ℕ) (m : Message) → ((a b : Message) → plain a ≡ plain b → P b → P a)
+    → takes Follower (letter_of (kind_of m)) ≡ Some (kind_of m) → Holdable m → GivenBack m → P m → written m ≡ bs
+    → Told P bs
 heard P bs m same t w g h e =
     let back = g Follower t in
     record {
@@ -74,7 +77,9 @@ kind_plain : (m : Message) → kind_of (plain m) ≡ kind_of m
 kind_plain (message.Logon m) = refl
 kind_plain _ = refl
 
-scope_plain : (c : Name 20) (s : Scope) → contents_of (message.OrderMassCancelRequest (record { client_order_id = plain_name c; scope = plain_scope s })) ≡ contents_of (message.OrderMassCancelRequest (record { client_order_id = c; scope = s }))
+scope_plain : (c : Name 20) (s : Scope) → contents_of
+    (message.OrderMassCancelRequest (record { client_order_id = plain_name c; scope = plain_scope s }))
+    ≡ contents_of (message.OrderMassCancelRequest (record { client_order_id = c; scope = s }))
 scope_plain c (scope.FirmInstrument t b) = refl
 scope_plain c _ = refl
 
@@ -82,10 +87,12 @@ contents_plain : (m : Message) → contents_of (plain m) ≡ contents_of m
 contents_plain (message.OrderMassCancelRequest m) = scope_plain m.client_order_id m.scope
 contents_plain _ = refl
 
-along : {X : Type 0} (f : Message → X) → ((m : Message) → f (plain m) ≡ f m) → (a b : Message) → plain a ≡ plain b → f a ≡ f b
+along : {X : Type 0} (f : Message → X) → ((m : Message) → f (plain m) ≡ f m) → (a b : Message) → plain a ≡ plain b
+    → f a ≡ f b
 along f p a b e = sym (p a) ∙ ap f e ∙ p b
 
-reports_plain : (p : Partition) (n : ℕ) (r : Report) (a b : Message) → plain a ≡ plain b → Reports p n r b → Reports p n r a
+reports_plain : (p : Partition) (n : ℕ) (r : Report) (a b : Message) → plain a ≡ plain b → Reports p n r b
+    → Reports p n r a
 reports_plain p n r a b e h =
     record {
       report = along report_in report_plain a b e ∙ h.report;
@@ -106,13 +113,16 @@ ends_plain : (r : ReportResponse) (a b : Message) → plain a ≡ plain b → En
 ends_plain r a b e h = ends_from r a (subst (Ends r) (sym e) (ends_to r b h))
 
 -- a message that says what a report's does stands where it does
-figure_at : (i : ℕ) {us vs : List Content} → us ≡ vs → figure_of (slice_index_or us i nothing) ≡ figure_of (slice_index_or vs i nothing)
+figure_at : (i : ℕ) {us vs : List Content} → us ≡ vs → figure_of (slice_index_or us i nothing)
+    ≡ figure_of (slice_index_or vs i nothing)
 figure_at i e = ap (λ ws. figure_of (slice_index_or ws i nothing)) e
 
-int32_at : (i : ℕ) {us vs : List Content} → us ≡ vs → int32_of (slice_index_or us i nothing) ≡ int32_of (slice_index_or vs i nothing)
+int32_at : (i : ℕ) {us vs : List Content} → us ≡ vs → int32_of (slice_index_or us i nothing)
+    ≡ int32_of (slice_index_or vs i nothing)
 int32_at i e = ap (λ ws. int32_of (slice_index_or ws i nothing)) e
 
-at_place : (q p : Partition) (z : ℤ) (n : ℕ) → partition_code q ≡ partition_code p → z ≡ pos n → ◌≡◌ {A = Option (Partition × ℤ)} (Some (q, z)) (Some (p, pos n))
+at_place : (q p : Partition) (z : ℤ) (n : ℕ) → partition_code q ≡ partition_code p → z ≡ pos n
+    → ◌≡◌ {A = Option (Partition × ℤ)} (Some (q, z)) (Some (p, pos n))
 at_place q p z n a b = let f = partition_one q p a in cc
 
 follower_takes : (r : Report) → takes Follower (letter_of (kind_told r)) ≡ Some (kind_told r)
@@ -120,19 +130,24 @@ follower_takes (report.Execution e) = refl
 follower_takes (report.CancelReject e) = refl
 follower_takes (report.MassCancel e) = refl
 
-placed : (p : Partition) (n : ℕ) (r : Report) (m : Message) → report_in m ≡ Some r → contents_of m ≡ told_as p n r → place_in m ≡ Some (p, pos n)
-placed p n (report.Execution e) (message.ExecutionReport m) h c = at_place m.partition p m.sequence n (figure_at 0 c) (int32_at 1 c)
+placed : (p : Partition) (n : ℕ) (r : Report) (m : Message) → report_in m ≡ Some r → contents_of m ≡ told_as p n r
+    → place_in m ≡ Some (p, pos n)
+placed p n (report.Execution e) (message.ExecutionReport m) h c =
+    at_place m.partition p m.sequence n (figure_at 0 c) (int32_at 1 c)
 placed p n (report.CancelReject e) (message.ExecutionReport m) h c = cc
 placed p n (report.MassCancel e) (message.ExecutionReport m) h c = cc
 placed p n (report.Execution e) (message.OrderCancelReject m) h c = cc
-placed p n (report.CancelReject e) (message.OrderCancelReject m) h c = at_place m.partition p m.sequence n (figure_at 0 c) (int32_at 1 c)
+placed p n (report.CancelReject e) (message.OrderCancelReject m) h c =
+    at_place m.partition p m.sequence n (figure_at 0 c) (int32_at 1 c)
 placed p n (report.MassCancel e) (message.OrderCancelReject m) h c = cc
 placed p n (report.Execution e) (message.OrderMassCancelReport m) h c = cc
 placed p n (report.CancelReject e) (message.OrderMassCancelReport m) h c = cc
-placed p n (report.MassCancel e) (message.OrderMassCancelReport m) h c = at_place m.partition p m.sequence n (figure_at 0 c) (int32_at 1 c)
+placed p n (report.MassCancel e) (message.OrderMassCancelReport m) h c =
+    at_place m.partition p m.sequence n (figure_at 0 c) (int32_at 1 c)
 placed p n r m h c = cc
 
-pub report_told : (p : Partition) (n : ℕ) (r : Report) (m : Message) → report_in m ≡ Some r → kind_of m ≡ kind_told r → contents_of m ≡ told_as p n r → Holdable m → GivenBack m → ReportTold p n r
+pub report_told : (p : Partition) (n : ℕ) (r : Report) (m : Message) → report_in m ≡ Some r → kind_of m ≡ kind_told r
+    → contents_of m ≡ told_as p n r → Holdable m → GivenBack m → ReportTold p n r
 report_told p n r m b k c w g =
     heard (Reports p n r) (report_bytes p n r) m (reports_plain p n r)
     (subst (λ j. takes Follower (letter_of j) ≡ Some j) (sym k) (follower_takes r)) w g
@@ -145,4 +160,6 @@ same_told p q n k r s t a b c =
 
 pub end_told : (r : ReportResponse) → Holdable (message.MissedMessageReport (record { response = r }))
     → GivenBack (message.MissedMessageReport (record { response = r })) → EndTold r
-end_told r w g = heard (Ends r) (end_bytes r) (message.MissedMessageReport (record { response = r })) (ends_plain r) refl w g refl refl
+end_told r w g =
+    heard (Ends r) (end_bytes r) (message.MissedMessageReport (record { response = r }))
+    (ends_plain r) refl w g refl refl

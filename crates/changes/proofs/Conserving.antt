@@ -18,7 +18,8 @@ none_made : (n : ℕ) (cs : List Change) → Makes n cs None → (all_filled cs 
 none_made n [] m = (refl, refl)
 none_made n (c ∷ cs) m = absurd (cc)
 
-accepts : (n : ℕ) (t : Terms) (a : Ask) (cs : List Change) → Makes n cs None → orderable a.quantity ≡ true → Conserved (Accept t a ∷ cs) (accepted n t a)
+accepts : (n : ℕ) (t : Terms) (a : Ask) (cs : List Change) → Makes n cs None → orderable a.quantity ≡ true
+    → Conserved (Accept t a ∷ cs) (accepted n t a)
 accepts n t a cs m o =
     let z = none_made n cs m in
     let l = leb-true a.quantity SHARES (and_parts (nat_lt 0 a.quantity) (nat_le a.quantity SHARES) o).1 in record {
@@ -27,7 +28,8 @@ accepts n t a cs m o =
       orderly = orderly_from (accepted n t a) (record { sum = omega arith; limit = l; whole = λ h. (refl, refl) });
     }
 
-steps : (n : ℕ) (c : Change) (cs : List Change) (b r : Row) → Conserved cs b → after n c (Some b) ≡ Some r → Conserved (c ∷ cs) r
+steps : (n : ℕ) (c : Change) (cs : List Change) (b r : Row) → Conserved cs b → after n c (Some b) ≡ Some r
+    → Conserved (c ∷ cs) r
 steps n (Accept t a) cs b r k h = absurd (cc)
 steps n (Replace a) cs b r k h =
     let q = allowed (is_none (replace_fault a.quantity b)) _ _ h in
@@ -45,7 +47,12 @@ steps n (Withdraw e c) cs b r k h =
     subst (Conserved (Withdraw e c ∷ cs)) q.1 (record {
       accepted = omega (arith, k.accepted);
       executed = omega (arith, k.executed);
-      orderly = orderly_from (ended e b) (record { sum = omega (arith, f.sum); limit = f.limit; whole = λ x. absurd (let no : ⊥ = omega (arith, x) in no) });
+      orderly = orderly_from (ended e b) (record {
+        sum = omega (arith, f.sum);
+        limit = f.limit;
+        whole = λ x. absurd
+            (let no : ⊥ = omega (arith, x) in no);
+      });
     })
 steps n (Fill g) cs b r k h =
     let q = allowed (fillable g.quantity b) _ _ h in
@@ -56,7 +63,8 @@ steps n (Fill g) cs b r k h =
     subst (Conserved (Fill g ∷ cs)) q.1 (record {
       accepted = omega (arith, k.accepted, l);
       executed = omega (arith, k.executed);
-      orderly = orderly_from (filled g.quantity b) (record { sum = omega (arith, f.sum, l); limit = f.limit; whole = λ x. f.whole (omega (arith, l, m)) });
+      orderly = orderly_from (filled g.quantity b)
+          (record { sum = omega (arith, f.sum, l); limit = f.limit; whole = λ x. f.whole (omega (arith, l, m)) });
     })
 steps n (Undo u) cs b r k h =
     let q = allowed (undoable u.quantity b) _ _ h in
@@ -66,11 +74,14 @@ steps n (Undo u) cs b r k h =
     subst (Conserved (Undo u ∷ cs)) q.1 (record {
       accepted = omega (arith, k.accepted, l);
       executed = omega (arith, k.executed, l);
-      orderly = orderly_from (undone u.quantity b) (record { sum = omega (arith, f.sum, l); limit = omega (arith, f.limit); whole = f.whole });
+      orderly = orderly_from (undone u.quantity b)
+          (record { sum = omega (arith, f.sum, l); limit = omega (arith, f.limit); whole = f.whole });
     })
 
-firsts : (n : ℕ) (c : Change) (cs : List Change) (r : Row) → Makes n cs None → after n c None ≡ Some r → Conserved (c ∷ cs) r
-firsts n (Accept t a) cs r m h = let q = allowed (orderable a.quantity) _ _ h in subst (Conserved (Accept t a ∷ cs)) q.1 (accepts n t a cs m q.0)
+firsts : (n : ℕ) (c : Change) (cs : List Change) (r : Row) → Makes n cs None → after n c None ≡ Some r
+    → Conserved (c ∷ cs) r
+firsts n (Accept t a) cs r m h =
+    let q = allowed (orderable a.quantity) _ _ h in subst (Conserved (Accept t a ∷ cs)) q.1 (accepts n t a cs m q.0)
 firsts n (Replace a) cs r m h = absurd (cc)
 firsts n (Withdraw e c) cs r m h = absurd (cc)
 firsts n (Fill f) cs r m h = absurd (cc)

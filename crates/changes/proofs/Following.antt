@@ -42,10 +42,12 @@ insert_again k n s =
 
 -- ---- one report of an order that is known, or is new
 
-known : (p : Partition) (t : Tells) (k : Knowledge) (m n : ℕ) (s s' : Standing) → m ≡ n → get k n ≡ Some s → changed t s ≡ Some s' → fold_order p t k m (get k m) ≡ Ok (insert k n s')
+known : (p : Partition) (t : Tells) (k : Knowledge) (m n : ℕ) (s s' : Standing) → m ≡ n → get k n ≡ Some s
+    → changed t s ≡ Some s' → fold_order p t k m (get k m) ≡ Ok (insert k n s')
 known p t k m n s s' e g c = ap (λ i. fold_order p t k i (get k i)) e ∙ ap (fold_order p t k n) g ∙ ap (fold_known k n) c
 
-new : (p : Partition) (t : Tells) (k : Knowledge) (n : ℕ) (s : Standing) → get k n ≡ None → added p t ≡ Some s → len k < ORDERS → fold_order p t k n (get k n) ≡ Ok (insert k n s)
+new : (p : Partition) (t : Tells) (k : Knowledge) (n : ℕ) (s : Standing) → get k n ≡ None → added p t ≡ Some s
+    → len k < ORDERS → fold_order p t k n (get k n) ≡ Ok (insert k n s)
 new p t k n s g a l = ap (fold_order p t k n) g ∙ ap (fold_new k n) a ∙ cond-true _ _ _ (lt-ltb (len k) ORDERS l)
 
 -- ---- figures
@@ -53,7 +55,8 @@ new p t k n s g a l = ap (fold_order p t k n) g ∙ ap (fold_new k n) a ∙ cond
 within_bounds : (p : Partition) (s : Status) (l e : ℕ) → e ≤ SHARES → bounded p s l (Some e) ≡ Some (stands p s e l)
 within_bounds p s l e h = cond-true _ _ _ (le-leb e SHARES h)
 
-taken_off : (q l e : ℕ) (p : Partition) (s : Status) → (nat_lt 0 q && nat_le q l) ≡ true → filled_to (Some q) (l - q) (stands p s e l) ≡ Some (e + q)
+taken_off : (q l e : ℕ) (p : Partition) (s : Status) → (nat_lt 0 q && nat_le q l) ≡ true
+    → filled_to (Some q) (l - q) (stands p s e l) ≡ Some (e + q)
 taken_off q l e p s h =
     let f = and_parts (nat_lt 0 q) (nat_le q l) h in
     let a = ltb-true 0 q f.0 in
@@ -66,36 +69,45 @@ given_back q e h = grind (arith, ints)
 -- ---- each change
 
 abbrev tells : ExecutionReport → Tells
-tells e = record { order = e.order; kind = kind_of e.execution; status = e.status; quantity = e.quantity; leaves = e.leaves }
+tells e =
+    record { order = e.order; kind = kind_of e.execution; status = e.status; quantity = e.quantity; leaves = e.leaves }
 
-accepts : (p : Partition) (t : Told) (n : ℕ) (m : Terms) (a : Ask) (k : Knowledge) → Knows p n None k → fold_all p (reports_of t (Accept m a) (accepted n m a)) (Ok k) ≡ Ok (insert k n (standing_of p (accepted n m a)))
+accepts : (p : Partition) (t : Told) (n : ℕ) (m : Terms) (a : Ask) (k : Knowledge) → Knows p n None k
+    → fold_all p (reports_of t (Accept m a) (accepted n m a)) (Ok k) ≡ Ok (insert k n (standing_of p (accepted n m a)))
 accepts p t n m a k w =
     let x = accepted n m a in
     new p (tells (report_of t (Accept m a) x)) k n (standing_of p x) w.stands refl (w.room refl)
 
-changes : (p : Partition) (t : Told) (n : ℕ) (c : Change) (b r : Row) (k : Knowledge) → Knows p n (Some b) k → after n c (Some b) ≡ Some r → fold_all p (reports_of t c r) (Ok k) ≡ Ok (insert k n (standing_of p r))
+changes : (p : Partition) (t : Told) (n : ℕ) (c : Change) (b r : Row) (k : Knowledge) → Knows p n (Some b) k
+    → after n c (Some b) ≡ Some r → fold_all p (reports_of t c r) (Ok k) ≡ Ok (insert k n (standing_of p r))
 changes p t n (Accept m a) b r k w h = absurd (cc)
 changes p t n (Replace a) b r k w h =
     let q = allowed (is_none (replace_fault a.quantity b)) _ _ h in
     let f = figures b w.number.1 in
     subst (λ x. fold_all p (reports_of t (Replace a) x) (Ok k) ≡ Ok (insert k n (standing_of p x))) q.1
-    (known p (tells (report_of t (Replace a) (replaced a b))) k b.number n (standing_of p b) (standing_of p (replaced a b)) w.number.0 w.stands (within_bounds p _ _ b.executed (omega (arith, f.sum, f.limit))))
+    (known p (tells (report_of t (Replace a) (replaced a b))) k b.number n (standing_of p b)
+    (standing_of p (replaced a b)) w.number.0 w.stands (within_bounds p _ _ b.executed (omega (arith, f.sum, f.limit))))
 changes p t n (Withdraw Cancelled i) b r k w h =
     let q = allowed (nat_lt 0 b.leaves) _ _ h in
     let f = figures b w.number.1 in
     subst (λ x. fold_all p (reports_of t (Withdraw Cancelled i) x) (Ok k) ≡ Ok (insert k n (standing_of p x))) q.1
-    (known p (tells (report_of t (Withdraw Cancelled i) (ended Cancelled b))) k b.number n (standing_of p b) (standing_of p (ended Cancelled b)) w.number.0 w.stands (within_bounds p _ _ b.executed (omega (arith, f.sum, f.limit))))
+    (known p (tells (report_of t (Withdraw Cancelled i) (ended Cancelled b))) k b.number n (standing_of p b)
+    (standing_of p (ended Cancelled b)) w.number.0 w.stands
+    (within_bounds p _ _ b.executed (omega (arith, f.sum, f.limit))))
 changes p t n (Withdraw Expired i) b r k w h =
     let q = allowed (nat_lt 0 b.leaves) _ _ h in
     let f = figures b w.number.1 in
     subst (λ x. fold_all p (reports_of t (Withdraw Expired i) x) (Ok k) ≡ Ok (insert k n (standing_of p x))) q.1
-    (known p (tells (report_of t (Withdraw Expired i) (ended Expired b))) k b.number n (standing_of p b) (standing_of p (ended Expired b)) w.number.0 w.stands (within_bounds p _ _ b.executed (omega (arith, f.sum, f.limit))))
+    (known p (tells (report_of t (Withdraw Expired i) (ended Expired b))) k b.number n (standing_of p b)
+    (standing_of p (ended Expired b)) w.number.0 w.stands
+    (within_bounds p _ _ b.executed (omega (arith, f.sum, f.limit))))
 changes p t n (Fill g) b r k w h =
     let q = allowed (fillable g.quantity b) _ _ h in
     let f = figures b w.number.1 in
     let l = leb-true g.quantity b.leaves (and_parts (nat_lt 0 g.quantity) (nat_le g.quantity b.leaves) q.0).1 in
     subst (λ x. fold_all p (reports_of t (Fill g) x) (Ok k) ≡ Ok (insert k n (standing_of p x))) q.1
-    (known p (tells (report_of t (Fill g) (filled g.quantity b))) k b.number n (standing_of p b) (standing_of p (filled g.quantity b)) w.number.0 w.stands
+    (known p (tells (report_of t (Fill g) (filled g.quantity b))) k b.number n (standing_of p b)
+    (standing_of p (filled g.quantity b)) w.number.0 w.stands
     (ap (bounded p _ (b.leaves - g.quantity)) (taken_off g.quantity b.leaves b.executed p (status_of b) q.0)
     ∙ within_bounds p _ _ (b.executed + g.quantity) (omega (arith, f.sum, f.limit, l))))
 changes p t n (Undo u) b r k w h =
@@ -105,15 +117,19 @@ changes p t n (Undo u) b r k w h =
     let x = undone u.quantity b in
     let s = standing_of p x in
     let first = known p (tells (report_of t (Undo u) x)) k b.number n (standing_of p b) s w.number.0 w.stands
-    (ap (bounded p _ b.leaves) (given_back u.quantity b.executed l) ∙ within_bounds p _ _ (b.executed - u.quantity) (omega (arith, f.sum, f.limit))) in
-    let second = known p (tells (told_as t x.client Restated x)) (insert k n s) b.number n s s w.number.0 (put-here k n (Some s)) (within_bounds p _ _ (b.executed - u.quantity) (omega (arith, f.sum, f.limit))) in
+    (ap (bounded p _ b.leaves) (given_back u.quantity b.executed l) ∙ within_bounds p _ _ (b.executed - u.quantity)
+    (omega (arith, f.sum, f.limit))) in
+    let second = known p (tells (told_as t x.client Restated x)) (insert k n s) b.number n s s w.number.0
+    (put-here k n (Some s)) (within_bounds p _ _ (b.executed - u.quantity) (omega (arith, f.sum, f.limit))) in
     subst (λ y. fold_all p (reports_of t (Undo u) y) (Ok k) ≡ Ok (insert k n (standing_of p y))) q.1
     (ap (fold_all p (told_as t x.client Restated x ∷ [])) first ∙ second ∙ ap Ok (insert_again k n s))
 
-firsts : (p : Partition) (t : Told) (n : ℕ) (c : Change) (r : Row) (k : Knowledge) → Knows p n None k → after n c None ≡ Some r → fold_all p (reports_of t c r) (Ok k) ≡ Ok (insert k n (standing_of p r))
+firsts : (p : Partition) (t : Told) (n : ℕ) (c : Change) (r : Row) (k : Knowledge) → Knows p n None k → after n c None
+    ≡ Some r → fold_all p (reports_of t c r) (Ok k) ≡ Ok (insert k n (standing_of p r))
 firsts p t n (Accept m a) r k w h =
     let q = allowed (orderable a.quantity) _ _ h in
-    subst (λ x. fold_all p (reports_of t (Accept m a) x) (Ok k) ≡ Ok (insert k n (standing_of p x))) q.1 (accepts p t n m a k w)
+    subst (λ x. fold_all p (reports_of t (Accept m a) x) (Ok k) ≡ Ok (insert k n (standing_of p x))) q.1
+    (accepts p t n m a k w)
 firsts p t n (Replace a) r k w h = absurd (cc)
 firsts p t n (Withdraw e i) r k w h = absurd (cc)
 firsts p t n (Fill g) r k w h = absurd (cc)

@@ -22,7 +22,8 @@ pub record Figures (r : Row) : Type 0 where
   pub limit : r.ordered ≤ SHARES
   pub whole : 0 < r.leaves → (r.withdrawn ≡ 0) × (is_none r.ending ≡ true)
 
-either : (l w : ℕ) (e : Option Ending) → (nat_eq l 0 || (nat_eq w 0 && is_none e)) ≡ true → 0 < l → (w ≡ 0) × (is_none e ≡ true)
+either : (l w : ℕ) (e : Option Ending) → (nat_eq l 0 || (nat_eq w 0 && is_none e)) ≡ true → 0 < l → (w ≡ 0)
+    × (is_none e ≡ true)
 either l w e h p = grind (arith, common_steps)
 
 pub figures : (r : Row) → orderly r ≡ true → Figures r
@@ -34,7 +35,8 @@ figures r h =
       whole = either r.leaves r.withdrawn r.ending q.1;
     }
 
-rest : (l w : ℕ) (e : Option Ending) → (0 < l → (w ≡ 0) × (is_none e ≡ true)) → (nat_eq l 0 || (nat_eq w 0 && is_none e)) ≡ true
+rest : (l w : ℕ) (e : Option Ending) → (0 < l → (w ≡ 0) × (is_none e ≡ true))
+    → (nat_eq l 0 || (nat_eq w 0 && is_none e)) ≡ true
 rest zero w e f = refl
 rest (suc l) w e f =
     let p = f (omega arith) in
@@ -46,14 +48,17 @@ orderly_from r f =
     and_from (balanced r) (nat_le r.ordered SHARES && untouched r) (eq-eqb _ _ f.sum)
     (and_from (nat_le r.ordered SHARES) (untouched r) (le-leb _ _ f.limit) (rest r.leaves r.withdrawn r.ending f.whole))
 
-refused : (x y z : Bool) (i j k : ReplaceRefusal) → is_none (cond x (Some i) (cond (not y) (Some j) (cond z (Some k) None))) ≡ true → (x ≡ false) × (y ≡ true) × (z ≡ false)
+refused : (x y z : Bool) (i j k : ReplaceRefusal)
+    → is_none (cond x (Some i) (cond (not y) (Some j) (cond z (Some k) None))) ≡ true → (x ≡ false) × (y ≡ true)
+    × (z ≡ false)
 refused true y z i j k h = absurd (cc)
 refused false false z i j k h = absurd (cc)
 refused false true true i j k h = absurd (cc)
 refused false true false i j k h = (refl, refl, refl)
 
 -- a quantity that an order can be replaced by
-pub replaceable : (q : ℕ) (r : Row) → is_none (replace_fault q r) ≡ true → (0 < r.leaves) × (r.executed < q) × (q ≤ SHARES)
+pub replaceable : (q : ℕ) (r : Row) → is_none (replace_fault q r) ≡ true → (0 < r.leaves) × (r.executed < q)
+    × (q ≤ SHARES)
 replaceable q r h =
     let p = refused (nat_eq r.leaves 0) (orderable q) (nat_le q r.executed) _ _ _ h in
     let l = p.0 in

@@ -65,7 +65,8 @@ went l = Ok l
 
 -- ---- what was taken may be told in other words
 
-keeps_taken : (c : ℕ) (s : State) (d : Desk) (x : Line) (t t' : Taking) → ((p : Partition) (n : ℕ) → t' p n → t p n) → Keeps c s d x t → Keeps c s d x t'
+keeps_taken : (c : ℕ) (s : State) (d : Desk) (x : Line) (t t' : Taking) → ((p : Partition) (n : ℕ) → t' p n → t p n)
+    → Keeps c s d x t → Keeps c s d x t'
 keeps_taken c s d x t t' less k = record {
   up = k.up;
   quiet = k.quiet;
@@ -78,18 +79,29 @@ keeps_taken c s d x t t' less k = record {
   phase = by x.ready x.up k.phase;
 }
   where
-    flowing : (y : PerPartition ℕ) → Flowing c s.venue.kept (session s c).sent (place d) x t y → Flowing c s.venue.kept (session s c).sent (place d) x t' y
+    flowing : (y : PerPartition ℕ) → Flowing c s.venue.kept (session s c).sent (place d) x t y
+        → Flowing c s.venue.kept (session s c).sent (place d) x t' y
     flowing y h = record { within = h.within; flows = h.flows; taken = λ p n i. h.taken p n (less p n i) }
 
-    by : (r b : Bool) → Phase r b c s.venue.kept (session s c) d.follower (place d) x t → Phase r b c s.venue.kept (session s c) d.follower (place d) x t'
+    by : (r b : Bool) → Phase r b c s.venue.kept (session s c) d.follower (place d) x t
+        → Phase r b c s.venue.kept (session s c) d.follower (place d) x t'
     by false false h = tt
     by true false h = record { y = h.y; flowing = flowing h.y h.flowing; still = h.still }
-    by false true h = record { y = h.y; b = h.b; flowing = flowing h.y h.flowing; bases = h.bases; sides = h.sides; staged = h.staged }
+    by false true h =
+        record {
+          y = h.y;
+          b = h.b;
+          flowing = flowing h.y h.flowing;
+          bases = h.bases;
+          sides = h.sides;
+          staged = h.staged;
+        }
     by true true h = absurd h
 
 -- ---- the gateway's calls
 
-module _ (c : ℕ) (s : State) (d : Desk) (x : Line) (t : Taking) (k : Keeps c s d x t) (w : State) (sound : Sound w.venue) (few : length w.venue.rows ≤ ORDERS) where
+module _ (c : ℕ) (s : State) (d : Desk) (x : Line) (t : Taking) (k : Keeps c s d x t) (w : State)
+    (sound : Sound w.venue) (few : length w.venue.rows ≤ ORDERS) where
   -- the facts that each call gives
   grown : (v : VenueDone) → venue.Does s v w → Grows s.venue.kept w.venue.kept
   grown v h = only_appends s v w h
@@ -102,34 +114,45 @@ module _ (c : ℕ) (s : State) (d : Desk) (x : Line) (t : Taking) (k : Keeps c s
   elsewhere v h ne x' ok =
       let e = effect_other c s v w h ne in
       subst (λ y. Keeps c w d y t) (same_ok x x' (Ok x) refl ok)
-      (quietly c s d x t k w (grown v h) sound few (layered v h) (inl (ap (λ (z : SessionState). z.sent) e, ap (λ (z : SessionState). z.download) e)))
+      (quietly c s d x t k w (grown v h) sound few (layered v h)
+      (inl (ap (λ (z : SessionState). z.sent) e, ap (λ (z : SessionState). z.download) e)))
 
   another : (line : ℕ) → eqb line c ≡ false → Some line ≢ Some c
-  another line q e = absurd (let a : line ≡ c = some_same e in let b : eqb line c ≡ true = eq-eqb line c a in let z : true ≡ false = sym b ∙ q in cc)
+  another line q e =
+      absurd (let a : line ≡ c = some_same e in let b : eqb line c ≡ true = eq-eqb line c a in let z : true
+      ≡ false = sym b ∙ q in cc)
     where
       some_same : {i j : ℕ} → Some i ≡ Some j → i ≡ j
       some_same e = cc
 
   store_stays : (r : Reply) → venue.Does s (call.SendRecovered c r) w → w.venue.kept ≡ s.venue.kept
-  store_stays r h = hands_by (λ (z : State). z.venue.kept ≡ s.venue.kept) s refl (send_fault Recovery (length venue.blank) c s) (recovery_handed c s) venue.blank r.answer w r.buffer refl h
+  store_stays r h = hands_by (λ (z : State). z.venue.kept ≡ s.venue.kept) s refl
+      (send_fault Recovery (length venue.blank) c s) (recovery_handed c s) venue.blank r.answer w r.buffer refl h
 
-  pub venue_keeps : (v : VenueDone) → venue.Does s v w → venue.Tells s v → (x' : Line) → after_venue c v x ≡ Ok x' → Keeps c w d x' t
+  pub venue_keeps : (v : VenueDone) → venue.Does s v w → venue.Tells s v → (x' : Line) → after_venue c v x ≡ Ok x'
+      → Keeps c w d x' t
   venue_keeps (call.RealTime line m tm r) h told x' ok = by (eqb line c) refl ok
     where
       v : VenueDone
       v = call.RealTime line m tm r
 
-      by : (b : Bool) → eqb line c ≡ b → cond b (after_logon (bytes_eq (bytes_of r) accepted) x) (Ok x) ≡ Ok x' → Keeps c w d x' t
+      by : (b : Bool) → eqb line c ≡ b → cond b (after_logon (bytes_eq (bytes_of r) accepted) x) (Ok x) ≡ Ok x'
+          → Keeps c w d x' t
       by true q g =
-          let h' : venue.Does s (call.RealTime c m tm r) w = subst (λ i. venue.Does s (call.RealTime i m tm r) w) (eqb-true line c q) h in
-          real_time c s d x t k w (grown (call.RealTime c m tm r) h') sound few (layered (call.RealTime c m tm r) h') (bytes_of r) (effect_realtime c s m tm r w k.layered h') (bytes_eq (bytes_of r) accepted) refl x' g
+          let h' : venue.Does s (call.RealTime c m tm r) w = subst (λ i. venue.Does s (call.RealTime i m tm r) w)
+          (eqb-true line c q) h in
+          real_time c s d x t k w (grown (call.RealTime c m tm r) h') sound few (layered (call.RealTime c m tm r) h')
+          (bytes_of r) (effect_realtime c s m tm r w k.layered h') (bytes_eq (bytes_of r) accepted) refl x' g
       by false q g = elsewhere (call.RealTime line m tm r) h (another line q) x' g
   venue_keeps (call.Recovery line m tm r) h told x' ok = by (eqb line c) refl ok
     where
-      by : (b : Bool) → eqb line c ≡ b → cond b (after_recovery (heard_in (bytes_of r)) (bytes_of r) m.now x) (Ok x) ≡ Ok x' → Keeps c w d x' t
+      by : (b : Bool) → eqb line c ≡ b → cond b (after_recovery (heard_in (bytes_of r)) (bytes_of r) m.now x) (Ok x)
+          ≡ Ok x' → Keeps c w d x' t
       by true q g =
-          let h' : venue.Does s (call.Recovery c m tm r) w = subst (λ i. venue.Does s (call.Recovery i m tm r) w) (eqb-true line c q) h in
-          recovery c s d x t k w (grown (call.Recovery c m tm r) h') sound few (layered (call.Recovery c m tm r) h') (bytes_of r) m.now (effect_recovery c s m tm r w h') x' g
+          let h' : venue.Does s (call.Recovery c m tm r) w = subst (λ i. venue.Does s (call.Recovery i m tm r) w)
+          (eqb-true line c q) h in
+          recovery c s d x t k w (grown (call.Recovery c m tm r) h') sound few (layered (call.Recovery c m tm r) h')
+          (bytes_of r) m.now (effect_recovery c s m tm r w h') x' g
       by false q g = elsewhere (call.Recovery line m tm r) h (another line q) x' g
   venue_keeps (call.Step tm r) h told x' ok = elsewhere (call.Step tm r) h (λ e. cc) x' ok
   venue_keeps (call.CancelTrade n tm r) h told x' ok = elsewhere (call.CancelTrade n tm r) h (λ e. cc) x' ok
@@ -137,27 +160,38 @@ module _ (c : ℕ) (s : State) (d : Desk) (x : Line) (t : Taking) (k : Keeps c s
     where
       by : (b : Bool) → eqb line c ≡ b → Keeps c w d x' t
       by true q =
-          let h' : venue.Does s (call.LineLost c tm r) w = subst (λ i. venue.Does s (call.LineLost i tm r) w) (eqb-true line c q) h in
+          let h' : venue.Does s (call.LineLost c tm r) w = subst (λ i. venue.Does s (call.LineLost i tm r) w)
+          (eqb-true line c q) h in
           subst (λ y. Keeps c w d y t) (same_ok x x' (Ok x) refl ok)
-          (quietly c s d x t k w (grown (call.LineLost c tm r) h') sound few (layered (call.LineLost c tm r) h') (effect_lost c s tm r w h'))
+          (quietly c s d x t k w (grown (call.LineLost c tm r) h') sound few (layered (call.LineLost c tm r) h')
+          (effect_lost c s tm r w h'))
       by false q = elsewhere (call.LineLost line tm r) h (another line q) x' ok
   venue_keeps (call.Send line r) h told x' ok = by (eqb line c) refl ok
     where
-      by : (b : Bool) → eqb line c ≡ b → went (cond b (record x { live = behind x.live (bytes_of r) }) x) ≡ Ok x' → Keeps c w d x' t
+      by : (b : Bool) → eqb line c ≡ b → went (cond b (record x { live = behind x.live (bytes_of r) }) x) ≡ Ok x'
+          → Keeps c w d x' t
       by true q g =
           let h' : venue.Does s (call.Send c r) w = subst (λ i. venue.Does s (call.Send i r) w) (eqb-true line c q) h in
-          let told' : venue.Tells s (call.Send c r) = subst (λ i. venue.Tells s (call.Send i r)) (eqb-true line c q) told in
-          subst (λ y. Keeps c w d y t) (same_ok (record x { live = behind x.live (bytes_of r) }) x' (Ok (record x { live = behind x.live (bytes_of r) })) refl g)
-          (sends_on c s d x t k w (grown (call.Send c r) h') sound few (layered (call.Send c r) h') (bytes_of r) (effect_send c s r w h') told')
+          let told' : venue.Tells s (call.Send c r) = subst (λ i. venue.Tells s (call.Send i r))
+          (eqb-true line c q) told in
+          subst (λ y. Keeps c w d y t) (same_ok (record x { live = behind x.live (bytes_of r) }) x'
+          (Ok (record x { live = behind x.live (bytes_of r) })) refl g)
+          (sends_on c s d x t k w (grown (call.Send c r) h') sound few (layered (call.Send c r) h') (bytes_of r)
+          (effect_send c s r w h') told')
       by false q g = elsewhere (call.Send line r) h (another line q) x' g
   venue_keeps (call.SendRecovered line r) h told x' ok = by (eqb line c) refl ok
     where
-      by : (b : Bool) → eqb line c ≡ b → went (cond b (record x { recovered = behind x.recovered (bytes_of r) }) x) ≡ Ok x' → Keeps c w d x' t
+      by : (b : Bool) → eqb line c ≡ b → went (cond b (record x { recovered = behind x.recovered (bytes_of r) }) x)
+          ≡ Ok x' → Keeps c w d x' t
       by true q g =
-          let h' : venue.Does s (call.SendRecovered c r) w = subst (λ i. venue.Does s (call.SendRecovered i r) w) (eqb-true line c q) h in
-          let told' : venue.Tells s (call.SendRecovered c r) = subst (λ i. venue.Tells s (call.SendRecovered i r)) (eqb-true line c q) told in
-          subst (λ y. Keeps c w d y t) (same_ok (record x { recovered = behind x.recovered (bytes_of r) }) x' (Ok (record x { recovered = behind x.recovered (bytes_of r) })) refl g)
-          (recovers_on c s d x t k w (grown (call.SendRecovered c r) h') sound few (layered (call.SendRecovered c r) h') (bytes_of r) (store_stays r h') (effect_recover c s r w h') told')
+          let h' : venue.Does s (call.SendRecovered c r) w = subst (λ i. venue.Does s (call.SendRecovered i r) w)
+          (eqb-true line c q) h in
+          let told' : venue.Tells s (call.SendRecovered c r) = subst (λ i. venue.Tells s (call.SendRecovered i r))
+          (eqb-true line c q) told in
+          subst (λ y. Keeps c w d y t) (same_ok (record x { recovered = behind x.recovered (bytes_of r) }) x'
+          (Ok (record x { recovered = behind x.recovered (bytes_of r) })) refl g)
+          (recovers_on c s d x t k w (grown (call.SendRecovered c r) h') sound few
+          (layered (call.SendRecovered c r) h') (bytes_of r) (store_stays r h') (effect_recover c s r w h') told')
       by false q g = elsewhere (call.SendRecovered line r) h (another line q) x' g
 
 -- ---- up and lost
@@ -167,24 +201,31 @@ turned_place up f One = refl
 turned_place up f Two = refl
 turned_place up f Three = refl
 
-module _ (c : ℕ) (s : State) (d : Desk) (x : Line) (t : Taking) (k : Keeps c s d x t) (sound : Sound s.venue) (few : length s.venue.rows ≤ ORDERS) where
+module _ (c : ℕ) (s : State) (d : Desk) (x : Line) (t : Taking) (k : Keeps c s d x t) (sound : Sound s.venue)
+    (few : length s.venue.rows ≤ ORDERS) where
   abbrev turned_desk : Bool → Desk
   turned_desk up = record { follower = turned up d.follower; token = pending.Idle }
 
-  turned_flowing : (up : Bool) (y : PerPartition ℕ) (x' : Line) → x'.live ≡ x.live → Flowing c s.venue.kept (session s c).sent (place d) x t y → Flowing c s.venue.kept (session s c).sent (place_in (turned up d.follower)) x' t y
+  turned_flowing : (up : Bool) (y : PerPartition ℕ) (x' : Line) → x'.live ≡ x.live
+      → Flowing c s.venue.kept (session s c).sent (place d) x t y
+      → Flowing c s.venue.kept (session s c).sent (place_in (turned up d.follower)) x' t y
   turned_flowing up y x' e h = record {
     within = h.within;
     flows = subst (λ ms. Flows c s.venue.kept (session s c).sent y ms) (sym e) h.flows;
-    taken = λ p n i. let a = h.taken p n i in let z : place_in (turned up d.follower) p ≡ place d p = turned_place up d.follower p in omega (arith, a, z);
+    taken = λ p n i. let a = h.taken p n i in let z : place_in (turned up d.follower) p
+        ≡ place d p = turned_place up d.follower p in omega (arith, a, z);
   }
 
-  turned_keeps : (up : Bool) (x' : Line) → x'.up ≡ up → Phase x'.ready x'.up c s.venue.kept (session s c) (turned up d.follower) (place_in (turned up d.follower)) x' t → Keeps c s (turned_desk up) x' t
+  turned_keeps : (up : Bool) (x' : Line) → x'.up ≡ up
+      → Phase x'.ready x'.up c s.venue.kept (session s c) (turned up d.follower) (place_in (turned up d.follower)) x' t
+      → Keeps c s (turned_desk up) x' t
   turned_keeps up x' e ph = record {
     up = e;
     quiet = stays_quiet.turns d.follower up;
     layered = k.layered;
     placed = λ p. subst (λ z. (z ≡ 0) ⊎ (is_hers c s p z ≡ true)) (sym (turned_place up d.follower p)) (k.placed p);
-    known = tallied_as c s.venue.kept d.follower.standings (place d) (place_in (turned up d.follower)) (turned_place up d.follower) k.known;
+    known = tallied_as c s.venue.kept d.follower.standings (place d) (place_in (turned up d.follower))
+        (turned_place up d.follower) k.known;
     hers = k.hers;
     sound = λ q. sound;
     few = λ q. few;
@@ -194,12 +235,15 @@ module _ (c : ℕ) (s : State) (d : Desk) (x : Line) (t : Taking) (k : Keeps c s
   pub up_keeps : (x' : Line) → after_up x.ready x ≡ Ok x' → Keeps c s (turned_desk true) x' t
   up_keeps x' ok = by x.ready x.up refl k.phase ok
     where
-      sides : (y : PerPartition ℕ) (p : Partition) → Sided c (at s.venue.kept p) (at (turned true d.follower).sides p) (at y p) (at y p)
+      sides : (y : PerPartition ℕ) (p : Partition)
+          → Sided c (at s.venue.kept p) (at (turned true d.follower).sides p) (at y p) (at y p)
       sides y One = λ j lt le. absurd (omega (arith, lt, le))
       sides y Two = λ j lt le. absurd (omega (arith, lt, le))
       sides y Three = λ j lt le. absurd (omega (arith, lt, le))
 
-      ups : Ready c s.venue.kept (session s c) (place d) x t → Up c s.venue.kept (session s c) (turned true d.follower) (place_in (turned true d.follower)) (record x { ready = false; up = true }) t
+      ups : Ready c s.venue.kept (session s c) (place d) x t
+          → Up c s.venue.kept (session s c) (turned true d.follower) (place_in (turned true d.follower))
+          (record x { ready = false; up = true }) t
       ups z = record {
         y = z.y;
         b = z.y;
@@ -209,23 +253,37 @@ module _ (c : ℕ) (s : State) (d : Desk) (x : Line) (t : Taking) (k : Keeps c s
         staged = z.still;
       }
 
-      by : (r u : Bool) → x.ready ≡ r → Phase r u c s.venue.kept (session s c) d.follower (place d) x t → after_up r x ≡ Ok x' → Keeps c s (turned_desk true) x' t
+      by : (r u : Bool) → x.ready ≡ r → Phase r u c s.venue.kept (session s c) d.follower (place d) x t → after_up r x
+          ≡ Ok x' → Keeps c s (turned_desk true) x' t
       by false u e ph g = ok_err NoLogon x' (Err NoLogon) refl g
       by true true e ph g = absurd ph
       by true false e ph g =
-          subst (λ y. Keeps c s (turned_desk true) y t) (same_ok (record x { ready = false; up = true }) x' (Ok (record x { ready = false; up = true })) refl g)
+          subst (λ y. Keeps c s (turned_desk true) y t)
+          (same_ok (record x { ready = false; up = true }) x' (Ok (record x { ready = false; up = true })) refl g)
           (turned_keeps true (record x { ready = false; up = true }) refl (ups ph))
 
   pub lost_keeps : (x' : Line) → went (record x { up = false }) ≡ Ok x' → Keeps c s (turned_desk false) x' t
   lost_keeps x' ok =
-      subst (λ y. Keeps c s (turned_desk false) y t) (same_ok (record x { up = false }) x' (Ok (record x { up = false })) refl ok)
+      subst (λ y. Keeps c s (turned_desk false) y t)
+      (same_ok (record x { up = false }) x' (Ok (record x { up = false })) refl ok)
       (turned_keeps false (record x { up = false }) refl (by x.ready x.up refl k.phase))
     where
-      by : (r u : Bool) → x.ready ≡ r → Phase r u c s.venue.kept (session s c) d.follower (place d) x t → Phase x.ready false c s.venue.kept (session s c) (turned false d.follower) (place_in (turned false d.follower)) (record x { up = false }) t
-      by false u e ph = to_away c s.venue.kept (session s c) (turned false d.follower) (place_in (turned false d.follower)) (record x { up = false }) t x.ready false e refl
+      by : (r u : Bool) → x.ready ≡ r → Phase r u c s.venue.kept (session s c) d.follower (place d) x t
+          → Phase x.ready false c s.venue.kept (session s c) (turned false d.follower)
+          (place_in (turned false d.follower)) (record x { up = false }) t
+      by false u e ph =
+          to_away c s.venue.kept (session s c) (turned false d.follower) (place_in (turned false d.follower))
+          (record x { up = false }) t x.ready false e refl
       by true true e ph = absurd ph
-      by true false e ph = to_ready c s.venue.kept (session s c) (turned false d.follower) (place_in (turned false d.follower)) (record x { up = false }) t x.ready false e refl
-          (record { y = ph.y; flowing = turned_flowing false ph.y (record x { up = false }) refl ph.flowing; still = ph.still })
+      by true false e ph =
+          to_ready c s.venue.kept (session s c) (turned false d.follower) (place_in (turned false d.follower))
+          (record x { up = false }) t x.ready false e refl
+          (record {
+            y = ph.y;
+            flowing = turned_flowing false ph.y
+                (record x { up = false }) refl ph.flowing;
+            still = ph.still;
+          })
 
   -- ---- a request
 
@@ -245,7 +303,8 @@ module _ (c : ℕ) (s : State) (d : Desk) (x : Line) (t : Taking) (k : Keeps c s
       idle_of (stage.Asked q) o h = absurd cc
       idle_of (stage.Running q) o h = absurd cc
 
-      by_free : (b : Bool) (q : Partition) → is_free d.follower.download (owed d.token) ≡ b → cond b (Ok q) (Err OutOfTurn) ≡ Ok p → d.follower.download ≡ stage.Idle
+      by_free : (b : Bool) (q : Partition) → is_free d.follower.download (owed d.token) ≡ b
+          → cond b (Ok q) (Err OutOfTurn) ≡ Ok p → d.follower.download ≡ stage.Idle
       by_free true q h z = idle_of d.follower.download (owed d.token) h
       by_free false q h z = absurd cc
 
@@ -253,19 +312,24 @@ module _ (c : ℕ) (s : State) (d : Desk) (x : Line) (t : Taking) (k : Keeps c s
       by_partition None z = absurd cc
       by_partition (Some q) z = by_free (is_free d.follower.download (owed d.token)) q refl z
 
-      by_up : (u : Bool) → d.follower.up ≡ u → cond u (asking_of d.follower d.token (partition_of n)) (Err NotUp) ≡ Ok p → Free p
+      by_up : (u : Bool) → d.follower.up ≡ u → cond u (asking_of d.follower d.token (partition_of n)) (Err NotUp)
+          ≡ Ok p → Free p
       by_up true q z = record { up = q; idle = by_partition (partition_of n) z }
       by_up false q z = absurd cc
 
-      by : (b : Bool) → cond b (Err Buffer) (cond d.follower.up (asking_of d.follower d.token (partition_of n)) (Err NotUp)) ≡ Ok p → Free p
+      by : (b : Bool) → cond b (Err Buffer) (cond d.follower.up (asking_of d.follower d.token (partition_of n))
+          (Err NotUp)) ≡ Ok p → Free p
       by true z = absurd cc
       by false z = by_up d.follower.up refl z
 
-  asked_for : (n : ℕ) (p : Partition) → asking d.follower d.token n (length blank) ≡ Ok p → ReadBack p (at d.follower.sides p).place → (token : Pending) → (m : List ℕ) → m ≡ request p (at d.follower.sides p).place → Keeps c s (asked_desk p token) (record x { asked = x.asked ++ m ∷ [] }) t
+  asked_for : (n : ℕ) (p : Partition) → asking d.follower d.token n (length blank) ≡ Ok p
+      → ReadBack p (at d.follower.sides p).place → (token : Pending) → (m : List ℕ) → m
+      ≡ request p (at d.follower.sides p).place → Keeps c s (asked_desk p token) (record x { asked = x.asked ++ m ∷ [] }) t
   asked_for n p e back token m is =
       let fr = free_of n p e in
       let (r, u) = up_of c s.venue.kept (session s c) d.follower (place d) x t x.ready x.up (k.up ∙ fr.up) k.phase in
-      let st : Still (session s c).download x = subst (λ g. Staged g c s.venue.kept (place d) u.b (session s c).download x) fr.idle u.staged in
+      let st : Still (session s c).download x = subst
+      (λ g. Staged g c s.venue.kept (place d) u.b (session s c).download x) fr.idle u.staged in
       record {
         up = k.up;
         quiet = quiet fr.up;
@@ -275,14 +339,26 @@ module _ (c : ℕ) (s : State) (d : Desk) (x : Line) (t : Taking) (k : Keeps c s
         hers = k.hers;
         sound = λ q. sound;
         few = λ q. few;
-        phase = to_up c s.venue.kept (session s c) (asked_desk p token).follower (place d) (record x { asked = x.asked ++ m ∷ [] }) t x.ready x.up r (k.up ∙ fr.up) (record {
-          y = u.y;
-          b = u.b;
-          flowing = record { within = u.flowing.within; flows = u.flowing.flows; taken = u.flowing.taken };
-          bases = u.bases;
-          sides = u.sides;
-          staged = (st.2, inl (place d p, ap (λ ms. ms ++ m ∷ []) st.0 ∙ ap (λ y. y ∷ []) is, back, omega arith, st.1, st.3));
-        });
+        phase = to_up c s.venue.kept (session s c) (asked_desk p token).follower (place d)
+            (record x { asked = x.asked ++ m ∷ [] }) t x.ready x.up r (k.up ∙ fr.up) (record {
+              y = u.y;
+              b = u.b;
+              flowing = record { within = u.flowing.within; flows = u.flowing.flows; taken = u.flowing.taken };
+              bases = u.bases;
+              sides = u.sides;
+              staged = (
+                st.2,
+                inl (
+                  place d p,
+                  ap (λ ms. ms ++ m ∷ []) st.0 ∙ ap
+                      (λ y. y ∷ []) is,
+                  back,
+                  omega arith,
+                  st.1,
+                  st.3,
+                ),
+              );
+            });
       }
     where
       quiet : d.follower.up ≡ true → Quiet (asked_desk p token).follower
@@ -291,24 +367,43 @@ module _ (c : ℕ) (s : State) (d : Desk) (x : Line) (t : Taking) (k : Keeps c s
         down = λ dn. absurd (let z : true ≡ false = sym up ∙ dn in cc);
       }
 
-  pub ask_keeps : (n : ℕ) (r : Asked) (e : Desk) → r.answer ≡ (asks_of d.follower d.token blank (asking d.follower d.token n (length blank))).answer → r.buffer ≡ (asks_of d.follower d.token blank (asking d.follower d.token n (length blank))).out
-      → e ≡ record { follower = (asks_of d.follower d.token blank (asking d.follower d.token n (length blank))).after; token = (asks_of d.follower d.token blank (asking d.follower d.token n (length blank))).token }
-      → IfOk (asking d.follower d.token n (length blank)) (λ p. ReadBack p (at d.follower.sides p).place) → Keeps c s e (after_ask r.answer r.buffer x) t
+  pub ask_keeps : (n : ℕ) (r : Asked) (e : Desk) → r.answer
+      ≡ (asks_of d.follower d.token blank (asking d.follower d.token n (length blank))).answer → r.buffer
+      ≡ (asks_of d.follower d.token blank (asking d.follower d.token n (length blank))).out
+      → e ≡ record {
+        follower = (asks_of d.follower d.token blank (asking d.follower d.token n (length blank))).after;
+        token = (asks_of d.follower d.token blank (asking d.follower d.token n (length blank))).token;
+      }
+      → IfOk (asking d.follower d.token n (length blank)) (λ p. ReadBack p (at d.follower.sides p).place)
+      → Keeps c s e (after_ask r.answer r.buffer x) t
   ask_keeps n r e ea eb ee told = by (asking d.follower d.token n (length blank)) refl ea eb ee told
     where
       same_desk : record { follower = d.follower; token = d.token } ≡ d
       same_desk = refl
 
-      by : (o : Result Partition FollowerFault) → asking d.follower d.token n (length blank) ≡ o → r.answer ≡ (asks_of d.follower d.token blank o).answer → r.buffer ≡ (asks_of d.follower d.token blank o).out
-          → e ≡ record { follower = (asks_of d.follower d.token blank o).after; token = (asks_of d.follower d.token blank o).token } → IfOk o (λ p. ReadBack p (at d.follower.sides p).place) → Keeps c s e (after_ask r.answer r.buffer x) t
-      by (Err f) q a b z told = subst (λ y. Keeps c s e (after_ask y r.buffer x) t) (sym a) (subst (λ y. Keeps c s y x t) (sym z) k)
+      by : (o : Result Partition FollowerFault) → asking d.follower d.token n (length blank) ≡ o → r.answer
+          ≡ (asks_of d.follower d.token blank o).answer → r.buffer ≡ (asks_of d.follower d.token blank o).out
+          → e ≡ record {
+            follower = (asks_of d.follower d.token blank o).after;
+            token = (asks_of d.follower d.token blank o).token;
+          } → IfOk o (λ p. ReadBack p (at d.follower.sides p).place)
+          → Keeps c s e (after_ask r.answer r.buffer x) t
+      by (Err f) q a b z told = subst (λ y. Keeps c s e (after_ask y r.buffer x) t) (sym a)
+          (subst (λ y. Keeps c s y x t) (sym z) k)
       by (Ok p) q a b z told =
           let m = request p (at d.follower.sides p).place in
-          let is : take (total_of Request) (m ++ drop (total_of Request) blank) ≡ m = ap (λ i. take i (m ++ drop (total_of Request) blank)) (sym (request_long p (at d.follower.sides p).place told)) ∙ take-append_seam m (drop (total_of Request) blank) in
+          let is : take (total_of Request) (m ++ drop (total_of Request) blank)
+          ≡ m = ap (λ i. take i (m ++ drop (total_of Request) blank))
+          (sym (request_long p (at d.follower.sides p).place told)) ∙ take-append_seam m
+          (drop (total_of Request) blank) in
           subst (λ y. Keeps c s e (after_ask y r.buffer x) t) (sym a)
           (subst (λ y. Keeps c s e (record x { asked = x.asked ++ take (total_of Request) y ∷ [] }) t) (sym b)
-          (subst (λ y. Keeps c s y (record x { asked = x.asked ++ take (total_of Request) (m ++ drop (total_of Request) blank) ∷ [] }) t) (sym z)
-          (asked_for n p q told (asks_of d.follower d.token blank (Ok p)).token (take (total_of Request) (m ++ drop (total_of Request) blank)) is)))
+          (subst (λ y. Keeps c s y (record x {
+            asked = x.asked
+                ++ take (total_of Request) (m ++ drop (total_of Request) blank) ∷ [];
+          }) t) (sym z)
+          (asked_for n p q told (asks_of d.follower d.token blank (Ok p)).token
+          (take (total_of Request) (m ++ drop (total_of Request) blank)) is)))
 
 -- ---- any call
 
@@ -316,26 +411,35 @@ module _ (c : ℕ) (s : State) (d : Desk) (x : Line) (t : Taking) (k : Keeps c s
 abbrev pub KeptBy : ℕ → State → Desk → Line → Taking → Done → Type 0
 KeptBy c w e x t z = (refuses_report z ≡ false) × Keeps c w e x (λ p n. t p n ⊎ Takes p n z)
 
-no_more : (t : Taking) (u : Taking) → ((p : Partition) (n : ℕ) → u p n → ⊥) → (p : Partition) (n : ℕ) → t p n ⊎ u p n → t p n
+no_more : (t : Taking) (u : Taking) → ((p : Partition) (n : ℕ) → u p n → ⊥) → (p : Partition) (n : ℕ) → t p n ⊎ u p n
+    → t p n
 no_more t u none p n (inl h) = h
 no_more t u none p n (inr h) = absurd (none p n h)
 
-pub call_keeps : (c : ℕ) (s : State) (d : Desk) (x : Line) (t : Taking) (z : Done) (w : State) (e : Desk) (x' : Line) → Keeps c s d x t → Does s d z w e → Tells s d z → Sound w.venue → length w.venue.rows ≤ ORDERS → after_call c z x ≡ Ok x' → KeptBy c w e x' t z
-call_keeps c s d x t (done.Venue v) w e x' k (h, q) told sound few ok =
-    (refl, subst (λ y. Keeps c w y x' (λ p n. t p n ⊎ ⊥)) (sym q) (keeps_taken c w d x' t (λ p n. t p n ⊎ ⊥) (no_more t (λ p n. ⊥) (λ p n i. i)) (venue_keeps c s d x t k w sound few v h told x' ok)))
+pub call_keeps : (c : ℕ) (s : State) (d : Desk) (x : Line) (t : Taking) (z : Done) (w : State) (e : Desk) (x' : Line)
+    → Keeps c s d x t → Does s d z w e → Tells s d z → Sound w.venue → length w.venue.rows ≤ ORDERS → after_call c z x
+    ≡ Ok x' → KeptBy c w e x' t z
+call_keeps c s d x t (done.Venue v) w e x' k (h, q) told sound few ok = (
+  refl,
+  subst (λ y. Keeps c w y x' (λ p n. t p n ⊎ ⊥)) (sym q)
+      (keeps_taken c w d x' t (λ p n. t p n ⊎ ⊥) (no_more t (λ p n. ⊥) (λ p n i. i))
+      (venue_keeps c s d x t k w sound few v h told x' ok)),
+)
 call_keeps c s d x t done.Up w e x' k (h, q) told sound few ok =
     let sound' = subst (λ (y : State). Sound y.venue) h sound in
     let few' = subst (λ (y : State). length y.venue.rows ≤ ORDERS) h few in (
       refl,
       subst (λ y. Keeps c y e x' (λ p n. t p n ⊎ ⊥)) (sym h) (subst (λ y. Keeps c s y x' (λ p n. t p n ⊎ ⊥)) (sym q)
-          (keeps_taken c s _ x' t (λ p n. t p n ⊎ ⊥) (no_more t (λ p n. ⊥) (λ p n i. i)) (up_keeps c s d x t k sound' few' x' ok))),
+          (keeps_taken c s _ x' t (λ p n. t p n ⊎ ⊥) (no_more t (λ p n. ⊥) (λ p n i. i))
+          (up_keeps c s d x t k sound' few' x' ok))),
     )
 call_keeps c s d x t done.Lost w e x' k (h, q) told sound few ok =
     let sound' = subst (λ (y : State). Sound y.venue) h sound in
     let few' = subst (λ (y : State). length y.venue.rows ≤ ORDERS) h few in (
       refl,
       subst (λ y. Keeps c y e x' (λ p n. t p n ⊎ ⊥)) (sym h) (subst (λ y. Keeps c s y x' (λ p n. t p n ⊎ ⊥)) (sym q)
-          (keeps_taken c s _ x' t (λ p n. t p n ⊎ ⊥) (no_more t (λ p n. ⊥) (λ p n i. i)) (lost_keeps c s d x t k sound' few' x' ok))),
+          (keeps_taken c s _ x' t (λ p n. t p n ⊎ ⊥) (no_more t (λ p n. ⊥) (λ p n i. i))
+          (lost_keeps c s d x t k sound' few' x' ok))),
     )
 call_keeps c s d x t (done.Ask n r) w e x' k (h, a, b, q) told sound few ok =
     let sound' = subst (λ (y : State). Sound y.venue) h sound in
@@ -343,23 +447,36 @@ call_keeps c s d x t (done.Ask n r) w e x' k (h, a, b, q) told sound few ok =
       refl,
       subst (λ y. Keeps c y e x' (λ p n. t p n ⊎ ⊥)) (sym h)
           (keeps_taken c s e x' t (λ p n. t p n ⊎ ⊥) (no_more t (λ p n. ⊥) (λ p n i. i))
-          (subst (λ y. Keeps c s e y t) (same_ok (after_ask r.answer r.buffer x) x' (Ok (after_ask r.answer r.buffer x)) refl ok) (ask_keeps c s d x t k sound' few' n r e a b q told))),
+          (subst (λ y. Keeps c s e y t) (same_ok (after_ask r.answer r.buffer x) x'
+          (Ok (after_ask r.answer r.buffer x)) refl ok) (ask_keeps c s d x t k sound' few' n r e a b q told))),
     )
 call_keeps c s d x t (done.Live m r) w e x' k (h, a, q) told sound few ok =
     let sound' = subst (λ (y : State). Sound y.venue) h sound in
     let few' = subst (λ (y : State). length y.venue.rows ≤ ORDERS) h few in
-    let g = given_live_keeps c s d x t sound' few' k m.now (heard_in m.now) refl x' (subst (λ y. or_lost (is_full y) (given_live m.now (heard_in m.now) x) ≡ Ok x') a ok) in (
+    let g = given_live_keeps c s d x t sound' few' k m.now (heard_in m.now) refl x'
+    (subst (λ y. or_lost (is_full y) (given_live m.now (heard_in m.now) x) ≡ Ok x') a ok) in (
       ap is_unfit a ∙ g.fits,
-      subst (λ y. Keeps c y e x' (λ p n. t p n ⊎ Taken r (HeardAs p n (heard_in m.now)))) (sym h) (subst (λ y. Keeps c s y x' (λ p n. t p n ⊎ Taken r (HeardAs p n (heard_in m.now)))) (sym q)
-          (subst (λ y. Keeps c s (record { follower = (live_step d.follower (heard_in m.now)).after; token = after_live r d.token }) x' (λ p n. t p n ⊎ Taken y (HeardAs p n (heard_in m.now)))) (sym a) (g.keeps (after_live r d.token)))),
+      subst (λ y. Keeps c y e x' (λ p n. t p n ⊎ Taken r (HeardAs p n (heard_in m.now)))) (sym h)
+          (subst (λ y. Keeps c s y x' (λ p n. t p n ⊎ Taken r (HeardAs p n (heard_in m.now)))) (sym q)
+          (subst (λ y. Keeps c s (record {
+            follower = (live_step d.follower (heard_in m.now)).after;
+            token = after_live
+                r d.token;
+          }) x' (λ p n. t p n ⊎ Taken y (HeardAs p n (heard_in m.now)))) (sym a)
+          (g.keeps (after_live r d.token)))),
     )
 call_keeps c s d x t (done.Recovered m r) w e x' k (h, a, q) told sound few ok =
     let sound' = subst (λ (y : State). Sound y.venue) h sound in
     let few' = subst (λ (y : State). length y.venue.rows ≤ ORDERS) h few in
     let g = given_recovered_keeps c s d x t sound' few' k m.now (heard_in m.now) refl x' ok in (
       ap is_unfit a ∙ g.fits,
-      subst (λ y. Keeps c y e x' (λ p n. t p n ⊎ Taken r (HeardAs p n (heard_in m.now)))) (sym h) (subst (λ y. Keeps c s y x' (λ p n. t p n ⊎ Taken r (HeardAs p n (heard_in m.now)))) (sym q)
-          (subst (λ y. Keeps c s (record { follower = (recovered_step d.follower (heard_in m.now)).after; token = after_recovered r d.token }) x' (λ p n. t p n ⊎ Taken y (HeardAs p n (heard_in m.now)))) (sym a) (g.keeps (after_recovered r d.token)))),
+      subst (λ y. Keeps c y e x' (λ p n. t p n ⊎ Taken r (HeardAs p n (heard_in m.now)))) (sym h)
+          (subst (λ y. Keeps c s y x' (λ p n. t p n ⊎ Taken r (HeardAs p n (heard_in m.now)))) (sym q)
+          (subst (λ y. Keeps c s (record {
+            follower = (recovered_step d.follower (heard_in m.now)).after;
+            token = after_recovered r d.token;
+          }) x' (λ p n. t p n ⊎ Taken y (HeardAs p n (heard_in m.now)))) (sym a)
+          (g.keeps (after_recovered r d.token)))),
     )
 
 -- ---- any log
@@ -373,18 +490,23 @@ both_false : (a b : Bool) → a ≡ false → b ≡ false → (a || b) ≡ false
 both_false false b h g = g
 both_false true b h g = absurd cc
 
-pub log_keeps : (c : ℕ) (xs : List Done) (s : State) (d : Desk) (x : Line) (t : Taking) (w : State) (e : Desk) (l : Line) → Keeps c s d x t → Runs s d xs w e → after_log c xs x ≡ Ok l → (list_any refuses_report xs ≡ false) × Keeps c w e l (λ p n. t p n ⊎ Took p n xs)
+pub log_keeps : (c : ℕ) (xs : List Done) (s : State) (d : Desk) (x : Line) (t : Taking) (w : State) (e : Desk)
+    (l : Line) → Keeps c s d x t → Runs s d xs w e → after_log c xs x ≡ Ok l → (list_any refuses_report xs ≡ false)
+    × Keeps c w e l (λ p n. t p n ⊎ Took p n xs)
 log_keeps c [] s d x t w e l k (a, b) ok = (
   refl,
   subst (λ y. Keeps c w e y (λ p n. t p n ⊎ ⊥)) (same_ok x l (Ok x) refl ok)
-      (subst (λ y. Keeps c y e x (λ p n. t p n ⊎ ⊥)) (sym a) (subst (λ y. Keeps c s y x (λ p n. t p n ⊎ ⊥)) (sym b) (keeps_taken c s d x t (λ p n. t p n ⊎ ⊥) (no_more t (λ p n. ⊥) (λ p n i. i)) k))),
+      (subst (λ y. Keeps c y e x (λ p n. t p n ⊎ ⊥)) (sym a)
+      (subst (λ y. Keeps c s y x (λ p n. t p n ⊎ ⊥)) (sym b)
+      (keeps_taken c s d x t (λ p n. t p n ⊎ ⊥) (no_more t (λ p n. ⊥) (λ p n i. i)) k))),
 )
 log_keeps c (z ∷ xs) s d x t w e l k (u, f, does, tells, sound, few, tied, rest) ok =
     let (y, h, g) = went_on (after_call c z x) (λ i. after_log c xs i) l ok in
     let (fits, kept) = call_keeps c s d x t z u f y k does tells sound few h in
     let (all, keeps) = log_keeps c xs u f y (λ p n. t p n ⊎ Takes p n z) w e l kept rest g in (
       both_false (refuses_report z) (list_any refuses_report xs) fits all,
-      keeps_taken c w e l (λ p n. (t p n ⊎ Takes p n z) ⊎ Took p n xs) (λ p n. t p n ⊎ (Takes p n z ⊎ Took p n xs)) (λ p n i. either (t p n) (Takes p n z) (Took p n xs) i) keeps,
+      keeps_taken c w e l (λ p n. (t p n ⊎ Takes p n z) ⊎ Took p n xs) (λ p n. t p n ⊎ (Takes p n z ⊎ Took p n xs))
+          (λ p n i. either (t p n) (Takes p n z) (Took p n xs) i) keeps,
     )
   where
     either : (a b i : Type 0) → a ⊎ (b ⊎ i) → (a ⊎ b) ⊎ i
@@ -408,7 +530,8 @@ pub begun : (c : ℕ) (ps : List Participant) (v : View) → Keeps c (fresh_stat
 begun c ps v = record {
   up = refl;
   quiet = stays_quiet.begins;
-  layered = subst SoundSession (sym (same_each (length ps) c fresh_session)) (omega arith, λ e. absurd cc, λ e. absurd cc);
+  layered = subst SoundSession (sym (same_each (length ps) c fresh_session))
+      (omega arith, λ e. absurd cc, λ e. absurd cc);
   placed = λ p. inl (fresh_place p);
   known = tallied_as c v.kept fresh.follower.standings (λ p. 0) (place fresh) fresh_place (begins c v.kept);
   hers = λ p n h. absurd h;
@@ -431,18 +554,24 @@ module _ (c : ℕ) (xs : List Done) (w : State) (e : Desk) (l : Line) (k : Keeps
   same_orders : (p : Partition) → state_of e p ≡ Level → AllTaken c w p xs → (n : ℕ) → SameOrders c w e p n
   same_orders p lv all n =
       let up = level_up e p k.quiet lv in
-      let (r, u) = up_of c w.venue.kept (session w c) e.follower (place e) l (λ p n. ⊥ ⊎ Took p n xs) l.ready l.up (k.up ∙ up) k.phase in
-      let sided : SidedBy Level c (at w.venue.kept p) (at e.follower.sides p) (at u.y p) (at u.b p) = subst (λ z. SidedBy z c (at w.venue.kept p) (at e.follower.sides p) (at u.y p) (at u.b p)) lv (u.sides p) in
+      let (r, u) = up_of c w.venue.kept (session w c) e.follower (place e) l (λ p n. ⊥ ⊎ Took p n xs) l.ready l.up
+      (k.up ∙ up) k.phase in
+      let sided : SidedBy Level c (at w.venue.kept p) (at e.follower.sides p) (at u.y p) (at u.b p) = subst
+      (λ z. SidedBy z c (at w.venue.kept p) (at e.follower.sides p) (at u.y p) (at u.b p)) lv (u.sides p) in
       record {
-        shown = shown w.venue.instruments w.venue.rows w.venue.kept c e.follower.standings (place e) (k.sound up).recorded k.known p (λ j lt. above j lt (is_hers c w p j) refl (at u.y p) sided.1 (u.flowing.taken p j)) n;
+        shown = shown w.venue.instruments w.venue.rows w.venue.kept c e.follower.standings (place e)
+            (k.sound up).recorded k.known p (λ j lt. above j lt (is_hers c w p j) refl (at u.y p) sided.1
+            (u.flowing.taken p j)) n;
         held = (k.sound up).booked n;
       }
     where
-      above : (j : ℕ) → place e p < j → (b : Bool) → is_hers c w p j ≡ b → (y : ℕ) → Passed c (at w.venue.kept p) (place e p) y → (⊥ ⊎ Took p j xs → j ≤ max (place e p) y) → is_hers c w p j ≡ false
+      above : (j : ℕ) → place e p < j → (b : Bool) → is_hers c w p j ≡ b → (y : ℕ)
+          → Passed c (at w.venue.kept p) (place e p) y → (⊥ ⊎ Took p j xs → j ≤ max (place e p) y) → is_hers c w p j ≡ false
       above j lt true q y ps taken = let le = taken (inr (all j q)) in ps j lt (omega (arith, lt, le))
       above j lt false q y ps taken = q
 
-pub agrees : (c : ℕ) (ps : List Participant) (v : View) (xs : List Done) (w : State) (e : Desk) → Runs (fresh_state ps v) fresh xs w e → Allowed c xs → Agrees c xs w e
+pub agrees : (c : ℕ) (ps : List Participant) (v : View) (xs : List Done) (w : State) (e : Desk)
+    → Runs (fresh_state ps v) fresh xs w e → Allowed c xs → Agrees c xs w e
 agrees c ps v xs w e runs (l, ok) =
     let (fits, k) = log_keeps c xs (fresh_state ps v) fresh quiet (λ p n. ⊥) w e l (begun c ps v) runs ok in
     record {

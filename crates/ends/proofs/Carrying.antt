@@ -30,12 +30,15 @@ pub record Brings (c : ℕ) (l : List Entry) (p : Partition) (n : ℕ) (m : List
   pub owner : entry.owner ≡ c
   pub heard : heard_in m ≡ Ok (Report p (held n entry))
 
-pub brings_grown : (c : ℕ) (l l' : List Entry) (p : Partition) (n : ℕ) (m : List ℕ) → Grown l l' → n ≤ length l → Brings c l p n m → Brings c l' p n m
-brings_grown c l l' p n m g w h = record { entry = h.entry; stands = stays_under l l' n g w ∙ h.stands; owner = h.owner; heard = h.heard }
+pub brings_grown : (c : ℕ) (l l' : List Entry) (p : Partition) (n : ℕ) (m : List ℕ) → Grown l l' → n ≤ length l
+    → Brings c l p n m → Brings c l' p n m
+brings_grown c l l' p n m g w h =
+    record { entry = h.entry; stands = stays_under l l' n g w ∙ h.stands; owner = h.owner; heard = h.heard }
 
 -- ---- what is written for a partition
 
-written : {T : Type 0} (P : Partition → T → Type 0) (xs : PerPartition T) (q p : Partition) (y : T) → (q ≡ p → P p y) → P p (at xs p) → P p (at (with_at xs q y) p)
+written : {T : Type 0} (P : Partition → T → Type 0) (xs : PerPartition T) (q p : Partition) (y : T) → (q ≡ p → P p y)
+    → P p (at xs p) → P p (at (with_at xs q y) p)
 written P xs One One y f g = f refl
 written P xs One Two y f g = g
 written P xs One Three y f g = g
@@ -75,10 +78,17 @@ ahead_grown c l l' y sent g h = record {
   passed = passed_grown c l l' y sent g h.within h.passed;
 }
 
-pub flows_grown : (c : ℕ) (k k' : Kept) (sent y : PerPartition ℕ) (ms : List (List ℕ)) → Grows k k' → Flows c k sent y ms → Flows c k' sent y ms
+pub flows_grown : (c : ℕ) (k k' : Kept) (sent y : PerPartition ℕ) (ms : List (List ℕ)) → Grows k k'
+    → Flows c k sent y ms → Flows c k' sent y ms
 flows_grown c k k' sent y [] g h = λ p. ahead_grown c (at k p) (at k' p) (at y p) (at sent p) (g p) (h p)
-flows_grown c k k' sent y (m ∷ ms) g (p, n, b, x, h) =
-    (p, n, brings_grown c (at k p) (at k' p) p n m (g p) (next_within c (at k p) (at y p) n x) b, next_grown c (at k p) (at k' p) (at y p) n (g p) x, flows_grown c k k' sent (with_at y p n) ms g h)
+flows_grown c k k' sent y (m ∷ ms) g (p, n, b, x, h) = (
+  p,
+  n,
+  brings_grown c (at k p) (at k' p) p n m (g p) (next_within c (at k p) (at y p) n x) b,
+  next_grown c (at k p)
+      (at k' p) (at y p) n (g p) x,
+  flows_grown c k k' sent (with_at y p n) ms g h,
+)
 
 -- how far was sent moves on where no report of the owner is
 abbrev pub Moves : ℕ → List Entry → ℕ → ℕ → Type 0
@@ -91,7 +101,8 @@ moved_ahead c l y s s' m h = record {
   passed = passed_on c l y s s' h.passed m.passed;
 }
 
-pub flows_on : (c : ℕ) (k : Kept) (sent sent' y : PerPartition ℕ) (ms : List (List ℕ)) → ((p : Partition) → Moves c (at k p) (at sent p) (at sent' p)) → Flows c k sent y ms → Flows c k sent' y ms
+pub flows_on : (c : ℕ) (k : Kept) (sent sent' y : PerPartition ℕ) (ms : List (List ℕ))
+    → ((p : Partition) → Moves c (at k p) (at sent p) (at sent' p)) → Flows c k sent y ms → Flows c k sent' y ms
 flows_on c k sent sent' y [] g h = λ p. moved_ahead c (at k p) (at y p) (at sent p) (at sent' p) (g p) (h p)
 flows_on c k sent sent' y (m ∷ ms) g (p, n, b, x, h) = (p, n, b, x, flows_on c k sent sent' (with_at y p n) ms g h)
 
@@ -101,7 +112,9 @@ pub record Sent (c : ℕ) (k : Kept) (sent sent' : PerPartition ℕ) (q : Partit
   pub mark : at sent' q ≡ n
   pub others : (p : Partition) → (q ≡ p) ⊎ Moves c (at k p) (at sent p) (at sent' p)
 
-pub flows_more : (c : ℕ) (k : Kept) (sent sent' y : PerPartition ℕ) (ms : List (List ℕ)) (q : Partition) (n : ℕ) (m : List ℕ) → Sent c k sent sent' q n → Brings c (at k q) q n m → Flows c k sent y ms → Flows c k sent' y (ms ++ m ∷ [])
+pub flows_more : (c : ℕ) (k : Kept) (sent sent' y : PerPartition ℕ) (ms : List (List ℕ)) (q : Partition) (n : ℕ)
+    (m : List ℕ) → Sent c k sent sent' q n → Brings c (at k q) q n m → Flows c k sent y ms
+    → Flows c k sent' y (ms ++ m ∷ [])
 flows_more c k sent sent' y [] q n m s b h =
     let a = h q in
     (q, n, b, next_from c (at k q) (at y q) (at sent q) n a.passed a.from s.next, λ p. ends p (s.others p))
@@ -109,14 +122,21 @@ flows_more c k sent sent' y [] q n m s b h =
     here : (p : Partition) → q ≡ p → Ahead c (at k p) n (at sent' p)
     here p e = subst (λ u. Ahead c (at k u) n (at sent' u)) e (record {
       from = (let z : at sent' q ≡ n = s.mark in omega (arith, z));
-      within = (let z : at sent' q ≡ n = s.mark in let w = next_within c (at k q) (at sent q) n s.next in omega (arith, z, w));
+      within = (let z : at sent' q ≡ n = s.mark in let w = next_within c (at k q) (at sent q) n s.next in omega
+          (arith, z, w));
       passed = λ j lt le. absurd (let z : at sent' q ≡ n = s.mark in omega (arith, z, lt, le));
     })
 
-    ends : (p : Partition) → (q ≡ p) ⊎ Moves c (at k p) (at sent p) (at sent' p) → Ahead c (at k p) (at (with_at y q n) p) (at sent' p)
-    ends p (inl e) = subst (λ u. Ahead c (at k u) (at (with_at y q n) u) (at sent' u)) e (subst (λ z. Ahead c (at k q) z (at sent' q)) (sym (at_written y q n)) (here q refl))
-    ends p (inr g) = written (λ u z. Ahead c (at k u) z (at sent' u)) y q p n (here p) (moved_ahead c (at k p) (at y p) (at sent p) (at sent' p) g (h p))
-flows_more c k sent sent' y (x ∷ ms) q n m s b (p, i, b', t, h) = (p, i, b', t, flows_more c k sent sent' (with_at y p i) ms q n m s b h)
+    ends : (p : Partition) → (q ≡ p) ⊎ Moves c (at k p) (at sent p) (at sent' p)
+        → Ahead c (at k p) (at (with_at y q n) p) (at sent' p)
+    ends p (inl e) =
+        subst (λ u. Ahead c (at k u) (at (with_at y q n) u) (at sent' u)) e
+        (subst (λ z. Ahead c (at k q) z (at sent' q)) (sym (at_written y q n)) (here q refl))
+    ends p (inr g) =
+        written (λ u z. Ahead c (at k u) z (at sent' u)) y q p n (here p)
+        (moved_ahead c (at k p) (at y p) (at sent p) (at sent' p) g (h p))
+flows_more c k sent sent' y (x ∷ ms) q n m s b (p, i, b', t, h) =
+    (p, i, b', t, flows_more c k sent sent' (with_at y p i) ms q n m s b h)
 
 -- ---- what is held
 
@@ -127,51 +147,79 @@ Holding c l a (h ∷ hs) y =
     (n : ℕ) × (e : Entry) × (under l n ≡ Some e) × (e.owner ≡ c) × (h ≡ held n e) × (is_of c (under l n) ≡ true)
     × (((n ≤ a) × Holding c l a hs y) ⊎ (Next c l a n × Holding c l n hs y))
 
-pub holding_grown : (c : ℕ) (l l' : List Entry) (a : ℕ) (hs : List Held) (y : ℕ) → Grown l l' → y ≤ length l → Holding c l a hs y → Holding c l' a hs y
+pub holding_grown : (c : ℕ) (l l' : List Entry) (a : ℕ) (hs : List Held) (y : ℕ) → Grown l l' → y ≤ length l
+    → Holding c l a hs y → Holding c l' a hs y
 holding_grown c l l' a [] y g w h = passed_grown c l l' a y g w h
-holding_grown c l l' a (x ∷ hs) y g w (n, e, s, o, i, t, inl (le, h)) =
-    (n, e, stays_under l l' n g (there_within c l n t) ∙ s, o, i, hers_grown c l l' n g t, inl (le, holding_grown c l l' a hs y g w h))
-holding_grown c l l' a (x ∷ hs) y g w (n, e, s, o, i, t, inr (q, h)) =
-    (n, e, stays_under l l' n g (there_within c l n t) ∙ s, o, i, hers_grown c l l' n g t, inr (next_grown c l l' a n g q, holding_grown c l l' n hs y g w h))
+holding_grown c l l' a (x ∷ hs) y g w (n, e, s, o, i, t, inl (le, h)) = (
+  n,
+  e,
+  stays_under l l' n g (there_within c l n t) ∙ s,
+  o,
+  i,
+  hers_grown c l l' n g t,
+  inl
+      (le, holding_grown c l l' a hs y g w h),
+)
+holding_grown c l l' a (x ∷ hs) y g w (n, e, s, o, i, t, inr (q, h)) = (
+  n,
+  e,
+  stays_under l l' n g (there_within c l n t) ∙ s,
+  o,
+  i,
+  hers_grown c l l' n g t,
+  inr
+      (next_grown c l l' a n g q, holding_grown c l l' n hs y g w h),
+)
 
 -- the first that is held, by whether a number has reached it
 abbrev First : ℕ → List Entry → ℕ → List Held → ℕ → ℕ → Type 0
 First c l a hs y n = ((n ≤ a) × Holding c l a hs y) ⊎ (Next c l a n × Holding c l n hs y)
 
 -- a number that is passed takes what is at or below it along
-pub holding_up : (c : ℕ) (l : List Entry) (a a' : ℕ) (hs : List Held) (y : ℕ) → a ≤ a' → Holding c l a hs y → Holding c l a' hs y
+pub holding_up : (c : ℕ) (l : List Entry) (a a' : ℕ) (hs : List Held) (y : ℕ) → a ≤ a' → Holding c l a hs y
+    → Holding c l a' hs y
 holding_up c l a a' [] y le h = λ j lt q. h j (omega (arith, lt, le)) q
-holding_up c l a a' (x ∷ hs) y le (n, e, s, o, i, t, inl (q, h)) = (n, e, s, o, i, t, inl (omega (arith, q, le), holding_up c l a a' hs y le h))
-holding_up c l a a' (x ∷ hs) y le (n, e, s, o, i, t, inr (q, h)) = (n, e, s, o, i, t, by (λ z. holding_up c l n a' hs y z h) (cases_lt a' n))
+holding_up c l a a' (x ∷ hs) y le (n, e, s, o, i, t, inl (q, h)) =
+    (n, e, s, o, i, t, inl (omega (arith, q, le), holding_up c l a a' hs y le h))
+holding_up c l a a' (x ∷ hs) y le (n, e, s, o, i, t, inr (q, h)) =
+    (n, e, s, o, i, t, by (λ z. holding_up c l n a' hs y z h) (cases_lt a' n))
   where
     by : (n ≤ a' → Holding c l a' hs y) → (a' < n) ⊎ (n ≤ a') → First c l a' hs y n
     by up (inl z) = inr (next_above c l a a' n le z q, h)
     by up (inr z) = inl (z, up z)
 
 -- it may also be lower, where no report of the owner parts the two
-pub holding_down : (c : ℕ) (l : List Entry) (k a : ℕ) (hs : List Held) (y : ℕ) → k ≤ a → Passed c l k a → Holding c l a hs y → Holding c l k hs y
+pub holding_down : (c : ℕ) (l : List Entry) (k a : ℕ) (hs : List Held) (y : ℕ) → k ≤ a → Passed c l k a
+    → Holding c l a hs y → Holding c l k hs y
 holding_down c l k a [] y le p h = passed_on c l k a y p h
-holding_down c l k a (x ∷ hs) y le p (n, e, s, o, i, t, inl (q, h)) = (n, e, s, o, i, t, by (holding_down c l k a hs y le p h) (cases_lt k n))
+holding_down c l k a (x ∷ hs) y le p (n, e, s, o, i, t, inl (q, h)) =
+    (n, e, s, o, i, t, by (holding_down c l k a hs y le p h) (cases_lt k n))
   where
     by : Holding c l k hs y → (k < n) ⊎ (n ≤ k) → First c l k hs y n
     by down (inl z) = not_passed c l k a n p t z q
     by down (inr z) = inl (z, down)
-holding_down c l k a (x ∷ hs) y le p (n, e, s, o, i, t, inr (q, h)) = (n, e, s, o, i, t, inr (next_from c l k a n p le q, h))
+holding_down c l k a (x ∷ hs) y le p (n, e, s, o, i, t, inr (q, h)) =
+    (n, e, s, o, i, t, inr (next_from c l k a n p le q, h))
 
 -- the next report comes, and is held
-pub holding_more : (c : ℕ) (l : List Entry) (a : ℕ) (hs : List Held) (y n : ℕ) (e : Entry) → under l n ≡ Some e → e.owner ≡ c → Next c l y n → Holding c l a hs y → Holding c l a (hs ++ held n e ∷ []) n
+pub holding_more : (c : ℕ) (l : List Entry) (a : ℕ) (hs : List Held) (y n : ℕ) (e : Entry) → under l n ≡ Some e
+    → e.owner ≡ c → Next c l y n → Holding c l a hs y → Holding c l a (hs ++ held n e ∷ []) n
 holding_more c l a [] y n e s o x h = (n, e, s, o, refl, x.hers, by (cases_lt a n))
   where
     by : (a < n) ⊎ (n ≤ a) → First c l a [] n n
     by (inl q) = inr (next_either c l a y n h x q, λ j lt le. absurd (omega (arith, lt, le)))
     by (inr q) = inl (q, λ j lt le. absurd (omega (arith, lt, le, q)))
-holding_more c l a (g ∷ hs) y n e s o x (n', e', s', o', i, t, inl (q, h)) = (n', e', s', o', i, t, inl (q, holding_more c l a hs y n e s o x h))
-holding_more c l a (g ∷ hs) y n e s o x (n', e', s', o', i, t, inr (q, h)) = (n', e', s', o', i, t, inr (q, holding_more c l n' hs y n e s o x h))
+holding_more c l a (g ∷ hs) y n e s o x (n', e', s', o', i, t, inl (q, h)) =
+    (n', e', s', o', i, t, inl (q, holding_more c l a hs y n e s o x h))
+holding_more c l a (g ∷ hs) y n e s o x (n', e', s', o', i, t, inr (q, h)) =
+    (n', e', s', o', i, t, inr (q, holding_more c l n' hs y n e s o x h))
 
 -- the next report comes, and was folded before
-pub holding_on : (c : ℕ) (l : List Entry) (a : ℕ) (hs : List Held) (y n : ℕ) → n ≤ a → Holding c l a hs y → Holding c l a hs n
+pub holding_on : (c : ℕ) (l : List Entry) (a : ℕ) (hs : List Held) (y n : ℕ) → n ≤ a → Holding c l a hs y
+    → Holding c l a hs n
 holding_on c l a [] y n le h = λ j lt q. absurd (omega (arith, lt, q, le))
-holding_on c l a (g ∷ hs) y n le (n', e', s', o', i, t, inl (q, h)) = (n', e', s', o', i, t, inl (q, holding_on c l a hs y n le h))
+holding_on c l a (g ∷ hs) y n le (n', e', s', o', i, t, inl (q, h)) =
+    (n', e', s', o', i, t, inl (q, holding_on c l a hs y n le h))
 holding_on c l a (g ∷ hs) y n le (n', e', s', o', i, t, inr (q, h)) =
     (n', e', s', o', i, t, inr (q, holding_on c l n' hs y n (let lt = q.above in omega (arith, lt, le)) h))
 
@@ -197,12 +245,15 @@ Loads c l p b o from (m ∷ ms) =
     ((r : ReportResponse) × (heard_in m ≡ Ok (End r)) × (ms ≡ []) × (o ≡ None) × Over c l b from r)
     ⊎ ((n : ℕ) × Brings c l p n m × Next c l from n × Loads c l p b o n ms)
 
-over_grown : (c : ℕ) (l l' : List Entry) (b from : ℕ) (r : ReportResponse) → Grown l l' → Over c l b from r → Over c l' b from r
-over_grown c l l' b from ending.Complete g (t, q, w, h) = (t, q, (let a = longer l l' g in omega (arith, a, w)), passed_grown c l l' from t g w h)
+over_grown : (c : ℕ) (l l' : List Entry) (b from : ℕ) (r : ReportResponse) → Grown l l' → Over c l b from r
+    → Over c l' b from r
+over_grown c l l' b from ending.Complete g (t, q, w, h) =
+    (t, q, (let a = longer l l' g in omega (arith, a, w)), passed_grown c l l' from t g w h)
 over_grown c l l' b from ending.MessageLimit g h = tt
 over_grown c l l' b from ending.ServiceUnavailable g h = tt
 
-runs_grown : (p : Partition) (l l' : List Entry) (b from : ℕ) (d : Download) → Grown l l' → Runs p l b from d → Runs p l' b from d
+runs_grown : (p : Partition) (l l' : List Entry) (b from : ℕ) (d : Download) → Grown l l' → Runs p l b from d
+    → Runs p l' b from d
 runs_grown p l l' b from d g h = record {
   partition = h.partition;
   last = h.last;
@@ -210,15 +261,23 @@ runs_grown p l l' b from d g h = record {
   within = (let a = longer l l' g in let w = h.within in omega (arith, a, w));
 }
 
-pub loads_grown : (c : ℕ) (l l' : List Entry) (p : Partition) (b : ℕ) (o : Option Download) (from : ℕ) (ms : List (List ℕ)) → Grown l l' → Loads c l p b o from ms → Loads c l' p b o from ms
+pub loads_grown : (c : ℕ) (l l' : List Entry) (p : Partition) (b : ℕ) (o : Option Download) (from : ℕ)
+    (ms : List (List ℕ)) → Grown l l' → Loads c l p b o from ms → Loads c l' p b o from ms
 loads_grown c l l' p b o from [] g (inl e) = inl e
 loads_grown c l l' p b o from [] g (inr (d, e, h)) = inr (d, e, runs_grown p l l' b from d g h)
 loads_grown c l l' p b o from (m ∷ ms) g (inl (r, h, e, z, v)) = inl (r, h, e, z, over_grown c l l' b from r g v)
 loads_grown c l l' p b o from (m ∷ ms) g (inr (n, h, x, q)) =
-    inr (n, brings_grown c l l' p n m g (next_within c l from n x) h, next_grown c l l' from n g x, loads_grown c l l' p b o n ms g q)
+    inr (
+      n,
+      brings_grown c l l' p n m g (next_within c l from n x) h,
+      next_grown c l l' from n g x,
+      loads_grown c l l'
+          p b o n ms g q,
+    )
 
 -- the line is cut: nothing more comes behind what is under way
-pub loads_cut : (c : ℕ) (l : List Entry) (p : Partition) (b : ℕ) (o : Option Download) (from : ℕ) (ms : List (List ℕ)) → Loads c l p b o from ms → Loads c l p b None from ms
+pub loads_cut : (c : ℕ) (l : List Entry) (p : Partition) (b : ℕ) (o : Option Download) (from : ℕ) (ms : List (List ℕ))
+    → Loads c l p b o from ms → Loads c l p b None from ms
 loads_cut c l p b o from [] h = inl refl
 loads_cut c l p b o from (m ∷ ms) (inl (r, h, e, z, v)) = inl (r, h, e, refl, v)
 loads_cut c l p b o from (m ∷ ms) (inr (n, h, x, q)) = inr (n, h, x, loads_cut c l p b o n ms q)
@@ -235,7 +294,9 @@ pub record Further (d d' : Download) (n : ℕ) : Type 0 where
   pub target : d'.target ≡ d.target
   pub last : d'.last ≡ n
 
-pub loads_more : (c : ℕ) (l : List Entry) (p : Partition) (b : ℕ) (d d' : Download) (from : ℕ) (ms : List (List ℕ)) (n : ℕ) (m : List ℕ) → Further d d' n → Next c l d.last n → Brings c l p n m → Loads c l p b (Some d) from ms → Loads c l p b (Some d') from (ms ++ m ∷ [])
+pub loads_more : (c : ℕ) (l : List Entry) (p : Partition) (b : ℕ) (d d' : Download) (from : ℕ) (ms : List (List ℕ))
+    (n : ℕ) (m : List ℕ) → Further d d' n → Next c l d.last n → Brings c l p n m → Loads c l p b (Some d) from ms
+    → Loads c l p b (Some d') from (ms ++ m ∷ [])
 loads_more c l p b d d' from [] n m f x h (inl e) = some_none d e
 loads_more c l p b d d' from [] n m f x h (inr (d'', e, r)) =
     let same = same_some d d'' e in
@@ -256,18 +317,29 @@ loads_more c l p b d d' from [] n m f x h (inr (d'', e, r)) =
       ),
     )
 loads_more c l p b d d' from (y ∷ ms) n m f x h (inl (r, g, e, z, v)) = some_none d z
-loads_more c l p b d d' from (y ∷ ms) n m f x h (inr (i, g, t, q)) = inr (i, g, t, loads_more c l p b d d' i ms n m f x h q)
+loads_more c l p b d d' from (y ∷ ms) n m f x h (inr (i, g, t, q)) =
+    inr (i, g, t, loads_more c l p b d d' i ms n m f x h q)
 
 -- the download ends
-pub loads_end : (c : ℕ) (l : List Entry) (p : Partition) (b : ℕ) (d : Download) (from : ℕ) (ms : List (List ℕ)) (r : ReportResponse) (m : List ℕ) → (r ≡ ending.Complete → Passed c l d.last d.target) → heard_in m ≡ Ok (End r) → Loads c l p b (Some d) from ms → Loads c l p b None from (ms ++ m ∷ [])
+pub loads_end : (c : ℕ) (l : List Entry) (p : Partition) (b : ℕ) (d : Download) (from : ℕ) (ms : List (List ℕ))
+    (r : ReportResponse) (m : List ℕ) → (r ≡ ending.Complete → Passed c l d.last d.target) → heard_in m ≡ Ok (End r)
+    → Loads c l p b (Some d) from ms → Loads c l p b None from (ms ++ m ∷ [])
 loads_end c l p b d from [] r m f h (inl e) = some_none d e
 loads_end c l p b d from [] r m f h (inr (d'', e, g)) =
     let same = same_some d d'' e in
     let was : d.last ≡ from = ap (λ (u : Download). u.last) same ∙ g.last in
     let aim : d.target ≡ d''.target = ap (λ (u : Download). u.target) same in
-    inl (r, h, refl, refl, over r (λ k. subst (λ u. Passed c l u d''.target) was (subst (λ u. Passed c l d.last u) aim (f k))) d''.target g.covers g.within)
+    inl (
+      r,
+      h,
+      refl,
+      refl,
+      over r (λ k. subst (λ u. Passed c l u d''.target) was
+          (subst (λ u. Passed c l d.last u) aim (f k))) d''.target g.covers g.within,
+    )
   where
-    over : (r : ReportResponse) → ((r ≡ ending.Complete) → Passed c l from d''.target) → (t : ℕ) → b ≤ d''.target → d''.target ≤ length l → Over c l b from r
+    over : (r : ReportResponse) → ((r ≡ ending.Complete) → Passed c l from d''.target) → (t : ℕ) → b ≤ d''.target
+        → d''.target ≤ length l → Over c l b from r
     over ending.Complete k t q w = (d''.target, q, w, k refl)
     over ending.MessageLimit k t q w = tt
     over ending.ServiceUnavailable k t q w = tt

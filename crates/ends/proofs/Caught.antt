@@ -96,14 +96,16 @@ module _ {V : Type 0} where
   -- a map whose keys are all among the numbers up to N has at most N of them
   counted : (N : ℕ) (m : FinMap nat_cmp V) → ((n : ℕ) → is_some (get m n) ≡ true → (0 < n) × (n ≤ N)) → len m ≤ N
   counted zero m h =
-      let e : len m ≡ 0 = ap len (same m _ (λ n. none n (get m n) refl ∙ sym (get-empty nat_cmp n))) ∙ len-empty nat_cmp V in
+      let e : len m ≡ 0 = ap len (same m _ (λ n. none n (get m n) refl ∙ sym (get-empty nat_cmp n))) ∙ len-empty
+      nat_cmp V in
       omega arith
     where
       none : (n : ℕ) (o : Option V) → get m n ≡ o → get m n ≡ None
       none n None e = e
       none n (Some v) e = let r = h n (ap is_some e) in absurd (let lt = r.0 in let le = r.1 in omega arith)
   counted (suc N) m h =
-      by_test (contains_key m (suc N)) (len-remove nat_cmp_total m (suc N)) (counted N (remove m (suc N)) (λ n k. within n (cases_eq n (suc N)) k))
+      by_test (contains_key m (suc N)) (len-remove nat_cmp_total m (suc N))
+      (counted N (remove m (suc N)) (λ n k. within n (cases_eq n (suc N)) k))
     where
       within : (n : ℕ) → (n ≡ suc N) ⊎ (n ≡ suc N → ⊥) → is_some (get (remove m (suc N)) n) ≡ true → (0 < n) × (n ≤ N)
       within n (inl e) k = never (sym (ap is_some (ap (get (remove m (suc N))) e ∙ put-here m (suc N) None)) ∙ k)
@@ -113,12 +115,14 @@ module _ {V : Type 0} where
           let le = r.1 in
           (lt, omega arith)
 
-      by_test : (b : Bool) → len (remove m (suc N)) ≡ cond b (len m - 1) (len m) → len (remove m (suc N)) ≤ N → len m ≤ suc N
+      by_test : (b : Bool) → len (remove m (suc N)) ≡ cond b (len m - 1) (len m) → len (remove m (suc N)) ≤ N
+          → len m ≤ suc N
       by_test true e l = omega arith
       by_test false e l = omega arith
 
   -- and fewer, where it lacks one of them
-  fewer : (N : ℕ) (m : FinMap nat_cmp V) (i : ℕ) (v : V) → ((n : ℕ) → is_some (get m n) ≡ true → (0 < n) × (n ≤ N)) → (0 < i) × (i ≤ N) → get m i ≡ None → len m < N
+  fewer : (N : ℕ) (m : FinMap nat_cmp V) (i : ℕ) (v : V) → ((n : ℕ) → is_some (get m n) ≡ true → (0 < n) × (n ≤ N))
+      → (0 < i) × (i ≤ N) → get m i ≡ None → len m < N
   fewer N m i v h inside none =
       let grown : len (insert m i v) ≡ len m + 1 = len-insert nat_cmp_total m i v ∙ cond-false _ _ _ (ap is_some none) in
       let most = counted N (insert m i v) (λ n k. within n (cases_eq n i) k) in
@@ -153,7 +157,8 @@ written_known : (k k' : Knowledge) (n : ℕ) (o : Option Standing) → fold_know
 written_known k k' n None h = refused Unfit k' h
 written_known k k' n (Some s) h = (s, cc)
 
-written_room : (k k' : Knowledge) (n : ℕ) (s : Standing) (b : Bool) → cond b (Ok (insert k n s)) (Err Full) ≡ Ok k' → k' ≡ insert k n s
+written_room : (k k' : Knowledge) (n : ℕ) (s : Standing) (b : Bool) → cond b (Ok (insert k n s)) (Err Full) ≡ Ok k'
+    → k' ≡ insert k n s
 written_room k k' n s true h = cc
 written_room k k' n s false h = refused Full k' h
 
@@ -161,11 +166,13 @@ written_new : (k k' : Knowledge) (n : ℕ) (o : Option Standing) → fold_new k 
 written_new k k' n None h = refused Unfit k' h
 written_new k k' n (Some s) h = (s, written_room k k' n s (ltb (len k) ORDERS) h)
 
-written_order : (p : Partition) (t : Told) (k k' : Knowledge) (n : ℕ) (o : Option Standing) → fold_order p t k n o ≡ Ok k' → Under n k k'
+written_order : (p : Partition) (t : Told) (k k' : Knowledge) (n : ℕ) (o : Option Standing) → fold_order p t k n o
+    ≡ Ok k' → Under n k k'
 written_order p t k k' n None h = written_new k k' n (added p t) h
 written_order p t k k' n (Some s) h = written_known k k' n (changed t s) h
 
-written_named : (p : Partition) (t : Told) (k k' : Knowledge) (o : Option OrderId) → fold_named p t k o ≡ Ok k' → Written k k'
+written_named : (p : Partition) (t : Told) (k k' : Knowledge) (o : Option OrderId) → fold_named p t k o ≡ Ok k'
+    → Written k k'
 written_named p t k k' None h = refused Unfit k' h
 written_named p t k k' (Some i) h = inr (i.number, written_order p t k k' i.number (get k i.number) h)
 
@@ -210,7 +217,8 @@ module _ (p : Partition) (o : ℕ) where
   has_one : (k : Knowledge) (x : Entry) (n : ℕ) → Has k n → Has (tally_one p o k x) n
   has_one k x n h = by_test (eqb x.owner o) (fold p (told_of x.report) k) refl
     where
-      by_test : (b : Bool) (r : Result Knowledge FoldRefusal) → fold p (told_of x.report) k ≡ r → Has (cond b (kept_by k r) k) n
+      by_test : (b : Bool) (r : Result Knowledge FoldRefusal) → fold p (told_of x.report) k ≡ r
+          → Has (cond b (kept_by k r) k) n
       by_test false r e = h
       by_test true (Err y) e = h
       by_test true (Ok k') e = has_written k k' n (written p (told_of x.report) k k' e) h
@@ -231,22 +239,27 @@ module _ (p : Partition) (o : ℕ) where
   refused_stays x (e ∷ l) = refused_stays x l
 
   -- where no later report is refused, no earlier one was
-  taken_first : (k k' : Knowledge) (r : Result Knowledge FoldRefusal) (l : List Entry) → told r l ≡ Ok k' → r ≡ Ok (kept_by k r)
+  taken_first : (k k' : Knowledge) (r : Result Knowledge FoldRefusal) (l : List Entry) → told r l ≡ Ok k' → r
+      ≡ Ok (kept_by k r)
   taken_first k k' (Ok j) l h = refl
   taken_first k k' (Err x) l h = refused x k' (sym (refused_stays x l) ∙ h)
 
   -- one report further, of whichever owner
-  told_further : (k k' : Knowledge) (x : Entry) (l : List Entry) → told (Ok k) (x ∷ l) ≡ Ok k' → told (Ok (tally_one p o k x)) l ≡ Ok k'
+  told_further : (k k' : Knowledge) (x : Entry) (l : List Entry) → told (Ok k) (x ∷ l) ≡ Ok k'
+      → told (Ok (tally_one p o k x)) l ≡ Ok k'
   told_further k k' x l h = by_test (eqb x.owner o) (fold p (told_of x.report) k) h
     where
-      by_test : (b : Bool) (r : Result Knowledge FoldRefusal) → told (cond b r (Ok k)) l ≡ Ok k' → told (Ok (cond b (kept_by k r) k)) l ≡ Ok k'
+      by_test : (b : Bool) (r : Result Knowledge FoldRefusal) → told (cond b r (Ok k)) l ≡ Ok k'
+          → told (Ok (cond b (kept_by k r) k)) l ≡ Ok k'
       by_test false r e = e
       by_test true (Ok j) e = e
       by_test true (Err y) e = refused y k' (sym (refused_stays y l) ∙ e)
 
   -- the owner's next report, over the tally of those before it
-  taken_next : (k k' : Knowledge) (l : List Entry) (m n : ℕ) (e : Entry) → m < n → ((j : ℕ) → m < j → j < n → is_of o (under l j) ≡ false) → under l n ≡ Some e → e.owner ≡ o → told (Ok k) l ≡ Ok k'
-      → fold p (told_of e.report) (from k (take m l)) ≡ Ok (kept_by (from k (take m l)) (fold p (told_of e.report) (from k (take m l))))
+  taken_next : (k k' : Knowledge) (l : List Entry) (m n : ℕ) (e : Entry) → m < n
+      → ((j : ℕ) → m < j → j < n → is_of o (under l j) ≡ false) → under l n ≡ Some e → e.owner ≡ o → told (Ok k) l ≡ Ok k'
+      → fold p (told_of e.report) (from k (take m l))
+      ≡ Ok (kept_by (from k (take m l)) (fold p (told_of e.report) (from k (take m l))))
   taken_next k k' l m zero e lt h found mine t = absurd (omega arith)
   taken_next k k' [] m (suc n) e lt h found mine t = no_entry e found
   taken_next k k' (x ∷ l) zero (suc zero) e lt h found mine t =
@@ -269,28 +282,37 @@ module _ (p : Partition) (o : ℕ) where
       shift (suc j) a b = h (suc (suc j)) (omega arith) (omega arith)
 
   -- and so the tally up to it
-  taken_tally : (l : List Entry) (m n : ℕ) (e : Entry) → m < n → ((j : ℕ) → m < j → j < n → is_of o (under l j) ≡ false) → under l n ≡ Some e → e.owner ≡ o → all_told p o l ≡ Ok (tally p o l)
+  taken_tally : (l : List Entry) (m n : ℕ) (e : Entry) → m < n
+      → ((j : ℕ) → m < j → j < n → is_of o (under l j) ≡ false) → under l n ≡ Some e → e.owner ≡ o → all_told p o l
+      ≡ Ok (tally p o l)
       → fold p (told_of e.report) (tally_to p o l m) ≡ Ok (tally_to p o l n)
   taken_tally l m n e lt h found mine t =
-      taken_next nothing_known (tally p o l) l m n e lt h found mine t ∙ ap Ok (sym ((tally-laws p o l).next m n e lt h found mine))
+      taken_next nothing_known (tally p o l) l m n e lt h found mine t ∙ ap Ok
+      (sym ((tally-laws p o l).next m n e lt h found mine))
 
 -- ---- a start, and a store that grows
 
 -- where nothing was reported, nothing is known
 pub begins : (c : ℕ) (kept : Kept) → Tallied c kept nothing_known (λ p. 0)
 begins c kept p n =
-    ap (there p) (get-empty nat_cmp n) ∙ sym (get-empty nat_cmp n) ∙ ap (λ k. get k n) (sym (tally-laws p c (at kept p)).start)
+    ap (there p) (get-empty nat_cmp n) ∙ sym (get-empty nat_cmp n) ∙ ap (λ k. get k n)
+    (sym (tally-laws p c (at kept p)).start)
 
 -- reports that come later change nothing of the tally up to a place
-pub grows : (c : ℕ) (kept kept' : Kept) (k : Knowledge) (place : Partition → ℕ) → ((p : Partition) → Grown (at kept p) (at kept' p)) → ((p : Partition) → place p ≤ length (at kept p)) → Tallied c kept k place → Tallied c kept' k place
+pub grows : (c : ℕ) (kept kept' : Kept) (k : Knowledge) (place : Partition → ℕ)
+    → ((p : Partition) → Grown (at kept p) (at kept' p)) → ((p : Partition) → place p ≤ length (at kept p))
+    → Tallied c kept k place → Tallied c kept' k place
 grows c kept kept' k place g within w p n =
-    w p n ∙ ap (λ l. get (tally p c l) n) (sym (ap (take (place p)) (g p).1 ∙ take-append-le (place p) (at kept p) (g p).0 (within p)))
+    w p n ∙ ap (λ l. get (tally p c l) n) (sym
+    (ap (take (place p)) (g p).1 ∙ take-append-le (place p) (at kept p) (g p).0 (within p)))
 
 -- ---- at the end
 
 -- with no report of the owner past the place, each order stands as its row says
-pub shown : (is : List Instrument) (rows : List Row) (kept : Kept) (c : ℕ) (k : Knowledge) (place : Partition → ℕ) → Recorded is rows kept → Tallied c kept k place → (p : Partition)
-    → ((j : ℕ) → place p < j → is_of c (under (at kept p) j) ≡ false) → (n : ℕ) → there p (get k n) ≡ standing is c p (under rows n)
+pub shown : (is : List Instrument) (rows : List Row) (kept : Kept) (c : ℕ) (k : Knowledge) (place : Partition → ℕ)
+    → Recorded is rows kept → Tallied c kept k place → (p : Partition)
+    → ((j : ℕ) → place p < j → is_of c (under (at kept p) j) ≡ false) → (n : ℕ) → there p (get k n)
+    ≡ standing is c p (under rows n)
 shown is rows kept c k place s w p none n =
     w p n ∙ ap (λ t. get t n) ((tally-laws p c (at kept p)).rest (place p) none) ∙ s.tallied c p n
 
@@ -308,7 +330,8 @@ placed_added p t s h = by_effect (effect_of t.kind) (natural t.leaves) h
     by_effect Tells l q = absurd (cc)
     by_effect Nothing l q = absurd (cc)
 
-placed_bounded : (p : Partition) (st : Status) (l : ℕ) (x : Option ℕ) (s : Standing) → bounded p st l x ≡ Some s → s.partition ≡ p
+placed_bounded : (p : Partition) (st : Status) (l : ℕ) (x : Option ℕ) (s : Standing) → bounded p st l x ≡ Some s
+    → s.partition ≡ p
 placed_bounded p st l None s h = absurd (cc)
 placed_bounded p st l (Some x) s h = by_test (leb x SHARES) h
   where
@@ -341,7 +364,8 @@ module _ (p : Partition) (k t : Knowledge) (w : (n : ℕ) → there p (get k n) 
   }
 
   -- the same standing is written in both
-  both_insert : (t' : Knowledge) (n : ℕ) (s : Standing) (r : Result Knowledge FoldRefusal) → s.partition ≡ p → get k n ≡ get t n → t' ≡ insert t n s → r ≡ Ok (insert k n s) → Both t' r
+  both_insert : (t' : Knowledge) (n : ℕ) (s : Standing) (r : Result Knowledge FoldRefusal) → s.partition ≡ p → get k n
+      ≡ get t n → t' ≡ insert t n s → r ≡ Ok (insert k n s) → Both t' r
   both_insert t' n s r of alike e f = record {
     after = insert k n s;
     taken = f;
@@ -355,23 +379,29 @@ module _ (p : Partition) (k t : Knowledge) (w : (n : ℕ) → there p (get k n) 
           (ap (there p) (put-here k n (Some s)) ∙ there_here p s of ∙ sym (put-here t n (Some s)))
       here m (inr ne) = ap (there p) (put-apart k n (Some s) m ne) ∙ w m ∙ sym (put-apart t n (Some s) m ne)
 
-      others : (q : Partition) → q ≢ p → (m : ℕ) → (m ≡ n) ⊎ (m ≡ n → ⊥) → there q (get (insert k n s) m) ≡ there q (get k m)
+      others : (q : Partition) → q ≢ p → (m : ℕ) → (m ≡ n) ⊎ (m ≡ n → ⊥) → there q (get (insert k n s) m)
+          ≡ there q (get k m)
       others q ne m (inl h) =
           subst (λ x. there q (get (insert k n s) x) ≡ there q (get k x)) (sym h)
-          (ap (there q) (put-here k n (Some s)) ∙ there_apart q s (λ x. ne (sym x ∙ of)) ∙ sym (elsewhere p q (get k n) ne (w n ∙ sym alike)))
+          (ap (there q) (put-here k n (Some s)) ∙ there_apart q s (λ x. ne (sym x ∙ of)) ∙ sym
+          (elsewhere p q (get k n) ne (w n ∙ sym alike)))
       others q ne m (inr h) = ap (there q) (put-apart k n (Some s) m h)
 
   -- an order that is new, and one that is known
-  both_new : (t' : Knowledge) (n : ℕ) (o : Option Standing) → ((s : Standing) → o ≡ Some s → s.partition ≡ p) → get k n ≡ get t n → len k < ORDERS → fold_new t n o ≡ Ok t' → Both t' (fold_new k n o)
+  both_new : (t' : Knowledge) (n : ℕ) (o : Option Standing) → ((s : Standing) → o ≡ Some s → s.partition ≡ p) → get k n
+      ≡ get t n → len k < ORDERS → fold_new t n o ≡ Ok t' → Both t' (fold_new k n o)
   both_new t' n None of alike room h = refused Unfit t' h
   both_new t' n (Some s) of alike room h =
-      both_insert t' n s _ (of s refl) alike (written_room t t' n s (ltb (len t) ORDERS) h) (cond-true _ _ _ (lt-ltb _ _ room))
+      both_insert t' n s _ (of s refl) alike (written_room t t' n s (ltb (len t) ORDERS) h)
+      (cond-true _ _ _ (lt-ltb _ _ room))
 
-  both_known : (t' : Knowledge) (n : ℕ) (o : Option Standing) → ((s : Standing) → o ≡ Some s → s.partition ≡ p) → get k n ≡ get t n → fold_known t n o ≡ Ok t' → Both t' (fold_known k n o)
+  both_known : (t' : Knowledge) (n : ℕ) (o : Option Standing) → ((s : Standing) → o ≡ Some s → s.partition ≡ p)
+      → get k n ≡ get t n → fold_known t n o ≡ Ok t' → Both t' (fold_known k n o)
   both_known t' n None of alike h = refused Unfit t' h
   both_known t' n (Some s) of alike h = both_insert t' n s _ (of s refl) alike (cc) refl
 
-  both_order : (d : Told) (t' : Knowledge) (n : ℕ) → get k n ≡ get t n → (get k n ≡ None → len k < ORDERS) → fold_order p d t n (get t n) ≡ Ok t' → Both t' (fold_order p d k n (get k n))
+  both_order : (d : Told) (t' : Knowledge) (n : ℕ) → get k n ≡ get t n → (get k n ≡ None → len k < ORDERS)
+      → fold_order p d t n (get t n) ≡ Ok t' → Both t' (fold_order p d k n (get k n))
   both_order d t' n alike room h = subst (λ o. Both t' (fold_order p d k n o)) (sym alike) (by_get (get t n) refl h)
     where
       by_get : (o : Option Standing) → get t n ≡ o → fold_order p d t n o ≡ Ok t' → Both t' (fold_order p d k n o)
@@ -385,7 +415,8 @@ module _ (p : Partition) (k t : Knowledge) (w : (n : ℕ) → there p (get k n) 
   Fits t' = (n : ℕ) → Has t' n → (get k n ≡ get t n) × (get k n ≡ None → len k < ORDERS)
 
   -- a report whose order fits is taken in the map of all as it is in that of the partition
-  both_named : (d : Told) (t' : Knowledge) (i : Option OrderId) → Fits t' → fold_named p d t i ≡ Ok t' → Both t' (fold_named p d k i)
+  both_named : (d : Told) (t' : Knowledge) (i : Option OrderId) → Fits t' → fold_named p d t i ≡ Ok t'
+      → Both t' (fold_named p d k i)
   both_named d t' None fits h = refused Unfit t' h
   both_named d t' (Some i) fits h =
       let fit = fits i.number (has_under t t' i.number (written_order p d t t' i.number (get t i.number) h)) in
@@ -405,7 +436,8 @@ module _ (p : Partition) (k t : Knowledge) (w : (n : ℕ) → there p (get k n) 
 -- ---- an order is known in one partition alone
 
 -- a row is told of in one partition
-one_place : (is : List Instrument) (c : ℕ) (p q : Partition) (r : Option Row) → is_some (standing is c p r) ≡ true → is_some (standing is c q r) ≡ true → p ≡ q
+one_place : (is : List Instrument) (c : ℕ) (p q : Partition) (r : Option Row) → is_some (standing is c p r) ≡ true
+    → is_some (standing is c q r) ≡ true → p ≡ q
 one_place is c p q None h g = never h
 one_place is c p q (Some r) h g = by_instrument (slice_get is r.terms.instrument) h g
   where
@@ -417,13 +449,15 @@ one_place is c p q (Some r) h g = by_instrument (slice_get is r.terms.instrument
         by_test true false s x = x
         by_test false b s x = never x
 
-    by_instrument : (i : Option Instrument) → is_some (standing_in c p r i) ≡ true → is_some (standing_in c q r i) ≡ true → p ≡ q
+    by_instrument : (i : Option Instrument) → is_some (standing_in c p r i) ≡ true → is_some (standing_in c q r i)
+        ≡ true → p ≡ q
     by_instrument None a b = never a
     by_instrument (Some i) a b = sym (located i p a) ∙ located i q b
 
 module _ (is : List Instrument) (rows : List Row) (kept : Kept) (c : ℕ) (s : Recorded is rows kept) where
   -- what is known of a partition's first reports is the number of a row that is told of there
-  row_told : (p : Partition) (m n : ℕ) → Has (tally_to p c (at kept p) m) n → is_some (standing is c p (under rows n)) ≡ true
+  row_told : (p : Partition) (m n : ℕ) → Has (tally_to p c (at kept p) m) n → is_some (standing is c p (under rows n))
+      ≡ true
   row_told p m n h = ap is_some (sym (s.tallied c p n)) ∙ has_whole p c nothing_known (at kept p) m n h
 
   -- a row that is told of is there
@@ -450,7 +484,8 @@ module _ (is : List Instrument) (rows : List Row) (kept : Kept) (c : ℕ) (s : R
         by_get (Some x) e y = under_inside rows n (row_there x.partition n (standing_told n x e))
 
     -- an order that is known in the partition's tally up to any place fits
-    fits : (p : Partition) (m : ℕ) → length rows ≤ ORDERS → (n : ℕ) → Has (tally_to p c (at kept p) m) n → (get k n ≡ get (tally_to p c (at kept p) (place p)) n) × (get k n ≡ None → len k < ORDERS)
+    fits : (p : Partition) (m : ℕ) → length rows ≤ ORDERS → (n : ℕ) → Has (tally_to p c (at kept p) m) n
+        → (get k n ≡ get (tally_to p c (at kept p) (place p)) n) × (get k n ≡ None → len k < ORDERS)
     fits p m most n h = (by_get (get k n) refl ∙ w p n, room)
       where
         told_here : is_some (standing is c p (under rows n)) ≡ true
@@ -458,7 +493,9 @@ module _ (is : List Instrument) (rows : List Row) (kept : Kept) (c : ℕ) (s : R
 
         by_get : (o : Option Standing) → get k n ≡ o → get k n ≡ there p (get k n)
         by_get None e = e ∙ sym (ap (there p) e)
-        by_get (Some x) e = e ∙ sym (ap (there p) e ∙ there_here p x (one_place is c x.partition p (under rows n) (standing_told n x e) told_here))
+        by_get (Some x) e =
+            e ∙ sym (ap (there p) e ∙ there_here p x
+            (one_place is c x.partition p (under rows n) (standing_told n x e) told_here))
 
         any : (o : Option Standing) → is_some o ≡ true → Standing
         any None e = never e
@@ -466,21 +503,25 @@ module _ (is : List Instrument) (rows : List Row) (kept : Kept) (c : ℕ) (s : R
 
         room : get k n ≡ None → len k < ORDERS
         room none =
-            let lt = fewer (length rows) k n (any _ h) known_inside (under_inside rows n (row_there p n told_here)) none in
+            let lt = fewer (length rows) k n (any _ h) known_inside
+            (under_inside rows n (row_there p n told_here)) none in
             omega arith
 
 -- ---- the owner's next report is never refused
 
 -- what the fold of the owner's next report makes
-pub record Folded (c : ℕ) (kept : Kept) (k : Knowledge) (place : Partition → ℕ) (p : Partition) (n : ℕ) (e : Entry) : Type 0 where
+pub record Folded (c : ℕ) (kept : Kept) (k : Knowledge) (place : Partition → ℕ) (p : Partition) (n : ℕ)
+    (e : Entry) : Type 0 where
   pub after : Knowledge
   pub taken : fold p (told_of e.report) k ≡ Ok after
   pub here : (m : ℕ) → there p (get after m) ≡ get (tally_to p c (at kept p) n) m
   pub others : (q : Partition) → q ≢ p → (m : ℕ) → there q (get after m) ≡ there q (get k m)
 
 -- it is taken, the partition's part is then the tally up to its number, and the others' parts stay
-pub folds : (is : List Instrument) (rows : List Row) (kept : Kept) (c : ℕ) (k : Knowledge) (place : Partition → ℕ) (p : Partition) (n : ℕ) (e : Entry) → Recorded is rows kept → length rows ≤ ORDERS
-    → Tallied c kept k place → place p < n → ((j : ℕ) → place p < j → j < n → is_of c (under (at kept p) j) ≡ false) → under (at kept p) n ≡ Some e → e.owner ≡ c → Folded c kept k place p n e
+pub folds : (is : List Instrument) (rows : List Row) (kept : Kept) (c : ℕ) (k : Knowledge) (place : Partition → ℕ)
+    (p : Partition) (n : ℕ) (e : Entry) → Recorded is rows kept → length rows ≤ ORDERS
+    → Tallied c kept k place → place p < n → ((j : ℕ) → place p < j → j < n → is_of c (under (at kept p) j) ≡ false)
+    → under (at kept p) n ≡ Some e → e.owner ≡ c → Folded c kept k place p n e
 folds is rows kept c k place p n e s most w lt none found mine =
     let t = tally_to p c (at kept p) (place p) in
     let b = both p k t (w p) (told_of e.report) (tally_to p c (at kept p) n) (fits is rows kept c s k place w p n most)

@@ -32,7 +32,8 @@ next_within c l a n h = there_within c l n h.hers
 pub stays_under : (l l' : List Entry) (n : ℕ) → Grown l l' → n ≤ length l → under l' n ≡ under l n
 stays_under l l' n (more, e) h = ap (λ (xs : List Entry). under xs n) e ∙ under_grown l more n h
 
-pub hers_grown : (c : ℕ) (l l' : List Entry) (n : ℕ) → Grown l l' → is_of c (under l n) ≡ true → is_of c (under l' n) ≡ true
+pub hers_grown : (c : ℕ) (l l' : List Entry) (n : ℕ) → Grown l l' → is_of c (under l n) ≡ true → is_of c (under l' n)
+    ≡ true
 hers_grown c l l' n g h = ap (is_of c) (stays_under l l' n g (there_within c l n h)) ∙ h
 
 pub passed_grown : (c : ℕ) (l l' : List Entry) (a z : ℕ) → Grown l l' → z ≤ length l → Passed c l a z → Passed c l' a z
@@ -58,7 +59,8 @@ clash : {X : Type 0} (b : Bool) → b ≡ true → b ≡ false → X
 clash b t f = cc
 
 -- an owner's number is not among those that were passed
-pub not_passed : {X : Type 0} (c : ℕ) (l : List Entry) (a z n : ℕ) → Passed c l a z → is_of c (under l n) ≡ true → a < n → n ≤ z → X
+pub not_passed : {X : Type 0} (c : ℕ) (l : List Entry) (a z n : ℕ) → Passed c l a z → is_of c (under l n) ≡ true
+    → a < n → n ≤ z → X
 not_passed c l a z n h t lt le = clash (is_of c (under l n)) t (h n lt le)
 
 pub passed_on : (c : ℕ) (l : List Entry) (a b z : ℕ) → Passed c l a b → Passed c l b z → Passed c l a z

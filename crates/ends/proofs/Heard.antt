@@ -31,7 +31,8 @@ use Rattle.wire.specs.declared.kinds.Kind.TheVariants as kind
 use Rattle.wire.specs.declared.message.Message.TheVariants as message
 
 -- in a report's bytes that report is heard, under its partition and number
-pub report_heard : (p : Partition) (n : ℕ) (r : Report) → ReportTold p n r → heard_in (report_bytes p n r) ≡ Ok (heard.Report p (record { sequence = pos n; told = told_of r }))
+pub report_heard : (p : Partition) (n : ℕ) (r : Report) → ReportTold p n r → heard_in (report_bytes p n r)
+    ≡ Ok (heard.Report p (record { sequence = pos n; told = told_of r }))
 report_heard p n r t =
     let h = t.holds in
     subst (λ bs. heard_in bs ≡ Ok (heard.Report p (record { sequence = pos n; told = told_of r }))) t.form
@@ -65,10 +66,12 @@ unless : (k : Kind) (bs : List ℕ) (h : Heard) (o : Option Fault) → ((vs : Li
 unless k bs h None f = inl (ap Ok (f (map (got bs) (table_of k))))
 unless k bs h (Some e) f = inr (e, refl)
 
-opened_as : (k : Kind) (bs : List ℕ) (h : Heard) (r : Result Kind Fault) → ((j : Kind) → r ≡ Ok j → j ≡ k) → ((vs : List Content) → heard_from k vs ≡ h)
+opened_as : (k : Kind) (bs : List ℕ) (h : Heard) (r : Result Kind Fault) → ((j : Kind) → r ≡ Ok j → j ≡ k)
+    → ((vs : List Content) → heard_from k vs ≡ h)
     → (heard_opened r bs ≡ Ok h) ⊎ ((e : Fault) × (heard_opened r bs ≡ Err e))
 opened_as k bs h (Err e) same f = inr (e, refl)
-opened_as k bs h (Ok j) same f = unless j bs h (fault_of (table_of j) bs) (λ vs. ap (λ i. heard_from i vs) (same j refl) ∙ f vs)
+opened_as k bs h (Ok j) same f = unless j bs h (fault_of (table_of j) bs)
+    (λ vs. ap (λ i. heard_from i vs) (same j refl) ∙ f vs)
 
 -- whatever stands behind a header, it opens as no other kind than the header's
 kind_stated : (k j : Kind) (xs : List ℕ) → opening Follower (header (letter_of k) (total_of k) ++ xs) ≡ Ok j → j ≡ k
@@ -78,16 +81,19 @@ kind_stated k j xs e =
     kinds_same j k (omega (arith, o))
 
 one_heard : (k : Kind) (xs : List ℕ) (h : Heard) → ((vs : List Content) → heard_from k vs ≡ h)
-    → (heard_in (header (letter_of k) (total_of k) ++ xs) ≡ Ok h) ⊎ ((e : Fault) × (heard_in (header (letter_of k) (total_of k) ++ xs) ≡ Err e))
+    → (heard_in (header (letter_of k) (total_of k) ++ xs) ≡ Ok h)
+    ⊎ ((e : Fault) × (heard_in (header (letter_of k) (total_of k) ++ xs) ≡ Err e))
 unfolding heard_in
 one_heard k xs h f =
     let bs = header (letter_of k) (total_of k) ++ xs in
     opened_as k bs h (opening Follower bs) (λ j e. kind_stated k j xs e) f
 
-pub reject_heard : (r : Rejection) → (heard_in (answer_bytes (answer.Reject r)) ≡ Ok heard.Reject) ⊎ ((e : Fault) × (heard_in (answer_bytes (answer.Reject r)) ≡ Err e))
+pub reject_heard : (r : Rejection) → (heard_in (answer_bytes (answer.Reject r)) ≡ Ok heard.Reject)
+    ⊎ ((e : Fault) × (heard_in (answer_bytes (answer.Reject r)) ≡ Err e))
 reject_heard r = one_heard kind.Reject _ heard.Reject (λ vs. refl)
 
-pub logon_heard : (z : ℤ) → (heard_in (answer_bytes (answer.LogonReply z)) ≡ Ok heard.Nothing) ⊎ ((e : Fault) × (heard_in (answer_bytes (answer.LogonReply z)) ≡ Err e))
+pub logon_heard : (z : ℤ) → (heard_in (answer_bytes (answer.LogonReply z)) ≡ Ok heard.Nothing)
+    ⊎ ((e : Fault) × (heard_in (answer_bytes (answer.LogonReply z)) ≡ Err e))
 logon_heard z = one_heard kind.LogonReply _ heard.Nothing (λ vs. refl)
 
 -- ---- no bytes

@@ -44,11 +44,13 @@ SidedBy Behind c l s y b = Holding c l (max s.place b) s.hold y
 abbrev pub Sided : ℕ → List Entry → Side → ℕ → ℕ → Type 0
 Sided c l s y b = SidedBy s.state c l s y b
 
-sided_grown_by : (z : Standing) (c : ℕ) (l l' : List Entry) (s : Side) (y b : ℕ) → Grown l l' → y ≤ length l → SidedBy z c l s y b → SidedBy z c l' s y b
+sided_grown_by : (z : Standing) (c : ℕ) (l l' : List Entry) (s : Side) (y b : ℕ) → Grown l l' → y ≤ length l
+    → SidedBy z c l s y b → SidedBy z c l' s y b
 sided_grown_by Level c l l' s y b g w (h, p) = (h, passed_grown c l l' s.place y g w p)
 sided_grown_by Behind c l l' s y b g w h = holding_grown c l l' (max s.place b) s.hold y g w h
 
-pub sided_grown : (c : ℕ) (l l' : List Entry) (s : Side) (y b : ℕ) → Grown l l' → y ≤ length l → Sided c l s y b → Sided c l' s y b
+pub sided_grown : (c : ℕ) (l l' : List Entry) (s : Side) (y b : ℕ) → Grown l l' → y ≤ length l → Sided c l s y b
+    → Sided c l' s y b
 sided_grown c l l' s y b g w h = sided_grown_by s.state c l l' s y b g w h
 
 -- ---- the recovery channel
@@ -56,14 +58,20 @@ sided_grown c l l' s y b g w h = sided_grown_by s.state c l l' s y b g w h
 -- reports that came, at or below a place
 abbrev pub Repeats : ℕ → List Entry → Partition → ℕ → List (List ℕ) → Type 0
 Repeats c l p place [] = Unit {0}
-Repeats c l p place (m ∷ ms) = ((n : ℕ) × Brings c l p n m × (is_of c (under l n) ≡ true) × (n ≤ place)) × Repeats c l p place ms
+Repeats c l p place (m ∷ ms) =
+    ((n : ℕ) × Brings c l p n m × (is_of c (under l n) ≡ true) × (n ≤ place)) × Repeats c l p place ms
 
-pub repeats_grown : (c : ℕ) (l l' : List Entry) (p : Partition) (k : ℕ) (ms : List (List ℕ)) → Grown l l' → Repeats c l p k ms → Repeats c l' p k ms
+pub repeats_grown : (c : ℕ) (l l' : List Entry) (p : Partition) (k : ℕ) (ms : List (List ℕ)) → Grown l l'
+    → Repeats c l p k ms → Repeats c l' p k ms
 repeats_grown c l l' p k [] g h = tt
-repeats_grown c l l' p k (m ∷ ms) g ((n, b, t, le), h) =
-    ((n, brings_grown c l l' p n m g (there_within c l n t) b, hers_grown c l l' n g t, le), repeats_grown c l l' p k ms g h)
+repeats_grown c l l' p k (m ∷ ms) g ((n, b, t, le), h) = (
+  (n, brings_grown c l l' p n m g (there_within c l n t) b, hers_grown c l l' n g t, le),
+  repeats_grown c l l' p k
+      ms g h,
+)
 
-pub repeats_up : (c : ℕ) (l : List Entry) (p : Partition) (k k' : ℕ) (ms : List (List ℕ)) → k ≤ k' → Repeats c l p k ms → Repeats c l p k' ms
+pub repeats_up : (c : ℕ) (l : List Entry) (p : Partition) (k k' : ℕ) (ms : List (List ℕ)) → k ≤ k' → Repeats c l p k ms
+    → Repeats c l p k' ms
 repeats_up c l p k k' [] q h = tt
 repeats_up c l p k k' (m ∷ ms) q ((n, b, t, le), h) = ((n, b, t, omega (arith, le, q)), repeats_up c l p k k' ms q h)
 
@@ -85,7 +93,8 @@ Waits p k o x = (z : ℕ) × (x.asked ≡ request p z ∷ []) × ReadBack p z ×
 
 -- it was refused, and no download runs
 abbrev pub Refused : Option Download → Line → Type 0
-Refused o x = (x.asked ≡ []) × (o ≡ None) × ((x.recovered ≡ []) ⊎ ((m : List ℕ) × (x.recovered ≡ m ∷ []) × Refuses (heard_in m)))
+Refused o x =
+    (x.asked ≡ []) × (o ≡ None) × ((x.recovered ≡ []) ⊎ ((m : List ℕ) × (x.recovered ≡ m ∷ []) × Refuses (heard_in m)))
 
 -- it was granted, and its download is under way behind the word of it
 abbrev pub Granted : ℕ → List Entry → Partition → ℕ → ℕ → Option Download → Line → Type 0
@@ -109,42 +118,60 @@ Staged Idle c k place b o x = Still o x
 Staged (Asked p) c k place b o x = (x.again ≡ []) × AskedAs c (at k p) p (at b p) (place p) o x
 Staged (Running p) c k place b o x = RunsAs c (at k p) p (at b p) (place p) o x
 
-asked_grown : (c : ℕ) (l l' : List Entry) (p : Partition) (b k : ℕ) (o : Option Download) (x : Line) → Grown l l' → AskedAs c l p b k o x → AskedAs c l' p b k o x
+asked_grown : (c : ℕ) (l l' : List Entry) (p : Partition) (b k : ℕ) (o : Option Download) (x : Line) → Grown l l'
+    → AskedAs c l p b k o x → AskedAs c l' p b k o x
 asked_grown c l l' p b k o x g (inl h) = inl h
 asked_grown c l l' p b k o x g (inr (inl h)) = inr (inl h)
-asked_grown c l l' p b k o x g (inr (inr (a, m, ms, e, h, z, le, f))) = inr (inr (a, m, ms, e, h, z, le, loads_grown c l l' p b o z ms g f))
+asked_grown c l l' p b k o x g (inr (inr (a, m, ms, e, h, z, le, f))) =
+    inr (inr (a, m, ms, e, h, z, le, loads_grown c l l' p b o z ms g f))
 
-pub staged_grown : (t : Stage) (c : ℕ) (k k' : Kept) (place : Partition → ℕ) (b : PerPartition ℕ) (o : Option Download) (x : Line) → Grows k k' → Staged t c k place b o x → Staged t c k' place b o x
+pub staged_grown : (t : Stage) (c : ℕ) (k k' : Kept) (place : Partition → ℕ) (b : PerPartition ℕ) (o : Option Download)
+    (x : Line) → Grows k k' → Staged t c k place b o x → Staged t c k' place b o x
 staged_grown Idle c k k' place b o x g h = h
-staged_grown (Asked p) c k k' place b o x g (a, h) = (a, asked_grown c (at k p) (at k' p) p (at b p) (place p) o x (g p) h)
-staged_grown (Running p) c k k' place b o x g (a, r, z, le, h) =
-    (a, repeats_grown c (at k p) (at k' p) p (place p) x.again (g p) r, z, le, loads_grown c (at k p) (at k' p) p (at b p) o z x.recovered (g p) h)
+staged_grown (Asked p) c k k' place b o x g (a, h) =
+    (a, asked_grown c (at k p) (at k' p) p (at b p) (place p) o x (g p) h)
+staged_grown (Running p) c k k' place b o x g (a, r, z, le, h) = (
+  a,
+  repeats_grown c (at k p) (at k' p) p (place p) x.again (g p) r,
+  z,
+  le,
+  loads_grown c (at k p) (at k' p) p
+      (at b p) o z x.recovered (g p) h,
+)
 
-asked_up : (c : ℕ) (l : List Entry) (p : Partition) (b k k' : ℕ) (o : Option Download) (x : Line) → k ≤ k' → AskedAs c l p b k o x → AskedAs c l p b k' o x
+asked_up : (c : ℕ) (l : List Entry) (p : Partition) (b k k' : ℕ) (o : Option Download) (x : Line) → k ≤ k'
+    → AskedAs c l p b k o x → AskedAs c l p b k' o x
 asked_up c l p b k k' o x q (inl (z, e, r, le, h, f)) = inl (z, e, r, omega (arith, le, q), h, f)
 asked_up c l p b k k' o x q (inr (inl h)) = inr (inl h)
-asked_up c l p b k k' o x q (inr (inr (a, m, ms, e, h, z, le, f))) = inr (inr (a, m, ms, e, h, z, omega (arith, le, q), f))
+asked_up c l p b k k' o x q (inr (inr (a, m, ms, e, h, z, le, f))) =
+    inr (inr (a, m, ms, e, h, z, omega (arith, le, q), f))
 
 -- the places move on
-pub staged_up : (t : Stage) (c : ℕ) (k : Kept) (place place' : Partition → ℕ) (b : PerPartition ℕ) (o : Option Download) (x : Line) → ((p : Partition) → place p ≤ place' p) → Staged t c k place b o x → Staged t c k place' b o x
+pub staged_up : (t : Stage) (c : ℕ) (k : Kept) (place place' : Partition → ℕ) (b : PerPartition ℕ)
+    (o : Option Download) (x : Line) → ((p : Partition) → place p ≤ place' p) → Staged t c k place b o x
+    → Staged t c k place' b o x
 staged_up Idle c k place place' b o x g h = h
 staged_up (Asked p) c k place place' b o x g (a, h) = (a, asked_up c (at k p) p (at b p) (place p) (place' p) o x (g p) h)
 staged_up (Running p) c k place place' b o x g (a, r, z, le, h) =
     (a, repeats_up c (at k p) p (place p) (place' p) x.again (g p) r, z, (let q = g p in omega (arith, le, q)), h)
 
-asked_cut : (c : ℕ) (l : List Entry) (p : Partition) (b k : ℕ) (o : Option Download) (x : Line) → AskedAs c l p b k o x → AskedAs c l p b k None x
+asked_cut : (c : ℕ) (l : List Entry) (p : Partition) (b k : ℕ) (o : Option Download) (x : Line) → AskedAs c l p b k o x
+    → AskedAs c l p b k None x
 asked_cut c l p b k o x (inl (z, e, r, le, h, f)) = inl (z, e, r, le, h, refl)
 asked_cut c l p b k o x (inr (inl (a, f, h))) = inr (inl (a, refl, h))
-asked_cut c l p b k o x (inr (inr (a, m, ms, e, h, z, le, f))) = inr (inr (a, m, ms, e, h, z, le, loads_cut c l p b o z ms f))
+asked_cut c l p b k o x (inr (inr (a, m, ms, e, h, z, le, f))) =
+    inr (inr (a, m, ms, e, h, z, le, loads_cut c l p b o z ms f))
 
 -- the gateway's channel is closed
-pub staged_cut : (t : Stage) (c : ℕ) (k : Kept) (place : Partition → ℕ) (b : PerPartition ℕ) (o : Option Download) (x : Line) → Staged t c k place b o x → Staged t c k place b None x
+pub staged_cut : (t : Stage) (c : ℕ) (k : Kept) (place : Partition → ℕ) (b : PerPartition ℕ) (o : Option Download)
+    (x : Line) → Staged t c k place b o x → Staged t c k place b None x
 staged_cut Idle c k place b o x (a, r, g, e) = (a, r, g, refl)
 staged_cut (Asked p) c k place b o x (a, h) = (a, asked_cut c (at k p) p (at b p) (place p) o x h)
 staged_cut (Running p) c k place b o x (a, r, z, le, h) = (a, r, z, le, loads_cut c (at k p) p (at b p) o z x.recovered h)
 
 -- what is under way live is nothing to it
-pub staged_live : (t : Stage) (c : ℕ) (k : Kept) (place : Partition → ℕ) (b : PerPartition ℕ) (o : Option Download) (x : Line) (ms : List (List ℕ)) → Staged t c k place b o x → Staged t c k place b o (record x { live = ms })
+pub staged_live : (t : Stage) (c : ℕ) (k : Kept) (place : Partition → ℕ) (b : PerPartition ℕ) (o : Option Download)
+    (x : Line) (ms : List (List ℕ)) → Staged t c k place b o x → Staged t c k place b o (record x { live = ms })
 staged_live Idle c k place b o x ms h = h
 staged_live (Asked p) c k place b o x ms h = h
 staged_live (Running p) c k place b o x ms h = h
@@ -156,7 +183,8 @@ abbrev pub Taking : Type 1
 Taking = Partition → ℕ → Type 0
 
 -- what is under way live, and that it is behind all that was taken
-pub record Flowing (c : ℕ) (k : Kept) (sent : PerPartition ℕ) (place : Partition → ℕ) (x : Line) (t : Taking) (y : PerPartition ℕ) : Type 0 where
+pub record Flowing (c : ℕ) (k : Kept) (sent : PerPartition ℕ) (place : Partition → ℕ) (x : Line) (t : Taking)
+    (y : PerPartition ℕ) : Type 0 where
   pub within : (p : Partition) → at y p ≤ length (at k p)
   pub flows : Flows c k sent y x.live
   pub taken : (p : Partition) (n : ℕ) → t p n → n ≤ max (place p) (at y p)
@@ -168,7 +196,8 @@ pub record Ready (c : ℕ) (k : Kept) (s : SessionState) (place : Partition → 
   pub still : Still s.download x
 
 -- one that it is up on
-pub record Up (c : ℕ) (k : Kept) (s : SessionState) (f : Following) (place : Partition → ℕ) (x : Line) (t : Taking) : Type 0 where
+pub record Up (c : ℕ) (k : Kept) (s : SessionState) (f : Following) (place : Partition → ℕ) (x : Line)
+    (t : Taking) : Type 0 where
   pub y : PerPartition ℕ
   -- the marks as they were at the up
   pub b : PerPartition ℕ

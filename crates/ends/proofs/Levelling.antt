@@ -26,7 +26,8 @@ use Rattle.partitions.specs.PerPartition.{at}
 use Rattle.reports.specs.declared.standings.FoldRefusal.{FoldRefusal}
 
 -- a log that the line allows is one that it allows up to its last call
-allowed_before : (c : ℕ) (xs : List Done) (x : Done) (l k : Line) → after_log c (xs ++ x ∷ []) l ≡ Ok k → (y : Line) × (after_log c xs l ≡ Ok y) × (z : Line) × (after_call c x y ≡ Ok z)
+allowed_before : (c : ℕ) (xs : List Done) (x : Done) (l k : Line) → after_log c (xs ++ x ∷ []) l ≡ Ok k → (y : Line)
+    × (after_log c xs l ≡ Ok y) × (z : Line) × (after_call c x y ≡ Ok z)
 allowed_before c [] x l k e =
     let (z, h, g) = went_on (after_call c x l) (λ i. after_log c [] i) k e in
     (l, refl, z, h)
@@ -36,24 +37,34 @@ allowed_before c (a ∷ xs) x l k e =
     (u, ap (λ (r : Went). onward r (λ i. after_log c xs i)) h ∙ m, z, n)
 
 -- what was held was folded, so the partition is level
-fits_level : (f : Following) (p : Partition) (r : Result Reached FoldRefusal) → is_unfit (levelled f p r).answer ≡ false → (at (levelled f p r).after.sides p).state ≡ Level
+fits_level : (f : Following) (p : Partition) (r : Result Reached FoldRefusal) → is_unfit (levelled f p r).answer
+    ≡ false → (at (levelled f p r).after.sides p).state ≡ Level
 fits_level f p (Err e) h = absurd (let z : true ≡ false = h in cc)
-fits_level f p (Ok r) h = ap (λ (s : Side). s.state) (at_written f.sides p (record { place = r.place; state = Level; hold = [] }))
+fits_level f p (Ok r) h =
+    ap (λ (s : Side). s.state) (at_written f.sides p (record { place = r.place; state = Level; hold = [] }))
 
-complete_level : (f : Following) (p : Partition) → f.up ≡ true → f.download ≡ Running p → is_unfit (recovered_step f (Ok (End Complete))).answer ≡ false → (at (recovered_step f (Ok (End Complete))).after.sides p).state ≡ Level
+complete_level : (f : Following) (p : Partition) → f.up ≡ true → f.download ≡ Running p
+    → is_unfit (recovered_step f (Ok (End Complete))).answer ≡ false
+    → (at (recovered_step f (Ok (End Complete))).after.sides p).state ≡ Level
 complete_level f p up run fits =
     let now : recovered_step f (Ok (End Complete)) ≡ ended f (Running p) Complete =
     ap (λ b. cond b (recovering f (End Complete)) (refused fault.NotUp f)) up ∙ ap (λ g. ended f g Complete) run in
     subst (λ (a : Step Recovered). (at a.after.sides p).state ≡ Level) (sym now)
-    (fits_level f p (caught_up p (reached f.standings (at f.sides p).place) (at f.sides p).hold) (subst (λ (a : Step Recovered). is_unfit a.answer ≡ false) now fits))
+    (fits_level f p (caught_up p (reached f.standings (at f.sides p).place) (at f.sides p).hold)
+    (subst (λ (a : Step Recovered). is_unfit a.answer ≡ false) now fits))
 
-level_after : (c : ℕ) (s : State) (d : Desk) (y : Line) (xs : List Done) (x : Done) (w : State) (e : Desk) (z : Line) (p : Partition) → Keeps c s d y (λ q n. ⊥ ⊎ Took q n xs) → after_call c x y ≡ Ok z → Does s d x w e → IsComplete x → d.follower.up ≡ true → d.follower.download ≡ Running p → state_of e p ≡ Level
+level_after : (c : ℕ) (s : State) (d : Desk) (y : Line) (xs : List Done) (x : Done) (w : State) (e : Desk) (z : Line)
+    (p : Partition) → Keeps c s d y (λ q n. ⊥ ⊎ Took q n xs) → after_call c x y ≡ Ok z → Does s d x w e → IsComplete x
+    → d.follower.up ≡ true → d.follower.download ≡ Running p → state_of e p ≡ Level
 level_after c s d y xs (done.Recovered m r) w e z p k allowed (a, b, q) complete up run =
     let f = d.follower in
     let h : heard_in m.now ≡ Ok (End Complete) = complete in
-    let goes = given_recovered_keeps c s d y (λ q n. ⊥ ⊎ Took q n xs) (k.sound up) (k.few up) k m.now (heard_in m.now) refl z allowed in
-    let fits : is_unfit (recovered_step f (Ok (End Complete))).answer ≡ false = subst (λ i. is_unfit (recovered_step f i).answer ≡ false) h goes.fits in
-    ap (λ (i : Desk). state_of i p) q ∙ subst (λ i. (at (recovered_step f i).after.sides p).state ≡ Level) (sym h) (complete_level f p up run fits)
+    let goes = given_recovered_keeps c s d y (λ q n. ⊥ ⊎ Took q n xs) (k.sound up) (k.few up) k m.now
+    (heard_in m.now) refl z allowed in
+    let fits : is_unfit (recovered_step f (Ok (End Complete))).answer
+    ≡ false = subst (λ i. is_unfit (recovered_step f i).answer ≡ false) h goes.fits in
+    ap (λ (i : Desk). state_of i p) q ∙ subst (λ i. (at (recovered_step f i).after.sides p).state ≡ Level) (sym h)
+    (complete_level f p up run fits)
 level_after c s d y xs (done.Venue v) w e z p k allowed does complete up run = absurd complete
 level_after c s d y xs done.Up w e z p k allowed does complete up run = absurd complete
 level_after c s d y xs done.Lost w e z p k allowed does complete up run = absurd complete

@@ -39,7 +39,8 @@ use Rattle.reports.specs.Fold.{Knowledge}
 use Rattle.reports.specs.declared.standings.FoldRefusal.{FoldRefusal}
 
 -- what stands in a partition after another thing was written to one
-written : (P : Side → Type 0) (xs : PerPartition Side) (q p : Partition) (y : Side) → (q ≡ p → P y) → P (at xs p) → P (at (with_at xs q y) p)
+written : (P : Side → Type 0) (xs : PerPartition Side) (q p : Partition) (y : Side) → (q ≡ p → P y) → P (at xs p)
+    → P (at (with_at xs q y) p)
 written P xs One One y f g = f refl
 written P xs One Two y f g = g
 written P xs One Three y f g = g
@@ -57,11 +58,14 @@ abbrev LevelAt : Following → Partition → Type 0
 LevelAt f p = IsLevel (at f.sides p)
 
 module _ {A : Type 0} (p : Partition) where
-  folded_level : (a : A) (f : Following) (q : Partition) (n : ℕ) (r : Result Knowledge FoldRefusal) → LevelAt f p → LevelAt (folded_to a f q n r).after p
+  folded_level : (a : A) (f : Following) (q : Partition) (n : ℕ) (r : Result Knowledge FoldRefusal) → LevelAt f p
+      → LevelAt (folded_to a f q n r).after p
   folded_level a f q n (Err e) h = h
-  folded_level a f q n (Ok k) h = written IsLevel f.sides q p _ (λ e. subst (λ u. (at f.sides u).state ≡ Level) (sym e) h) h
+  folded_level a f q n (Ok k) h =
+      written IsLevel f.sides q p _ (λ e. subst (λ u. (at f.sides u).state ≡ Level) (sym e) h) h
 
-  either : (f : Following) (b : Bool) (x y : Step A) → LevelAt x.after p → LevelAt y.after p → LevelAt (cond b x y).after p
+  either : (f : Following) (b : Bool) (x y : Step A) → LevelAt x.after p → LevelAt y.after p
+      → LevelAt (cond b x y).after p
   either f true x y h g = h
   either f false x y h g = g
 
@@ -69,31 +73,37 @@ module _ (p : Partition) where
   held_level : (f : Following) (q : Partition) (h : Held) → LevelAt f p → LevelAt (held f q h).after p
   held_level f q h l = written IsLevel f.sides q p _ (λ e. subst (λ u. (at f.sides u).state ≡ Level) (sym e) l) l
 
-  if_room : (b : Bool) (f : Following) (q : Partition) (h : Held) → LevelAt f p → is_full (cond b (held f q h) (overrun f)).answer ≡ false → LevelAt (cond b (held f q h) (overrun f)).after p
+  if_room : (b : Bool) (f : Following) (q : Partition) (h : Held) → LevelAt f p
+      → is_full (cond b (held f q h) (overrun f)).answer ≡ false → LevelAt (cond b (held f q h) (overrun f)).after p
   if_room true f q h l k = held_level f q h l
   if_room false f q h l k = absurd (let z : true ≡ false = k in cc)
 
-  by_state : (s : Standing) (f : Following) (q : Partition) (h : Held) → LevelAt f p → is_full (live_by s f q h).answer ≡ false → LevelAt (live_by s f q h).after p
+  by_state : (s : Standing) (f : Following) (q : Partition) (h : Held) → LevelAt f p → is_full (live_by s f q h).answer
+      ≡ false → LevelAt (live_by s f q h).after p
   by_state Level f q h l k = folded_level p live.Folded f q (number_of h) _ l
   by_state Behind f q h l k = if_room (nat_lt (length (at f.sides q).hold) HOLD) f q h l k
 
-  if_there : (b : Bool) (f : Following) (q : Partition) (h : Held) (s : Standing) → LevelAt f p → is_full (cond b (record { answer = Ok live.Already; after = f }) (live_by s f q h)).answer ≡ false
+  if_there : (b : Bool) (f : Following) (q : Partition) (h : Held) (s : Standing) → LevelAt f p
+      → is_full (cond b (record { answer = Ok live.Already; after = f }) (live_by s f q h)).answer ≡ false
       → LevelAt (cond b (record { answer = Ok live.Already; after = f }) (live_by s f q h)).after p
   if_there true f q h s l k = l
   if_there false f q h s l k = by_state s f q h l k
 
-  lived_level : (f : Following) (h : Heard) → LevelAt f p → is_full (lived f h).answer ≡ false → LevelAt (lived f h).after p
+  lived_level : (f : Following) (h : Heard) → LevelAt f p → is_full (lived f h).answer ≡ false
+      → LevelAt (lived f h).after p
   lived_level f (Report q h) l k = if_there (nat_le (number_of h) (at f.sides q).place) f q h (at f.sides q).state l k
   lived_level f (Ack r) l k = l
   lived_level f (End r) l k = l
   lived_level f Reject l k = l
   lived_level f Nothing l k = l
 
-  if_up : (b : Bool) (f : Following) (h : Heard) (e : FollowerFault) → LevelAt f p → is_full (cond b (lived f h) (refused e f)).answer ≡ false → LevelAt (cond b (lived f h) (refused e f)).after p
+  if_up : (b : Bool) (f : Following) (h : Heard) (e : FollowerFault) → LevelAt f p
+      → is_full (cond b (lived f h) (refused e f)).answer ≡ false → LevelAt (cond b (lived f h) (refused e f)).after p
   if_up true f h e l k = lived_level f h l k
   if_up false f h e l k = l
 
-  live_level : (f : Following) (h : Result Heard Fault) → LevelAt f p → is_full (live_step f h).answer ≡ false → LevelAt (live_step f h).after p
+  live_level : (f : Following) (h : Result Heard Fault) → LevelAt f p → is_full (live_step f h).answer ≡ false
+      → LevelAt (live_step f h).after p
   live_level f (Err e) l k = l
   live_level f (Ok h) l k = if_up f.up f h _ l k
 
@@ -110,19 +120,24 @@ module _ (p : Partition) where
   ack_level f (Asked q) r l = acked_level f q r l
   ack_level f (Running q) r l = l
 
-  reported_level : (f : Following) (s : Stage) (q : Partition) (h : Held) → LevelAt f p → LevelAt (reported f s q h).after p
+  reported_level : (f : Following) (s : Stage) (q : Partition) (h : Held) → LevelAt f p
+      → LevelAt (reported f s q h).after p
   reported_level f Idle q h l = l
-  reported_level f (Asked u) q h l = either {A = Recovered} p f (same q u) (refused fault.OutOfTurn f) (refused fault.Partition f) l l
+  reported_level f (Asked u) q h l =
+      either {A = Recovered} p f (same q u) (refused fault.OutOfTurn f) (refused fault.Partition f) l l
   reported_level f (Running u) q h l =
       either {A = Recovered} p f (same q u) (recovered_of f q h) (refused fault.Partition f)
-      (either {A = Recovered} p f (nat_le (number_of h) (at f.sides q).place) (answered recovered.Already f) (folded recovered.Folded f q h) l (folded_level p recovered.Folded f q (number_of h) _ l)) l
+      (either {A = Recovered} p f (nat_le (number_of h) (at f.sides q).place) (answered recovered.Already f)
+      (folded recovered.Folded f q h) l (folded_level p recovered.Folded f q (number_of h) _ l)) l
 
-  levelled_level : (f : Following) (q : Partition) (r : Result Reached FoldRefusal) → LevelAt f p → LevelAt (levelled f q r).after p
+  levelled_level : (f : Following) (q : Partition) (r : Result Reached FoldRefusal) → LevelAt f p
+      → LevelAt (levelled f q r).after p
   levelled_level f q (Err e) l = l
   levelled_level f q (Ok r) l = written IsLevel f.sides q p _ (λ e. refl) l
 
   ended_level : (f : Following) (q : Partition) (r : ReportResponse) → LevelAt f p → LevelAt (ended_of f q r).after p
-  ended_level f q ending.Complete l = levelled_level f q (caught_up q (reached f.standings (at f.sides q).place) (at f.sides q).hold) l
+  ended_level f q ending.Complete l =
+      levelled_level f q (caught_up q (reached f.standings (at f.sides q).place) (at f.sides q).hold) l
   ended_level f q ending.MessageLimit l = l
   ended_level f q ending.ServiceUnavailable l = l
 
@@ -145,14 +160,17 @@ module _ (p : Partition) where
 
   recovered_level : (f : Following) (h : Result Heard Fault) → LevelAt f p → LevelAt (recovered_step f h).after p
   recovered_level f (Err e) l = l
-  recovered_level f (Ok h) l = either {A = Recovered} p f f.up (recovering f h) (refused fault.NotUp f) (recovering_level f h l) l
+  recovered_level f (Ok h) l =
+      either {A = Recovered} p f f.up (recovering f h) (refused fault.NotUp f) (recovering_level f h l) l
 
 -- asking leaves the partitions
-asked_sides : (f : Following) (t : Pending) (out : List ℕ) (r : Result Partition FollowerFault) → (asks_of f t out r).after.sides ≡ f.sides
+asked_sides : (f : Following) (t : Pending) (out : List ℕ) (r : Result Partition FollowerFault)
+    → (asks_of f t out r).after.sides ≡ f.sides
 asked_sides f t out (Err e) = refl
 asked_sides f t out (Ok p) = refl
 
-to_desk : (d e : Desk) (f : Following) (p : Partition) (x : Standing) → e.follower ≡ f → (at f.sides p).state ≡ x → state_of e p ≡ x
+to_desk : (d e : Desk) (f : Following) (p : Partition) (x : Standing) → e.follower ≡ f → (at f.sides p).state ≡ x
+    → state_of e p ≡ x
 to_desk d e f p x k l = ap (λ (g : Following). (at g.sides p).state) k ∙ l
 
 pub stays_level : StaysLevel
@@ -164,7 +182,9 @@ stays_level s d (done.Live bs r) w e p (m, a, k) b l =
 stays_level s d (done.Recovered bs r) w e p (m, a, k) b l =
     to_desk d e _ p Level (ap (λ (y : Desk). y.follower) k) (recovered_level p d.follower _ l)
 stays_level s d (done.Ask n r) w e p (m, a, c, k) b l =
-    to_desk d e _ p Level (ap (λ (y : Desk). y.follower) k) (ap (λ (x : PerPartition Side). (at x p).state) (asked_sides d.follower d.token blank (asking d.follower d.token n (length blank))) ∙ l)
+    to_desk d e _ p Level (ap (λ (y : Desk). y.follower) k)
+    (ap (λ (x : PerPartition Side). (at x p).state)
+    (asked_sides d.follower d.token blank (asking d.follower d.token n (length blank))) ∙ l)
 
 -- ---- a follower that is given nothing
 
@@ -173,20 +193,26 @@ turned_behind up f One = refl
 turned_behind up f Two = refl
 turned_behind up f Three = refl
 
-one_behind : (s : State) (d : Desk) (x : Done) (w : State) (e : Desk) (p : Partition) → Does s d x w e → gives x ≡ false → state_of d p ≡ Behind → state_of e p ≡ Behind
+one_behind : (s : State) (d : Desk) (x : Done) (w : State) (e : Desk) (p : Partition) → Does s d x w e → gives x
+    ≡ false → state_of d p ≡ Behind → state_of e p ≡ Behind
 one_behind s d (done.Venue v) w e p (m, k) g l = ap (λ (y : Desk). state_of y p) k ∙ l
-one_behind s d done.Up w e p (m, k) g l = to_desk d e _ p Behind (ap (λ (y : Desk). y.follower) k) (turned_behind true d.follower p)
-one_behind s d done.Lost w e p (m, k) g l = to_desk d e _ p Behind (ap (λ (y : Desk). y.follower) k) (turned_behind false d.follower p)
+one_behind s d done.Up w e p (m, k) g l =
+    to_desk d e _ p Behind (ap (λ (y : Desk). y.follower) k) (turned_behind true d.follower p)
+one_behind s d done.Lost w e p (m, k) g l =
+    to_desk d e _ p Behind (ap (λ (y : Desk). y.follower) k) (turned_behind false d.follower p)
 one_behind s d (done.Live bs r) w e p h g l = absurd (let z : true ≡ false = g in cc)
 one_behind s d (done.Recovered bs r) w e p h g l = absurd (let z : true ≡ false = g in cc)
 one_behind s d (done.Ask n r) w e p (m, a, c, k) g l =
-    to_desk d e _ p Behind (ap (λ (y : Desk). y.follower) k) (ap (λ (x : PerPartition Side). (at x p).state) (asked_sides d.follower d.token blank (asking d.follower d.token n (length blank))) ∙ l)
+    to_desk d e _ p Behind (ap (λ (y : Desk). y.follower) k)
+    (ap (λ (x : PerPartition Side). (at x p).state)
+    (asked_sides d.follower d.token blank (asking d.follower d.token n (length blank))) ∙ l)
 
 both_false : (a b : Bool) → (a || b) ≡ false → (a ≡ false) × (b ≡ false)
 both_false true b h = absurd (let z : true ≡ false = h in cc)
 both_false false b h = (refl, h)
 
-all_behind : (s : State) (d : Desk) (xs : List Done) (w : State) (e : Desk) (p : Partition) → Runs s d xs w e → list_any gives xs ≡ false → state_of d p ≡ Behind → state_of e p ≡ Behind
+all_behind : (s : State) (d : Desk) (xs : List Done) (w : State) (e : Desk) (p : Partition) → Runs s d xs w e
+    → list_any gives xs ≡ false → state_of d p ≡ Behind → state_of e p ≡ Behind
 all_behind s d [] w e p (a, b) g l = ap (λ (y : Desk). state_of y p) b ∙ l
 all_behind s d (x ∷ xs) w e p (u, f, m, h, k, n, t, r) g l =
     let (here, later) = both_false (gives x) (list_any gives xs) g in

@@ -41,7 +41,8 @@ Placed c k place = (p : Partition) → (place p ≡ 0) ⊎ (is_of c (under (at k
 
 -- what is true of a thing written for one partition, and of those of all others
 module _ {T : Type 0} where
-  pub by_partition : (P : Partition → T → Type 0) (xs : PerPartition T) (q : Partition) (y : T) → P q y → ((p : Partition) → (q ≢ p) → P p (at xs p)) → (p : Partition) → P p (at (with_at xs q y) p)
+  pub by_partition : (P : Partition → T → Type 0) (xs : PerPartition T) (q : Partition) (y : T) → P q y
+      → ((p : Partition) → (q ≢ p) → P p (at xs p)) → (p : Partition) → P p (at (with_at xs q y) p)
   by_partition P xs One y f g One = f
   by_partition P xs One y f g Two = g Two (λ e. cc)
   by_partition P xs One y f g Three = g Three (λ e. cc)
@@ -53,7 +54,8 @@ module _ {T : Type 0} where
   by_partition P xs Three y f g Three = f
 
   -- the same where nothing is asked of the others but what was
-  pub or_as_it_was : (P : Partition → T → Type 0) (xs : PerPartition T) (q : Partition) (y : T) → P q y → ((p : Partition) → P p (at xs p)) → (p : Partition) → P p (at (with_at xs q y) p)
+  pub or_as_it_was : (P : Partition → T → Type 0) (xs : PerPartition T) (q : Partition) (y : T) → P q y
+      → ((p : Partition) → P p (at xs p)) → (p : Partition) → P p (at (with_at xs q y) p)
   or_as_it_was P xs q y f g = by_partition P xs q y f (λ p n. g p)
 
 abbrev to_place : Following → Partition → ℕ → Side
@@ -72,7 +74,9 @@ not_at_or_below n k lt = by (leb n k) refl
 
 module _ (c : ℕ) (v : View) (sound : Sound v) (few : length v.rows ≤ ORDERS) where
   -- the owner's next report of a partition is folded, and the place moves to it
-  tallied_on : (k : Knowledge) (place place' : Partition → ℕ) (p : Partition) (n : ℕ) (e : Entry) (h : Folded c v.kept k place p n e) → place' p ≡ n → ((q : Partition) → p ≢ q → place' q ≡ place q) → Tallied c v.kept k place → Tallied c v.kept h.after place'
+  tallied_on : (k : Knowledge) (place place' : Partition → ℕ) (p : Partition) (n : ℕ) (e : Entry)
+      (h : Folded c v.kept k place p n e) → place' p ≡ n → ((q : Partition) → p ≢ q → place' q ≡ place q)
+      → Tallied c v.kept k place → Tallied c v.kept h.after place'
   tallied_on k place place' p n e h here others t q m = by (same_or_not p q)
     where
       same_or_not : (p q : Partition) → (p ≡ q) ⊎ (p ≢ q)
@@ -87,8 +91,11 @@ module _ (c : ℕ) (v : View) (sound : Sound v) (few : length v.rows ≤ ORDERS)
       same_or_not Three Three = inl refl
 
       by : (p ≡ q) ⊎ (p ≢ q) → there q (get h.after m) ≡ get (tally_to q c (at v.kept q) (place' q)) m
-      by (inl s) = subst (λ u. there u (get h.after m) ≡ get (tally_to u c (at v.kept u) (place' u)) m) s (h.here m ∙ ap (λ z. get (tally_to p c (at v.kept p) z) m) (sym here))
-      by (inr s) = h.others q (λ z. s (sym z)) m ∙ t q m ∙ ap (λ z. get (tally_to q c (at v.kept q) z) m) (sym (others q s))
+      by (inl s) =
+          subst (λ u. there u (get h.after m) ≡ get (tally_to u c (at v.kept u) (place' u)) m) s
+          (h.here m ∙ ap (λ z. get (tally_to p c (at v.kept p) z) m) (sym here))
+      by (inr s) =
+          h.others q (λ z. s (sym z)) m ∙ t q m ∙ ap (λ z. get (tally_to q c (at v.kept q) z) m) (sym (others q s))
 
   -- what folding the owner's next report leaves of what is known, and of the places
   pub record Moved (f : Following) (p : Partition) (n : ℕ) (e : Entry) : Type 0 where
@@ -97,16 +104,20 @@ module _ (c : ℕ) (v : View) (sound : Sound v) (few : length v.rows ≤ ORDERS)
     pub known : Tallied c v.kept after (place_in (after_fold f p n after))
     pub placed : Placed c v.kept (place_in (after_fold f p n after))
 
-  pub moves : (f : Following) (p : Partition) (n : ℕ) (e : Entry) → Tallied c v.kept f.standings (place_in f) → Placed c v.kept (place_in f) → Next c (at v.kept p) (place_in f p) n → under (at v.kept p) n ≡ Some e → e.owner ≡ c → Moved f p n e
+  pub moves : (f : Following) (p : Partition) (n : ℕ) (e : Entry) → Tallied c v.kept f.standings (place_in f)
+      → Placed c v.kept (place_in f) → Next c (at v.kept p) (place_in f p) n → under (at v.kept p) n ≡ Some e → e.owner ≡ c
+      → Moved f p n e
   moves f p n e t pl x s o =
-      let h = folds v.instruments v.rows v.kept c f.standings (place_in f) p n e sound.recorded few t x.above x.between s o in
+      let h = folds v.instruments v.rows v.kept c f.standings
+      (place_in f) p n e sound.recorded few t x.above x.between s o in
       let P : Partition → Side → Type 0 = λ q y. (y.place ≡ 0) ⊎ (is_of c (under (at v.kept q) y.place) ≡ true) in
       record {
         after = h.after;
         taken = h.taken;
         known = tallied_on f.standings (place_in f) (place_in (after_fold f p n h.after)) p n e h
             (ap (λ (y : Side). y.place) (at_written f.sides p (to_place f p n)))
-            (by_partition (λ q y. p ≢ q → y.place ≡ place_in f q) f.sides p (to_place f p n) (λ ne. absurd (ne refl)) (λ q ne z. refl))
+            (by_partition (λ q y. p ≢ q → y.place ≡ place_in f q) f.sides p (to_place f p n) (λ ne. absurd (ne refl))
+            (λ q ne z. refl))
             t;
         placed = or_as_it_was P f.sides p (to_place f p n) (inr x.hers) pl;
       }
@@ -114,14 +125,18 @@ module _ (c : ℕ) (v : View) (sound : Sound v) (few : length v.rows ≤ ORDERS)
 -- ---- a fold moves nothing else
 
 module _ (c : ℕ) (k : Kept) (s : SessionState) where
-  pub places_up : (f : Following) (p : Partition) (n : ℕ) (w : Knowledge) → place_in f p ≤ n → (q : Partition) → place_in f q ≤ place_in (after_fold f p n w) q
+  pub places_up : (f : Following) (p : Partition) (n : ℕ) (w : Knowledge) → place_in f p ≤ n → (q : Partition)
+      → place_in f q ≤ place_in (after_fold f p n w) q
   places_up f p n w le = or_as_it_was (λ q y. place_in f q ≤ y.place) f.sides p (to_place f p n) le (λ q. omega arith)
 
-  pub sided_moved : (z : Standing) (l : List Entry) (y : Side) (n m b : ℕ) → y.place ≤ n → SidedBy z c l y m b → SidedBy z c l (record y { place = n }) m b
+  pub sided_moved : (z : Standing) (l : List Entry) (y : Side) (n m b : ℕ) → y.place ≤ n → SidedBy z c l y m b
+      → SidedBy z c l (record y { place = n }) m b
   sided_moved Level l y n m b le (h, p) = (h, passed_less c l y.place n m m le (omega arith) p)
   sided_moved Behind l y n m b le h = holding_up c l (max y.place b) (max n b) y.hold m (omega (arith, le)) h
 
-  abbrev pub up_folded : (f : Following) (p : Partition) (n : ℕ) (w : Knowledge) (x : Line) (t : Taking) → place_in f p ≤ n → Up c k s f (place_in f) x t → Up c k s (after_fold f p n w) (place_in (after_fold f p n w)) x t
+  abbrev pub up_folded : (f : Following) (p : Partition) (n : ℕ) (w : Knowledge) (x : Line) (t : Taking)
+      → place_in f p ≤ n → Up c k s f (place_in f) x t
+      → Up c k s (after_fold f p n w) (place_in (after_fold f p n w)) x t
   up_folded f p n w x t le u =
       let up = places_up f p n w le in
       let fl = u.flowing in
@@ -154,7 +169,9 @@ module _ (c : ℕ) (k : Kept) (s : SessionState) where
   marks_up y p n le = or_as_it_was (λ q z. at y q ≤ z) y p n le (λ q. omega arith)
 
   -- what is then under way and taken, where the report is at or below the place, or the mark is at it
-  pub flowing_popped : (place : Partition → ℕ) (x : Line) (m : List ℕ) (rest : List (List ℕ)) (t u : Taking) (y : PerPartition ℕ) (p : Partition) (n : ℕ) → Next c (at k p) (at y p) n → Flows c k s.sent (with_at y p n) rest → Only p n u
+  pub flowing_popped : (place : Partition → ℕ) (x : Line) (m : List ℕ) (rest : List (List ℕ)) (t u : Taking)
+      (y : PerPartition ℕ) (p : Partition) (n : ℕ) → Next c (at k p) (at y p) n → Flows c k s.sent (with_at y p n) rest
+      → Only p n u
       → Flowing c k s.sent place x t y → Flowing c k s.sent place (record x { live = rest }) (or_one t u) (with_at y p n)
   flowing_popped place x m rest t u y p n next flows only h = record {
     within = or_as_it_was (λ q z. z ≤ length (at k q)) y p n (next_within c (at k p) (at y p) n next) h.within;
@@ -173,11 +190,14 @@ module _ (c : ℕ) (k : Kept) (s : SessionState) where
           subst (λ r. i ≤ max (place r) (at (with_at y p n) r)) e
           (let w : at (with_at y p n) p ≡ n = at_written y p n in omega (arith, w, z))
 
-  sided_popped : (z : Standing) (l : List Entry) (y : Side) (m b n : ℕ) → n ≤ y.place → SidedBy z c l y m b → SidedBy z c l y n b
+  sided_popped : (z : Standing) (l : List Entry) (y : Side) (m b n : ℕ) → n ≤ y.place → SidedBy z c l y m b
+      → SidedBy z c l y n b
   sided_popped Level l y m b n le (h, p) = (h, λ j lt q. absurd (omega (arith, lt, q, le)))
   sided_popped Behind l y m b n le h = holding_on c l (max y.place b) y.hold m n (omega (arith, le)) h
 
-  pub up_popped : (f : Following) (x : Line) (m : List ℕ) (rest : List (List ℕ)) (t u : Taking) (p : Partition) (n : ℕ) (a : Up c k s f (place_in f) x t) → Next c (at k p) (at a.y p) n → Flows c k s.sent (with_at a.y p n) rest → Only p n u → n ≤ place_in f p
+  pub up_popped : (f : Following) (x : Line) (m : List ℕ) (rest : List (List ℕ)) (t u : Taking) (p : Partition) (n : ℕ)
+      (a : Up c k s f (place_in f) x t) → Next c (at k p) (at a.y p) n → Flows c k s.sent (with_at a.y p n) rest
+      → Only p n u → n ≤ place_in f p
       → Up c k s f (place_in f) (record x { live = rest }) (or_one t u)
   up_popped f x m rest t u p n a next flows only le = record {
     y = with_at a.y p n;
@@ -196,17 +216,25 @@ module _ (c : ℕ) (k : Kept) (s : SessionState) where
 
   -- the next report under way comes, and is held
   abbrev pub with_hold : Following → Partition → Held → Following
-  with_hold f p h = record f { sides = with_at f.sides p (record (at f.sides p) { hold = (at f.sides p).hold ++ h ∷ [] }) }
+  with_hold f p h =
+      record f { sides = with_at f.sides p (record (at f.sides p) { hold = (at f.sides p).hold ++ h ∷ [] }) }
 
-  pub hold_places : (f : Following) (p : Partition) (h : Held) (q : Partition) → place_in (with_hold f p h) q ≡ place_in f q
-  hold_places f p h = or_as_it_was (λ q y. y.place ≡ place_in f q) f.sides p (record (at f.sides p) { hold = (at f.sides p).hold ++ h ∷ [] }) refl (λ q. refl)
+  pub hold_places : (f : Following) (p : Partition) (h : Held) (q : Partition) → place_in (with_hold f p h) q
+      ≡ place_in f q
+  hold_places f p h =
+      or_as_it_was (λ q y. y.place ≡ place_in f q) f.sides p
+      (record (at f.sides p) { hold = (at f.sides p).hold ++ h ∷ [] }) refl (λ q. refl)
 
-  holds_more : (l : List Entry) (y : Side) (m b n : ℕ) (e : Entry) → y.state ≡ Behind → under l n ≡ Some e → e.owner ≡ c → Next c l m n → Sided c l y m b → Sided c l (record y { hold = y.hold ++ held n e ∷ [] }) n b
+  holds_more : (l : List Entry) (y : Side) (m b n : ℕ) (e : Entry) → y.state ≡ Behind → under l n ≡ Some e → e.owner
+      ≡ c → Next c l m n → Sided c l y m b → Sided c l (record y { hold = y.hold ++ held n e ∷ [] }) n b
   holds_more l y m b n e st s o x h =
       let was : Holding c l (max y.place b) y.hold m = subst (λ z. SidedBy z c l y m b) st h in
-      subst (λ z. SidedBy z c l (record y { hold = y.hold ++ held n e ∷ [] }) n b) (sym st) (holding_more c l (max y.place b) y.hold m n e s o x was)
+      subst (λ z. SidedBy z c l (record y { hold = y.hold ++ held n e ∷ [] }) n b) (sym st)
+      (holding_more c l (max y.place b) y.hold m n e s o x was)
 
-  pub up_held : (f : Following) (x : Line) (m : List ℕ) (rest : List (List ℕ)) (t u : Taking) (p : Partition) (n : ℕ) (e : Entry) (a : Up c k s f (place_in f) x t) → (at f.sides p).state ≡ Behind → under (at k p) n ≡ Some e → e.owner ≡ c
+  pub up_held : (f : Following) (x : Line) (m : List ℕ) (rest : List (List ℕ)) (t u : Taking) (p : Partition) (n : ℕ)
+      (e : Entry) (a : Up c k s f (place_in f) x t) → (at f.sides p).state ≡ Behind → under (at k p) n ≡ Some e
+      → e.owner ≡ c
       → Next c (at k p) (at a.y p) n → Flows c k s.sent (with_at a.y p n) rest → Only p n u
       → Up c k s (with_hold f p (held n e)) (place_in (with_hold f p (held n e))) (record x { live = rest }) (or_one t u)
   up_held f x m rest t u p n e a st sd o next flows only =
@@ -223,18 +251,23 @@ module _ (c : ℕ) (k : Kept) (s : SessionState) where
         };
         bases = a.bases;
         sides =
-            by_partition (λ q z. Sided c (at k q) z (at (with_at a.y p n) q) (at a.b q)) f.sides p (record (at f.sides p) { hold = (at f.sides p).hold ++ held n e ∷ [] })
-            (subst (λ z. Sided c (at k p) (record (at f.sides p) { hold = (at f.sides p).hold ++ held n e ∷ [] }) z (at a.b p)) (sym (at_written a.y p n))
+            by_partition (λ q z. Sided c (at k q) z (at (with_at a.y p n) q) (at a.b q)) f.sides p
+            (record (at f.sides p) { hold = (at f.sides p).hold ++ held n e ∷ [] })
+            (subst (λ z. Sided c (at k p) (record (at f.sides p) { hold = (at f.sides p).hold ++ held n e ∷ [] }) z
+            (at a.b p)) (sym (at_written a.y p n))
             (holds_more (at k p) (at f.sides p) (at a.y p) (at a.b p) n e st sd o next (a.sides p)))
-            (λ q ne. subst (λ z. Sided c (at k q) (at f.sides q) z (at a.b q)) (sym (other_mark a.y p n q ne)) (a.sides q));
+            (λ q ne. subst (λ z. Sided c (at k q) (at f.sides q) z (at a.b q)) (sym (other_mark a.y p n q ne))
+            (a.sides q));
         staged =
             staged_live f.download c k (place_in g) a.b s.download x rest
-            (staged_up f.download c k (place_in f) (place_in g) a.b s.download x (λ q. let z : place_in g q ≡ place_in f q = same q in omega (arith, z)) a.staged);
+            (staged_up f.download c k (place_in f) (place_in g) a.b s.download x
+            (λ q. let z : place_in g q ≡ place_in f q = same q in omega (arith, z)) a.staged);
       }
 
 -- ---- the hold is folded
 
-pub tallied_as : (c : ℕ) (k : Kept) (w : Knowledge) (pl pl' : Partition → ℕ) → ((q : Partition) → pl' q ≡ pl q) → Tallied c k w pl → Tallied c k w pl'
+pub tallied_as : (c : ℕ) (k : Kept) (w : Knowledge) (pl pl' : Partition → ℕ) → ((q : Partition) → pl' q ≡ pl q)
+    → Tallied c k w pl → Tallied c k w pl'
 tallied_as c k w pl pl' e t q m = t q m ∙ ap (λ z. get (tally_to q c (at k q) z) m) (sym (e q))
 
 abbrev moved_to : (Partition → ℕ) → Partition → ℕ → Partition → ℕ
@@ -261,12 +294,14 @@ module _ (c : ℕ) (v : View) (sound : Sound v) (few : length v.rows ≤ ORDERS)
   pub record Reaches (w : Knowledge) (pl : Partition → ℕ) (p : Partition) (hs : List Held) (y : ℕ) : Type 0 where
     pub after : Reached
     pub done : fold_each (caught_next p) (Ok (reached w (pl p))) hs ≡ Ok after
-    pub known : (pl' : Partition → ℕ) → pl' p ≡ after.place → ((q : Partition) → p ≢ q → pl' q ≡ pl q) → Tallied c v.kept after.known pl'
+    pub known : (pl' : Partition → ℕ) → pl' p ≡ after.place → ((q : Partition) → p ≢ q → pl' q ≡ pl q)
+        → Tallied c v.kept after.known pl'
     pub placed : (after.place ≡ 0) ⊎ (is_of c (under (at v.kept p) after.place) ≡ true)
     pub up : pl p ≤ after.place
     pub passed : Passed c (at v.kept p) after.place y
 
-  or_else : (p q : Partition) (pl pl' : Partition → ℕ) → pl' p ≡ pl p → ((u : Partition) → p ≢ u → pl' u ≡ pl u) → (u : Partition) → pl' u ≡ pl u
+  or_else : (p q : Partition) (pl pl' : Partition → ℕ) → pl' p ≡ pl p → ((u : Partition) → p ≢ u → pl' u ≡ pl u)
+      → (u : Partition) → pl' u ≡ pl u
   or_else p q pl pl' here others u = by p u here others
     where
       by : (p u : Partition) → pl' p ≡ pl p → ((u : Partition) → p ≢ u → pl' u ≡ pl u) → pl' u ≡ pl u
@@ -281,16 +316,22 @@ module _ (c : ℕ) (v : View) (sound : Sound v) (few : length v.rows ≤ ORDERS)
       by Three Three h o = h
 
   -- the first is at or below the place
-  skipped : (w : Knowledge) (k : ℕ) (p : Partition) (g : Held) (n : ℕ) (e : Entry) → g ≡ held n e → n ≤ k → caught_one p (reached w k) g ≡ Ok (reached w k)
+  skipped : (w : Knowledge) (k : ℕ) (p : Partition) (g : Held) (n : ℕ) (e : Entry) → g ≡ held n e → n ≤ k
+      → caught_one p (reached w k) g ≡ Ok (reached w k)
   skipped w k p g n e i le =
-      ap (caught_one p (reached w k)) i ∙ ap (λ b. cond b (Ok (reached w k)) (moved n (fold p (told_of e.report) w))) (le-leb n k le)
+      ap (caught_one p (reached w k)) i ∙ ap (λ b. cond b (Ok (reached w k)) (moved n (fold p (told_of e.report) w)))
+      (le-leb n k le)
 
   -- or it is the next
-  folded_next : (w : Knowledge) (k : ℕ) (p : Partition) (g : Held) (n : ℕ) (e : Entry) (w' : Knowledge) → g ≡ held n e → k < n → fold p (told_of e.report) w ≡ Ok w' → caught_one p (reached w k) g ≡ Ok (reached w' n)
+  folded_next : (w : Knowledge) (k : ℕ) (p : Partition) (g : Held) (n : ℕ) (e : Entry) (w' : Knowledge) → g ≡ held n e
+      → k < n → fold p (told_of e.report) w ≡ Ok w' → caught_one p (reached w k) g ≡ Ok (reached w' n)
   folded_next w k p g n e w' i lt q =
-      ap (caught_one p (reached w k)) i ∙ ap (λ b. cond b (Ok (reached w k)) (moved n (fold p (told_of e.report) w))) (not_at_or_below n k lt) ∙ ap (moved n) q
+      ap (caught_one p (reached w k)) i ∙ ap (λ b. cond b (Ok (reached w k)) (moved n (fold p (told_of e.report) w)))
+      (not_at_or_below n k lt) ∙ ap (moved n) q
 
-  pub reaches : (w : Knowledge) (pl : Partition → ℕ) (p : Partition) (hs : List Held) (y : ℕ) → Tallied c v.kept w pl → (pl p ≡ 0) ⊎ (is_of c (under (at v.kept p) (pl p)) ≡ true) → Holding c (at v.kept p) (pl p) hs y → Reaches w pl p hs y
+  pub reaches : (w : Knowledge) (pl : Partition → ℕ) (p : Partition) (hs : List Held) (y : ℕ) → Tallied c v.kept w pl
+      → (pl p ≡ 0) ⊎ (is_of c (under (at v.kept p) (pl p)) ≡ true) → Holding c (at v.kept p) (pl p) hs y
+      → Reaches w pl p hs y
   reaches w pl p [] y t z h = record {
     after = reached w (pl p);
     done = refl;
@@ -303,7 +344,8 @@ module _ (c : ℕ) (v : View) (sound : Sound v) (few : length v.rows ≤ ORDERS)
       let on = reaches w pl p hs y t z h in
       record {
         after = on.after;
-        done = ap (λ (a : Result Reached FoldRefusal). fold_each (caught_next p) a hs) (skipped w (pl p) p g n e i le) ∙ on.done;
+        done = ap (λ (a : Result Reached FoldRefusal). fold_each (caught_next p) a hs)
+            (skipped w (pl p) p g n e i le) ∙ on.done;
         known = on.known;
         placed = on.placed;
         up = on.up;
@@ -314,11 +356,14 @@ module _ (c : ℕ) (v : View) (sound : Sound v) (few : length v.rows ≤ ORDERS)
       let here = moved_here pl p n in
       let apart = moved_other pl p n in
       let now = tallied_on c v sound few w pl (moved_to pl p n) p n e f here apart t in
-      let on = reaches f.after (moved_to pl p n) p hs y now (inr (subst (λ u. is_of c (under (at v.kept p) u) ≡ true) (sym here) x.hers)) (subst (λ u. Holding c (at v.kept p) u hs y) (sym here) h) in
+      let on = reaches f.after (moved_to pl p n) p hs y now
+      (inr (subst (λ u. is_of c (under (at v.kept p) u) ≡ true) (sym here) x.hers))
+      (subst (λ u. Holding c (at v.kept p) u hs y) (sym here) h) in
       record {
         after = on.after;
         done =
-            ap (λ (a : Result Reached FoldRefusal). fold_each (caught_next p) a hs) (folded_next w (pl p) p g n e f.after i x.above f.taken)
+            ap (λ (a : Result Reached FoldRefusal). fold_each (caught_next p) a hs)
+            (folded_next w (pl p) p g n e f.after i x.above f.taken)
             ∙ ap (λ u. fold_each (caught_next p) (Ok (reached f.after u)) hs) (sym here) ∙ on.done;
         known = λ pl' there others. on.known pl' there (λ q ne. others q ne ∙ sym (apart q ne));
         placed = on.placed;

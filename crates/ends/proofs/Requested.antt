@@ -21,7 +21,8 @@ opens bs (Ok k) e = (k, refl)
 opens bs (Err x) e = absurd cc
 
 -- whatever stands behind a header, bytes that open as a message are as long as the header's kind says
-long_as : (k j : Kind) (xs : List ℕ) → opening Recovery (header (letter_of k) (total_of k) ++ xs) ≡ Ok j → length (header (letter_of k) (total_of k) ++ xs) ≡ total_of k
+long_as : (k j : Kind) (xs : List ℕ) → opening Recovery (header (letter_of k) (total_of k) ++ xs) ≡ Ok j
+    → length (header (letter_of k) (total_of k) ++ xs) ≡ total_of k
 long_as k j xs e =
     let bs = header (letter_of k) (total_of k) ++ xs in
     let o = opened_by Recovery j bs e in

@@ -35,7 +35,8 @@ pass : (c : ℕ) (l : List Entry) (s : ℕ) → s ≤ length l → Lowest l c s 
 pass c l s w h = record { from = omega arith; within = omega (arith, w); passed = passed_all c l s (max s (length l)) h }
 
 module _ (c : ℕ) (k : Kept) (s : PerPartition ℕ) (w : (p : Partition) → at s p ≤ length (at k p)) where
-  looks : (r1 r2 r3 : Option ℕ) → Lowest k.one c s.one r1 → Lowest k.two c s.two r2 → Lowest k.three c s.three r3 → SentBy c k s (after r1 r2 r3 k s) (first r1 r2 r3)
+  looks : (r1 r2 r3 : Option ℕ) → Lowest k.one c s.one r1 → Lowest k.two c s.two r2 → Lowest k.three c s.three r3
+      → SentBy c k s (after r1 r2 r3 k s) (first r1 r2 r3)
   looks (Some n) r2 r3 h1 h2 h3 = record { next = found c k.one s.one n h1; mark = refl; others = others }
     where
       others : (p : Partition) → (One ≡ p) ⊎ Moves c (at k p) (at s p) (at (with_at s One n) p)
@@ -44,7 +45,8 @@ module _ (c : ℕ) (k : Kept) (s : PerPartition ℕ) (w : (p : Partition) → at
       others Three = inr (stay c k.three s.three (w Three))
   looks None (Some n) r3 h1 h2 h3 = record { next = found c k.two s.two n h2; mark = refl; others = others }
     where
-      others : (p : Partition) → (Two ≡ p) ⊎ Moves c (at k p) (at s p) (at (with_at (with_at s One (max s.one (length k.one))) Two n) p)
+      others : (p : Partition) → (Two ≡ p) ⊎ Moves c (at k p) (at s p)
+          (at (with_at (with_at s One (max s.one (length k.one))) Two n) p)
       others One = inr (pass c k.one s.one (w One) h1)
       others Two = inl refl
       others Three = inr (stay c k.three s.three (w Three))
@@ -62,7 +64,8 @@ module _ (c : ℕ) (k : Kept) (s : PerPartition ℕ) (w : (p : Partition) → at
       all Three = pass c k.three s.three (w Three) h3
 
   pub sends : SentBy c k s (sent_after k c s) (next_to_send k c s)
-  sends = looks (found_at k c s One) (found_at k c s Two) (found_at k c s Three) (next-lowest k.one c s.one) (next-lowest k.two c s.two) (next-lowest k.three c s.three)
+  sends = looks (found_at k c s One) (found_at k c s Two) (found_at k c s Three) (next-lowest k.one c s.one)
+      (next-lowest k.two c s.two) (next-lowest k.three c s.three)
 
 -- ---- a download
 
@@ -73,7 +76,8 @@ HandedBy c l d (Report p n, Some d') = (p ≡ d.partition) × Next c l d.last n 
 HandedBy c l d (Ended r, None) = r ≡ ending.Complete → Passed c l d.last d.target
 HandedBy c l d (Ended r, Some d') = ⊥
 
-none_in : (c : ℕ) (l : List Entry) (d : Download) (r : Option ℕ) → Lowest l c d.last r → up_to d.target r ≡ None → Passed c l d.last d.target
+none_in : (c : ℕ) (l : List Entry) (d : Download) (r : Option ℕ) → Lowest l c d.last r → up_to d.target r ≡ None
+    → Passed c l d.last d.target
 none_in c l d None h e = passed_all c l d.last d.target h
 none_in c l d (Some n) h e = by (leb n d.target) refl e
   where
@@ -81,7 +85,8 @@ none_in c l d (Some n) h e = by (leb n d.target) refl e
     by true f g = absurd cc
     by false f g = let lt : d.target < n = leb-false n d.target f in λ j p q. h.2 j p (omega (arith, q, lt))
 
-one_in : (c : ℕ) (l : List Entry) (d : Download) (r : Option ℕ) (n : ℕ) → Lowest l c d.last r → up_to d.target r ≡ Some n → Next c l d.last n
+one_in : (c : ℕ) (l : List Entry) (d : Download) (r : Option ℕ) (n : ℕ) → Lowest l c d.last r → up_to d.target r
+    ≡ Some n → Next c l d.last n
 one_in c l d None n h e = absurd cc
 one_in c l d (Some m) n h e = by (leb m d.target) refl e
   where
@@ -89,11 +94,13 @@ one_in c l d (Some m) n h e = by (leb m d.target) refl e
     by true f g = let same : m ≡ n = cc in subst (λ u. Next c l d.last u) same (found c l d.last m h)
     by false f g = absurd cc
 
-hands_by : (c : ℕ) (l : List Entry) (d : Download) (r : Option ℕ) → (r ≡ None → Passed c l d.last d.target) → ((n : ℕ) → r ≡ Some n → Next c l d.last n) → HandedBy c l d (handed_out d r)
+hands_by : (c : ℕ) (l : List Entry) (d : Download) (r : Option ℕ) → (r ≡ None → Passed c l d.last d.target)
+    → ((n : ℕ) → r ≡ Some n → Next c l d.last n) → HandedBy c l d (handed_out d r)
 hands_by c l d None f g = λ e. f refl
 hands_by c l d (Some n) f g = by (nat_le DOWNLOADED d.handed)
   where
-    by : (b : Bool) → HandedBy c l d (cond b (Ended ending.MessageLimit, None) (Report d.partition n, Some (record d { last = n; handed = d.handed + 1 })))
+    by : (b : Bool) → HandedBy c l d (cond b (Ended ending.MessageLimit, None)
+        (Report d.partition n, Some (record d { last = n; handed = d.handed + 1 })))
     by true = λ e. absurd (limit e)
       where
         limit : ending.MessageLimit ≡ ending.Complete → ⊥
@@ -103,4 +110,5 @@ hands_by c l d (Some n) f g = by (nat_le DOWNLOADED d.handed)
 pub hands : (c : ℕ) (l : List Entry) (d : Download) → HandedBy c l d (handed_out d (remaining l c d))
 hands c l d =
     let low = next-lowest l c d.last in
-    hands_by c l d (remaining l c d) (λ e. none_in c l d (next_after l c d.last) low e) (λ n e. one_in c l d (next_after l c d.last) n low e)
+    hands_by c l d (remaining l c d) (λ e. none_in c l d (next_after l c d.last) low e)
+    (λ n e. one_in c l d (next_after l c d.last) n low e)

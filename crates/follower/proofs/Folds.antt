@@ -23,7 +23,9 @@ drop_at hs i h e =
 past : (hs : List Held) (i : ℕ) → length hs ≤ i → drop i hs ≡ []
 past hs i e = drop_of_length-le hs e
 
-missing : (hs : List Held) (i : ℕ) → slice_get hs i ≡ None → ((h : Held) × (i < length hs) × (slice_get hs i ≡ Some h) × (get_or hs i h ≡ h)) ⊎ ((length hs ≤ i) × (slice_get hs i ≡ None)) → length hs ≤ i
+missing : (hs : List Held) (i : ℕ) → slice_get hs i ≡ None
+    → ((h : Held) × (i < length hs) × (slice_get hs i ≡ Some h) × (get_or hs i h ≡ h))
+    ⊎ ((length hs ≤ i) × (slice_get hs i ≡ None)) → length hs ≤ i
 missing hs i g (inl x) = absurd cc
 missing hs i g (inr x) = x.0
 
@@ -31,19 +33,26 @@ missing hs i g (inr x) = x.0
 pub begins : (p : Partition) (hs : List Held) (r : Reached) → caught_up p r (drop 0 hs) ≡ caught_up p r hs
 begins p hs r = refl
 
-pub ends : (p : Partition) (hs : List Held) (i : ℕ) (r : Reached) (z : Result Reached FoldRefusal) → length hs ≤ i → caught_up p r (drop i hs) ≡ z → z ≡ Ok r
+pub ends : (p : Partition) (hs : List Held) (i : ℕ) (r : Reached) (z : Result Reached FoldRefusal) → length hs ≤ i
+    → caught_up p r (drop i hs) ≡ z → z ≡ Ok r
 ends p hs i r z e h = sym h ∙ ap (caught_up p r) (past hs i e)
 
 -- one report further
-pub folds : (p : Partition) (hs : List Held) (i : ℕ) (o : Option Held) (r s : Reached) (z : Result Reached FoldRefusal) → o ≡ slice_get hs i → caught_at p r o ≡ Ok s → caught_up p r (drop i hs) ≡ z → caught_up p s (drop (i + 1) hs) ≡ z
+pub folds : (p : Partition) (hs : List Held) (i : ℕ) (o : Option Held) (r s : Reached) (z : Result Reached FoldRefusal)
+    → o ≡ slice_get hs i → caught_at p r o ≡ Ok s → caught_up p r (drop i hs) ≡ z → caught_up p s (drop (i + 1) hs) ≡ z
 folds p hs i (Some h) r s z g f e =
-    ap (λ x. fold_each (caught_next p) x (drop (i + 1) hs)) (sym f) ∙ ap (caught_up p r) (sym (drop_at hs i h (sym g))) ∙ e
+    ap (λ x. fold_each (caught_next p) x (drop (i + 1) hs)) (sym f) ∙ ap (caught_up p r)
+    (sym (drop_at hs i h (sym g))) ∙ e
 folds p hs i None r s z g f e =
     let short = missing hs i (sym g) (slice_get_cases hs i).1 in
-    ap (λ x. fold_each (caught_next p) x (drop (i + 1) hs)) (sym f) ∙ ap (caught_up p r) (past hs (i + 1) (omega (arith, short)) ∙ sym (past hs i short)) ∙ e
+    ap (λ x. fold_each (caught_next p) x (drop (i + 1) hs)) (sym f) ∙ ap (caught_up p r)
+    (past hs (i + 1) (omega (arith, short)) ∙ sym (past hs i short)) ∙ e
 
 -- the first report that is refused
-pub fails : (p : Partition) (hs : List Held) (i : ℕ) (o : Option Held) (r : Reached) (x : FoldRefusal) (z : Result Reached FoldRefusal) → o ≡ slice_get hs i → caught_at p r o ≡ Err x → caught_up p r (drop i hs) ≡ z → z ≡ Err x
+pub fails : (p : Partition) (hs : List Held) (i : ℕ) (o : Option Held) (r : Reached) (x : FoldRefusal)
+    (z : Result Reached FoldRefusal) → o ≡ slice_get hs i → caught_at p r o ≡ Err x → caught_up p r (drop i hs) ≡ z → z
+    ≡ Err x
 fails p hs i (Some h) r x z g f e =
-    sym e ∙ ap (caught_up p r) (drop_at hs i h (sym g)) ∙ ap (λ y. fold_each (caught_next p) y (drop (i + 1) hs)) f ∙ stuck p x (drop (i + 1) hs)
+    sym e ∙ ap (caught_up p r) (drop_at hs i h (sym g)) ∙ ap
+    (λ y. fold_each (caught_next p) y (drop (i + 1) hs)) f ∙ stuck p x (drop (i + 1) hs)
 fails p hs i None r x z g f e = cc

@@ -51,13 +51,15 @@ partition_back partition.One = refl
 partition_back partition.Two = refl
 partition_back partition.Three = refl
 
-ack_back : (x : AckResponse) → value_of ack_response_code ack_responses ack.ServiceUnavailable (figure (ack_response_code x)) ≡ x
+ack_back : (x : AckResponse) → value_of ack_response_code ack_responses ack.ServiceUnavailable
+    (figure (ack_response_code x)) ≡ x
 ack_back ack.Successful = refl
 ack_back ack.LimitReached = refl
 ack_back ack.InvalidAppId = refl
 ack_back ack.ServiceUnavailable = refl
 
-ending_back : (x : ReportResponse) → value_of report_response_code report_responses ending.Complete (figure (report_response_code x)) ≡ x
+ending_back : (x : ReportResponse) → value_of report_response_code report_responses ending.Complete
+    (figure (report_response_code x)) ≡ x
 ending_back ending.Complete = refl
 ending_back ending.MessageLimit = refl
 ending_back ending.ServiceUnavailable = refl
@@ -91,11 +93,13 @@ all_got [] (v ∷ vs) bs h = absurd h
 all_got (f ∷ fs) [] bs h = absurd h
 all_got (f ∷ fs) (v ∷ vs) bs h = let a = sym h.0 in let b = all_got fs vs bs h.1 in cc
 
-no_fault : (bs : List ℕ) (k : Kind) → verdict Follower bs ≡ None → opening Follower bs ≡ Ok k → fault_of (table_of k) bs ≡ None
+no_fault : (bs : List ℕ) (k : Kind) → verdict Follower bs ≡ None → opening Follower bs ≡ Ok k
+    → fault_of (table_of k) bs ≡ None
 no_fault bs k v o = sym (ap (after_opening bs) o) ∙ v
 
 -- what is heard in bytes that a message was read from
-pub heard_by : (bs : List ℕ) (m : Message) → verdict Follower bs ≡ None → opening Follower bs ≡ Ok (kind_of m) → Says (contents_of m) (table_of (kind_of m)) bs → heard_in bs ≡ Ok (heard m)
+pub heard_by : (bs : List ℕ) (m : Message) → verdict Follower bs ≡ None → opening Follower bs ≡ Ok (kind_of m)
+    → Says (contents_of m) (table_of (kind_of m)) bs → heard_in bs ≡ Ok (heard m)
 unfolding heard_in
 heard_by bs m v o s =
     let k = kind_of m in
@@ -105,7 +109,8 @@ heard_by bs m v o s =
     ∙ ap Ok (contents_say m)
 
 -- what was read
-pub hears : (bs : List ℕ) (m : Message) (h : Heard) → Reads Follower bs m → h ≡ heard m → ◌≡◌ {A = Result Heard Fault} (Ok h) (heard_in bs)
+pub hears : (bs : List ℕ) (m : Message) (h : Heard) → Reads Follower bs m → h ≡ heard m
+    → ◌≡◌ {A = Result Heard Fault} (Ok h) (heard_in bs)
 hears bs m h r e = ap Ok e ∙ sym (heard_by bs m r.passes r.opens r.says)
 
 refused_by : (bs : List ℕ) (e : Fault) (o : Result Kind Fault) → after_opening bs o ≡ Some e → heard_opened o bs ≡ Err e
@@ -113,6 +118,7 @@ refused_by bs e (Err f) h = cc
 refused_by bs e (Ok k) h = ap (λ o. heard_unless o k bs) h
 
 -- what was refused
-pub refused : (bs : List ℕ) (e : Fault) → verdict Follower bs ≡ Some e → ◌≡◌ {A = Result Heard Fault} (Err e) (heard_in bs)
+pub refused : (bs : List ℕ) (e : Fault) → verdict Follower bs ≡ Some e
+    → ◌≡◌ {A = Result Heard Fault} (Err e) (heard_in bs)
 unfolding heard_in
 refused bs e h = sym (refused_by bs e (opening Follower bs) h)

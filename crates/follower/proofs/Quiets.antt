@@ -33,7 +33,8 @@ use Rattle.follower.specs.Asking.{asks_of, asks, asking, asking_of, partition_of
 use Rattle.follower.specs.Quiet.{HoldsNothing, Quiet, StaysQuiet}
 
 -- one partition more that is quiet among those that are
-with_quiet : (x : PerPartition Side) (p : Partition) (s : Side) → HoldsNothing s → ((q : Partition) → HoldsNothing (at x q)) → (q : Partition) → HoldsNothing (at (with_at x p s) q)
+with_quiet : (x : PerPartition Side) (p : Partition) (s : Side) → HoldsNothing s
+    → ((q : Partition) → HoldsNothing (at x q)) → (q : Partition) → HoldsNothing (at (with_at x p s) q)
 with_quiet x One s h all One = h
 with_quiet x One s h all Two = all Two
 with_quiet x One s h all Three = all Three
@@ -154,7 +155,8 @@ module _ (f : Following) (u : f.up ≡ true) (quiet : Quiet f) where
   recovered_heard Nothing = quiet
 
 -- a step of a follower that may be down
-taken : {A : Type 0} (f : Following) (b : Bool) (x y : Step A) → f.up ≡ b → (f.up ≡ true → Leaves x) → Leaves y → Leaves (cond b x y)
+taken : {A : Type 0} (f : Following) (b : Bool) (x y : Step A) → f.up ≡ b → (f.up ≡ true → Leaves x) → Leaves y
+    → Leaves (cond b x y)
 taken f true x y e p q = p e
 taken f false x y e p q = q
 
@@ -164,14 +166,17 @@ lives f (Ok h) quiet = taken f f.up (lived f h) (refused fault.NotUp f) refl (λ
 
 recovers : (f : Following) (h : Result Heard Fault) → Quiet f → Quiet (recovered_step f h).after
 recovers f (Err e) quiet = quiet
-recovers f (Ok h) quiet = taken f f.up (recovering f h) (refused fault.NotUp f) refl (λ u. recovered_heard f u quiet h) quiet
+recovers f (Ok h) quiet =
+    taken f f.up (recovering f h) (refused fault.NotUp f) refl (λ u. recovered_heard f u quiet h) quiet
 
 -- what is asked is asked by a follower that is up
-asked_up : (f : Following) (t : Pending) (out : List ℕ) (r : Result Partition FollowerFault) → Quiet f → ((p : Partition) → r ≡ Ok p → f.up ≡ true) → Quiet (asks_of f t out r).after
+asked_up : (f : Following) (t : Pending) (out : List ℕ) (r : Result Partition FollowerFault) → Quiet f
+    → ((p : Partition) → r ≡ Ok p → f.up ≡ true) → Quiet (asks_of f t out r).after
 asked_up f t out (Err e) quiet up = quiet
 asked_up f t out (Ok p) quiet up = staged f (up p refl) quiet (Asked p)
 
-room_up : (f : Following) (t : Pending) (n : ℕ) (short b : Bool) (p : Partition) → f.up ≡ b → cond short (Err fault.Buffer) (cond b (asking_of f t (partition_of n)) (Err fault.NotUp)) ≡ Ok p → f.up ≡ true
+room_up : (f : Following) (t : Pending) (n : ℕ) (short b : Bool) (p : Partition) → f.up ≡ b
+    → cond short (Err fault.Buffer) (cond b (asking_of f t (partition_of n)) (Err fault.NotUp)) ≡ Ok p → f.up ≡ true
 room_up f t n true b p e h = absurd cc
 room_up f t n false true p e h = e
 room_up f t n false false p e h = absurd cc

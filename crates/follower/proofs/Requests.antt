@@ -14,12 +14,15 @@ use Rattle.wire.specs.Messages.{verdict, written, Reads, GivenBack}
 use Rattle.wire.specs.Plain.{plain}
 use Rattle.follower.specs.Asking.{request, IsRequest, ReadBack}
 
-module _ (p : Partition) (n : ℕ) (m : MissedMessageRequest) (a : m.partition ≡ pos (partition_code p)) (b : m.last.value ≡ n) where
+module _ (p : Partition) (n : ℕ) (m : MissedMessageRequest) (a : m.partition ≡ pos (partition_code p))
+    (b : m.last.value ≡ n) where
   written_as : written (message.MissedMessageRequest m) ≡ request p n
   unfolding request
   written_as =
-      ap (λ z. header (letter_of Request) (total_of Request) ++ encode (table_of Request) (int8 z ∷ figure m.last.value ∷ [])) a
-      ∙ ap (λ k. header (letter_of Request) (total_of Request) ++ encode (table_of Request) (int8 (pos (partition_code p)) ∷ figure k ∷ [])) b
+      ap (λ z. header (letter_of Request) (total_of Request)
+      ++ encode (table_of Request) (int8 z ∷ figure m.last.value ∷ [])) a
+      ∙ ap (λ k. header (letter_of Request) (total_of Request)
+      ++ encode (table_of Request) (int8 (pos (partition_code p)) ∷ figure k ∷ [])) b
 
   -- no other message is like it
   same_request : (r : Message) → plain r ≡ plain (message.MissedMessageRequest m) → IsRequest p n r
@@ -49,5 +52,7 @@ module _ (p : Partition) (n : ℕ) (m : MissedMessageRequest) (a : m.partition �
         read = λ r reads. same_request r (given.1 r (subst (λ bs. Reads Recovery bs r) (sym written_as) reads));
       }
 
-  pub wrote : (len : ℕ) (before after : List ℕ) → len ≡ total_of Request → after ≡ written (message.MissedMessageRequest m) ++ drop len before → after ≡ request p n ++ drop (total_of Request) before
+  pub wrote : (len : ℕ) (before after : List ℕ) → len ≡ total_of Request → after
+      ≡ written (message.MissedMessageRequest m) ++ drop len before → after ≡ request p n
+      ++ drop (total_of Request) before
   wrote len before after l w = w ∙ ap (λ bs. bs ++ drop len before) written_as ∙ ap (λ k. request p n ++ drop k before) l

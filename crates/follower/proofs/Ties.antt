@@ -41,11 +41,13 @@ live_either : (f : Following) (b : Bool) (x y : Step Live) → Lives f x → Liv
 live_either f true x y p q = p
 live_either f false x y p q = q
 
-recovered_either : (f : Following) (b : Bool) (x y : Step Recovered) → Recovers f x → Recovers f y → Recovers f (cond b x y)
+recovered_either : (f : Following) (b : Bool) (x y : Step Recovered) → Recovers f x → Recovers f y
+    → Recovers f (cond b x y)
 recovered_either f true x y p q = p
 recovered_either f false x y p q = q
 
-live_folded : (f : Following) (p : Partition) (n : ℕ) (r : Result Knowledge FoldRefusal) → Lives f (folded_to live.Folded f p n r)
+live_folded : (f : Following) (p : Partition) (n : ℕ) (r : Result Knowledge FoldRefusal)
+    → Lives f (folded_to live.Folded f p n r)
 live_folded f p n (Ok k) t h = h
 live_folded f p n (Err e) t h = h
 
@@ -56,7 +58,8 @@ live_at f Behind p h =
 
 live_heard : (f : Following) (h : Heard) → Lives f (lived f h)
 live_heard f (Report p h) =
-    live_either f (nat_le (number_of h) (at f.sides p).place) (answered live.Already f) (live_by (at f.sides p).state f p h)
+    live_either f (nat_le (number_of h) (at f.sides p).place) (answered live.Already f)
+    (live_by (at f.sides p).state f p h)
     (λ t e. e)
     (live_at f (at f.sides p).state p h)
 live_heard f (Ack r) = λ t e. e
@@ -68,12 +71,15 @@ live_keeps : (f : Following) (h : Result Heard Fault) → Lives f (live_step f h
 live_keeps f (Err e) = λ t h. h
 live_keeps f (Ok h) = live_either f f.up (lived f h) (refused fault.NotUp f) (live_heard f h) (λ t e. e)
 
-pub live_tied : (f g : Following) (h : Result Heard Fault) (a : Result Live FollowerFault) (t u : Pending) → a ≡ (live_step f h).answer → g ≡ (live_step f h).after → u ≡ after_live a t → Tied t f → Tied u g
+pub live_tied : (f g : Following) (h : Result Heard Fault) (a : Result Live FollowerFault) (t u : Pending) → a
+    ≡ (live_step f h).answer → g ≡ (live_step f h).after → u ≡ after_live a t → Tied t f → Tied u g
 live_tied f g h a t u i j k tied =
     let kept = live_keeps f h t tied in
-    subst (λ x. Tied x g) (sym (k ∙ ap (λ x. after_live x t) i)) (subst (λ x. Tied (after_live (live_step f h).answer t) x) (sym j) kept)
+    subst (λ x. Tied x g) (sym (k ∙ ap (λ x. after_live x t) i))
+    (subst (λ x. Tied (after_live (live_step f h).answer t) x) (sym j) kept)
 
-recovered_folded : (f : Following) (p : Partition) (n : ℕ) (r : Result Knowledge FoldRefusal) → Recovers f (folded_to recovered.Folded f p n r)
+recovered_folded : (f : Following) (p : Partition) (n : ℕ) (r : Result Knowledge FoldRefusal)
+    → Recovers f (folded_to recovered.Folded f p n r)
 recovered_folded f p n (Ok k) t h = h
 recovered_folded f p n (Err e) t h = h
 
@@ -90,7 +96,8 @@ ack_tied f (Running p) r d = λ t e. e
 
 recovered_tied_of : (f : Following) (p : Partition) (h : Held) → Recovers f (recovered_of f p h)
 recovered_tied_of f p h =
-    recovered_either f (nat_le (number_of h) (at f.sides p).place) (answered recovered.Already f) (folded recovered.Folded f p h)
+    recovered_either f (nat_le (number_of h) (at f.sides p).place) (answered recovered.Already f)
+    (folded recovered.Folded f p h)
     (λ t e. e)
     (recovered_folded f p (number_of h) (fold p h.told f.standings))
 
@@ -106,7 +113,8 @@ levelled_tied f p (Ok r) t e = refl
 levelled_tied f p (Err x) t e = e
 
 ended_of_tied : (f : Following) (p : Partition) (r : ReportResponse) → Recovers f (ended_of f p r)
-ended_of_tied f p ending.Complete = levelled_tied f p (caught_up p (reached f.standings (at f.sides p).place) (at f.sides p).hold)
+ended_of_tied f p ending.Complete =
+    levelled_tied f p (caught_up p (reached f.standings (at f.sides p).place) (at f.sides p).hold)
 ended_of_tied f p ending.MessageLimit = λ t e. refl
 ended_of_tied f p ending.ServiceUnavailable = λ t e. refl
 
@@ -129,18 +137,23 @@ recovered_heard f Nothing = λ t e. e
 
 recovered_keeps : (f : Following) (h : Result Heard Fault) → Recovers f (recovered_step f h)
 recovered_keeps f (Err e) = λ t h. h
-recovered_keeps f (Ok h) = recovered_either f f.up (recovering f h) (refused fault.NotUp f) (recovered_heard f h) (λ t e. e)
+recovered_keeps f (Ok h) =
+    recovered_either f f.up (recovering f h) (refused fault.NotUp f) (recovered_heard f h) (λ t e. e)
 
-pub recovered_tied : (f g : Following) (h : Result Heard Fault) (a : Result Recovered FollowerFault) (t u : Pending) → a ≡ (recovered_step f h).answer → g ≡ (recovered_step f h).after → u ≡ after_recovered a t → Tied t f → Tied u g
+pub recovered_tied : (f g : Following) (h : Result Heard Fault) (a : Result Recovered FollowerFault) (t u : Pending)
+    → a ≡ (recovered_step f h).answer → g ≡ (recovered_step f h).after → u ≡ after_recovered a t → Tied t f → Tied u g
 recovered_tied f g h a t u i j k tied =
     let kept = recovered_keeps f h t tied in
-    subst (λ x. Tied x g) (sym (k ∙ ap (λ x. after_recovered x t) i)) (subst (λ x. Tied (after_recovered (recovered_step f h).answer t) x) (sym j) kept)
+    subst (λ x. Tied x g) (sym (k ∙ ap (λ x. after_recovered x t) i))
+    (subst (λ x. Tied (after_recovered (recovered_step f h).answer t) x) (sym j) kept)
 
-asks_keeps : (f : Following) (t : Pending) (out : List ℕ) (r : Result Partition FollowerFault) → Tied t f → Tied (asks_of f t out r).token (asks_of f t out r).after
+asks_keeps : (f : Following) (t : Pending) (out : List ℕ) (r : Result Partition FollowerFault) → Tied t f
+    → Tied (asks_of f t out r).token (asks_of f t out r).after
 asks_keeps f t out (Ok p) e = refl
 asks_keeps f t out (Err x) e = e
 
-pub asked_tied : (f g : Following) (t u : Pending) (n : ℕ) (out : List ℕ) → g ≡ (asks f t n out).after → u ≡ (asks f t n out).token → Tied t f → Tied u g
+pub asked_tied : (f g : Following) (t u : Pending) (n : ℕ) (out : List ℕ) → g ≡ (asks f t n out).after → u
+    ≡ (asks f t n out).token → Tied t f → Tied u g
 asked_tied f g t u n out i k tied =
     let kept = asks_keeps f t out (asking f t n (length out)) tied in
     subst (λ x. Tied x g) (sym k) (subst (λ x. Tied (asks f t n out).token x) (sym i) kept)

@@ -58,18 +58,25 @@ told_in (message.OrderMassCancelRequest m) = refl
 abbrev told_by : Partition → ℕ → Report → Option Told
 told_by p n r = told_heard (heard_from (kind_told r) (told_as p n r))
 
-begins : (p : Partition) (n : ℕ) (r : Report) → heard_from (kind_told r) (told_as p n r) ≡ heard.Report p (record { sequence = pos n; told = told_by p n r })
-begins p n (report.Execution e) = ap (λ q. heard.Report q (record { sequence = pos n; told = told_by p n (report.Execution e) })) (partition_back p)
-begins p n (report.CancelReject e) = ap (λ q. heard.Report q (record { sequence = pos n; told = None })) (partition_back p)
+begins : (p : Partition) (n : ℕ) (r : Report) → heard_from (kind_told r) (told_as p n r)
+    ≡ heard.Report p (record { sequence = pos n; told = told_by p n r })
+begins p n (report.Execution e) =
+    ap (λ q. heard.Report q (record { sequence = pos n; told = told_by p n (report.Execution e) })) (partition_back p)
+begins p n (report.CancelReject e) =
+    ap (λ q. heard.Report q (record { sequence = pos n; told = None })) (partition_back p)
 begins p n (report.MassCancel e) = ap (λ q. heard.Report q (record { sequence = pos n; told = None })) (partition_back p)
 
 -- what a message tells by its contents
-said : (p : Partition) (n : ℕ) (r : Report) (m : Message) → Tells p n r m → heard_of m ≡ heard_from (kind_told r) (told_as p n r)
-said p n r m t = sym (contents_say m) ∙ ap (λ k. heard_from k (contents_of m)) t.kind ∙ ap (heard_from (kind_told r)) t.contents
+said : (p : Partition) (n : ℕ) (r : Report) (m : Message) → Tells p n r m → heard_of m
+    ≡ heard_from (kind_told r) (told_as p n r)
+said p n r m t =
+    sym (contents_say m) ∙ ap (λ k. heard_from k (contents_of m)) t.kind ∙ ap (heard_from (kind_told r)) t.contents
 
-pub told : (p : Partition) (n : ℕ) (r : Report) (m : Message) → Tells p n r m → heard_of m ≡ heard.Report p (record { sequence = pos n; told = told_of r })
+pub told : (p : Partition) (n : ℕ) (r : Report) (m : Message) → Tells p n r m → heard_of m
+    ≡ heard.Report p (record { sequence = pos n; told = told_of r })
 told p n r m t =
-    let same : told_by p n r ≡ told_of r = ap told_heard (sym (said p n r m t)) ∙ told_in m ∙ ap (option_and_then told_of) t.back in
+    let same : told_by p n r ≡ told_of r = ap told_heard (sym (said p n r m t)) ∙ told_in m ∙ ap
+    (option_and_then told_of) t.back in
     said p n r m t ∙ begins p n r ∙ ap (λ x. heard.Report p (record { sequence = pos n; told = x })) same
 
 taken : (r : Report) → takes Follower (letter_of (kind_told r)) ≡ Some (kind_told r)

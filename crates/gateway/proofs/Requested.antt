@@ -12,7 +12,8 @@ use Rattle.requests.specs.Refusals.{turned_number}
 use Rattle.requests.specs.declared.refusal.Turned.{Turned}
 use Rattle.wire.specs.declared.message.Message.{Message}
 
-answered : (m : Message) (s w : State) (t : Turned) (done : Result (Unit {0}) Turned) (a : Answer) → done ≡ Err t → w.venue ≡ s.venue → w ≡ with_venue s w.venue
+answered : (m : Message) (s w : State) (t : Turned) (done : Result (Unit {0}) Turned) (a : Answer) → done ≡ Err t
+    → w.venue ≡ s.venue → w ≡ with_venue s w.venue
     → a ≡ answer_for m done → (a ≡ rejection (turned_number t) m) × (w ≡ s)
 answered m s w t done a e v k h = (h ∙ ap (answer_for m) e, k ∙ ap (with_venue s) v)
 
@@ -20,7 +21,8 @@ silent : (m : Message) (done : Result (Unit {0}) Turned) → result_err done ≡
 silent m (Ok u) e = refl
 silent m (Err t) e = none-some t (sym e)
 
-pub obeyed : (o : Outcome) (m : Message) (s w : State) (done : Result (Unit {0}) Turned) (a : Answer) → Gives o s.venue done w.venue → w ≡ with_venue s w.venue
+pub obeyed : (o : Outcome) (m : Message) (s w : State) (done : Result (Unit {0}) Turned) (a : Answer)
+    → Gives o s.venue done w.venue → w ≡ with_venue s w.venue
     → a ≡ answer_for m done → Took (requested_as m s o) a w
 obeyed (Refused t) m s w done a (e, v) k h = answered m s w t done a e v k h
 obeyed (Done n u) m s w done a (e, l) k h = (h ∙ silent m done e, (k, l))

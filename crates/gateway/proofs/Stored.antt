@@ -26,7 +26,8 @@ in_total k One = omega arith
 in_total k Two = omega arith
 in_total k Three = omega arith
 
-pub number_fits : (k : Kept) (free : ℕ) (p : Partition) (n : ℕ) (e : Entry) → total k + free ≤ REPORTS → Some e ≡ under (at k p) n → n < NUMBERS
+pub number_fits : (k : Kept) (free : ℕ) (p : Partition) (n : ℕ) (e : Entry) → total k + free ≤ REPORTS → Some e
+    ≡ under (at k p) n → n < NUMBERS
 number_fits k free p n e room h =
     let a = at_most (at k p) n e (sym h) in
     let b = in_total k p in

@@ -11,8 +11,10 @@ use Rattle.wire.specs.declared.kinds.Kind.{Kind}
 use Rattle.wire.specs.Kinds.{table_of}
 
 -- one field more is written, and one less is left
-pub field-more : (t all bs : List ℕ) (ns rest : List (Bor (List ℕ))) (fs left : List Field) (n : Bor (List ℕ)) (f : Field) → ns ≡ n ∷ rest → fs ≡ f ∷ left
-    → t ++ bytes_text (spelt ns) fs bs ≡ all → (t ++ field_text n.now (form_of f) (got bs f)) ++ bytes_text (spelt rest) left bs ≡ all
+pub field-more : (t all bs : List ℕ) (ns rest : List (Bor (List ℕ))) (fs left : List Field) (n : Bor (List ℕ))
+    (f : Field) → ns ≡ n ∷ rest → fs ≡ f ∷ left
+    → t ++ bytes_text (spelt ns) fs bs ≡ all → (t ++ field_text n.now (form_of f) (got bs f))
+    ++ bytes_text (spelt rest) left bs ≡ all
 field-more t all bs ns rest fs left n f e g inv =
     append_assoc t (field_text n.now (form_of f) (got bs f)) (bytes_text (spelt rest) left bs)
     ∙ ap (λ us. t ++ bytes_text (spelt (n ∷ rest)) us bs) (sym g)
@@ -27,22 +29,29 @@ ended : (t all left : List ℕ) → left ≡ [] → t ++ left ≡ all → t ≡ 
 ended t all left e inv = sym (append-nil t) ∙ ap (λ x. t ++ x) (sym e) ∙ inv
 
 -- either side has ended
-pub fields-done : {X Y : Type 0} {P : X → Type 0} {Q : Y → Type 0} (t all bs : List ℕ) (ns : List (Bor (List ℕ))) (fs : List Field)
-    → ((x : X) × ((length ns ≡ 0) × P x)) ⊎ ((y : Y) × ((length fs ≡ 0) × Q y)) → t ++ bytes_text (spelt ns) fs bs ≡ all → t ≡ all
-fields-done t all bs ns fs (inl h) inv = ended t all _ (ap (λ ms. bytes_text (spelt ms) fs bs) (nil_from_length ns h.1.0)) inv
-fields-done t all bs ns fs (inr h) inv = ended t all _ (ap (λ us. bytes_text (spelt ns) us bs) (nil_from_length fs h.1.0) ∙ no_fields (spelt ns) bs) inv
+pub fields-done : {X Y : Type 0} {P : X → Type 0} {Q : Y → Type 0} (t all bs : List ℕ) (ns : List (Bor (List ℕ)))
+    (fs : List Field)
+    → ((x : X) × ((length ns ≡ 0) × P x)) ⊎ ((y : Y) × ((length fs ≡ 0) × Q y)) → t ++ bytes_text (spelt ns) fs bs
+    ≡ all → t ≡ all
+fields-done t all bs ns fs (inl h) inv =
+    ended t all _ (ap (λ ms. bytes_text (spelt ms) fs bs) (nil_from_length ns h.1.0)) inv
+fields-done t all bs ns fs (inr h) inv =
+    ended t all _ (ap (λ us. bytes_text (spelt ns) us bs) (nil_from_length fs h.1.0) ∙ no_fields (spelt ns) bs) inv
 
 -- the first of the fields left is within, and so are the others
 pub within_rest : (n : ℕ) (fs left : List Field) (f : Field) → fs ≡ f ∷ left → within n fs ≡ true → within n left ≡ true
 within_rest n fs left f e h = (and_parts (nat_le (span f) n) (within n left) (ap (within n) (sym e) ∙ h)).1
 
 -- what the fields hold is what stands in the bytes
-fields_shown : (ns : List (List ℕ)) (fs : List Field) (vs : List Content) (bs : List ℕ) → Says vs fs bs → bytes_text ns fs bs ≡ fields_text ns fs vs
+fields_shown : (ns : List (List ℕ)) (fs : List Field) (vs : List Content) (bs : List ℕ) → Says vs fs bs
+    → bytes_text ns fs bs ≡ fields_text ns fs vs
 fields_shown [] fs vs bs h = refl
 fields_shown (n ∷ ns) [] vs bs h = refl
 fields_shown (n ∷ ns) (f ∷ fs) [] bs h = absurd h
 fields_shown (n ∷ ns) (f ∷ fs) (v ∷ vs) bs h =
-    ap (λ c. field_text n (form_of f) c ++ bytes_text ns fs bs) (sym h.0) ∙ ap (λ t. field_text n (form_of f) v ++ t) (fields_shown ns fs vs bs h.1)
+    ap (λ c. field_text n (form_of f) c ++ bytes_text ns fs bs) (sym h.0) ∙ ap (λ t. field_text n (form_of f) v ++ t)
+    (fields_shown ns fs vs bs h.1)
 
-pub says_shown : (k : Kind) (vs : List Content) (bs : List ℕ) → Says vs (table_of k) bs → shown_text k bs ≡ message_text k vs
+pub says_shown : (k : Kind) (vs : List Content) (bs : List ℕ) → Says vs (table_of k) bs → shown_text k bs
+    ≡ message_text k vs
 says_shown k vs bs h = ap (λ t. title_of k ++ t) (fields_shown (names_of k) (table_of k) vs bs h)

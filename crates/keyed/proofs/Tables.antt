@@ -29,7 +29,8 @@ module _ {X V : Type 0} (key : X → ℕ) (val : X → V) where
       → distinct key val (xs ++ y ∷ []) ≡ true
   pushed_apart xs y u new =
       looks.distinct-to key val _
-      (looks.distinct_push key val xs y (looks.distinct_from key val xs u) (sym (maps.get-keyed key val xs (key y)) ∙ new))
+      (looks.distinct_push key val xs y (looks.distinct_from key val xs u)
+      (sym (maps.get-keyed key val xs (key y)) ∙ new))
 
   -- a row gone
   pub removed : (xs : List X) (i n : ℕ) → distinct key val xs ≡ true → Found key val xs n (Some i)
@@ -37,18 +38,22 @@ module _ {X V : Type 0} (key : X → ℕ) (val : X → V) where
   removed xs i n u f = maps.keyed-without key val xs i n (looks.distinct_from key val xs u) f
 
   pub removed_apart : (xs : List X) (i : ℕ) → distinct key val xs ≡ true → distinct key val (remove xs i) ≡ true
-  removed_apart xs i u = looks.distinct-to key val _ (looks.distinct_without key val xs i (looks.distinct_from key val xs u))
+  removed_apart xs i u =
+      looks.distinct-to key val _ (looks.distinct_without key val xs i (looks.distinct_from key val xs u))
 
   -- a row written over by one of its number
   pub rewritten : (xs : List X) (i n : ℕ) (y : X) → Found key val xs n (Some i) → key y ≡ n
       → keyed key val (slice_set xs i y) ≡ put (keyed key val xs) n (Some (val y))
   rewritten xs i n y f e = maps.keyed-set key val xs i n y f e
 
-  pub rewritten_apart : (xs : List X) (i n : ℕ) (y : X) → distinct key val xs ≡ true → Found key val xs n (Some i) → key y ≡ n
+  pub rewritten_apart : (xs : List X) (i n : ℕ) (y : X) → distinct key val xs ≡ true → Found key val xs n (Some i)
+      → key y ≡ n
       → distinct key val (slice_set xs i y) ≡ true
   rewritten_apart xs i n y u f e =
-      looks.distinct-to key val _ (looks.distinct-set key val xs i y (λ d lt. f.2 d ∙ sym e) (looks.distinct_from key val xs u))
+      looks.distinct-to key val _ (looks.distinct-set key val xs i y (λ d lt. f.2 d ∙ sym e)
+      (looks.distinct_from key val xs u))
 
   -- what stands under the number of the row at a place
-  pub stands_at : (xs : List X) (i n : ℕ) (d : X) → Found key val xs n (Some i) → get (keyed key val xs) n ≡ Some (val (slice_index_or xs i d))
+  pub stands_at : (xs : List X) (i n : ℕ) (d : X) → Found key val xs n (Some i) → get (keyed key val xs) n
+      ≡ Some (val (slice_index_or xs i d))
   stands_at xs i n d f = maps.keyed_at key val xs i n d f

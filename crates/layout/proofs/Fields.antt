@@ -23,11 +23,13 @@ said_fits f n h =
 pub printable_said : (f : List ℕ) → all_printable (said f) ≡ true
 printable_said f = printable-said f
 
-pub text_bytes : {N : ℕ} (at : ℕ) (t : Text N) → t.field.now ≡ field_bytes (field.Always at (form.Text N)) (words (says t))
+pub text_bytes : {N : ℕ} (at : ℕ) (t : Text N) → t.field.now
+    ≡ field_bytes (field.Always at (form.Text N)) (words (says t))
 unfolding field_bytes
 text_bytes at t = sym (rw (← t.wide) (padded-said t.field.now t.text))
 
 -- and so is a name
-pub name_bytes : {N : ℕ} (at : ℕ) (n : Name N) → n.text.field.now ≡ field_bytes (field.Always at (form.Name N)) (words (says n.text))
+pub name_bytes : {N : ℕ} (at : ℕ) (n : Name N) → n.text.field.now
+    ≡ field_bytes (field.Always at (form.Name N)) (words (says n.text))
 unfolding field_bytes
 name_bytes at n = sym (rw (← n.text.wide) (padded-said n.text.field.now n.text.text))

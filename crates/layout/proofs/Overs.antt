@@ -14,11 +14,20 @@ pub put_over : (b : List ℕ) (at k : ℕ) (ys zs : List ℕ) → ys ≡ zs → 
 put_over b at k ys zs e h = put_mid-paste at k b ys zs (length zs) e h refl ∙ paste_over b at zs (length zs) refl
 
 -- a write right behind the front p of a buffer
-pub over_front : (p b : List ℕ) (n : ℕ) (s : List ℕ) → length p ≡ n → over (p ++ drop n b) n s ≡ (p ++ s) ++ drop (n + length s) b
+pub over_front : (p b : List ℕ) (n : ℕ) (s : List ℕ) → length p ≡ n → over (p ++ drop n b) n s ≡ (p ++ s)
+    ++ drop (n + length s) b
 unfolding over
-over_front p b n s h = rw (take_at p (drop n b) n h, ← drop-drop (length s) n (p ++ drop n b), drop_at p (drop n b) n h, drop-drop (length s) n b)
+over_front p b n s h =
+    rw (
+      take_at p (drop n b) n h,
+      ← drop-drop (length s) n (p ++ drop n b),
+      drop_at p (drop n b) n h,
+      drop-drop
+          (length s) n b,
+    )
 
-pub over_over : (b : List ℕ) (at : ℕ) (s t : List ℕ) → at ≤ length b → over (over b at s) (at + length s) t ≡ over b at (s ++ t)
+pub over_over : (b : List ℕ) (at : ℕ) (s t : List ℕ) → at ≤ length b → over (over b at s) (at + length s) t
+    ≡ over b at (s ++ t)
 unfolding over
 over_over b at s t h =
     let l : length (take at b ++ s) ≡ at + length s = rw (length-append (take at b) s, length-take-le at b h) in

@@ -4,11 +4,13 @@ use Rattle.std.proofs.lemmas.List.{drop_all}
 use Rattle.layout.specs.declared.field.Field.{Field}
 use Rattle.layout.specs.Layout.{first_bad, within, ok, place, span, AllOk}
 
-pub first_bad-drop : (fs : List Field) (bs : List ℕ) (i : ℕ) (d : Field) → i < length fs → first_bad (drop i fs) bs ≡ cond (ok bs (get_or fs i d)) (first_bad (drop (i + 1) fs) bs) (Some (place (get_or fs i d)))
+pub first_bad-drop : (fs : List Field) (bs : List ℕ) (i : ℕ) (d : Field) → i < length fs → first_bad (drop i fs) bs
+    ≡ cond (ok bs (get_or fs i d)) (first_bad (drop (i + 1) fs) bs) (Some (place (get_or fs i d)))
 unfolding first_bad
 first_bad-drop fs bs i d h = rw (add-one, drop-cons fs i d h)
 
-pub within-drop : (fs : List Field) (n i : ℕ) (d : Field) → i < length fs → within n (drop i fs) ≡ (leb (span (get_or fs i d)) n && within n (drop (i + 1) fs))
+pub within-drop : (fs : List Field) (n i : ℕ) (d : Field) → i < length fs → within n (drop i fs)
+    ≡ (leb (span (get_or fs i d)) n && within n (drop (i + 1) fs))
 within-drop fs n i d h = rw (add-one, drop-cons fs i d h)
 
 pub first_bad-end : (fs : List Field) (bs : List ℕ) (i : ℕ) → length fs ≤ i → first_bad (drop i fs) bs ≡ None

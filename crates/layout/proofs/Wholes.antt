@@ -41,7 +41,8 @@ form_wide (Code cs) v h = refl
 form_wide Alpha v h = refl
 form_wide (Reserved w) v h = length-replicate {A = ℕ} w 0
 
-wide_by : (b : Bool) (f : Field) (v : Content) → (b ≡ false → HoldsForm (form_of f) v) → absent v ≡ b → length (cond b (replicate (width f) 0) (bytes_of (form_of f) v)) ≡ width f
+wide_by : (b : Bool) (f : Field) (v : Content) → (b ≡ false → HoldsForm (form_of f) v) → absent v ≡ b
+    → length (cond b (replicate (width f) 0) (bytes_of (form_of f) v)) ≡ width f
 wide_by true f v h e = length-replicate {A = ℕ} (width f) 0
 wide_by false f v h e = form_wide (form_of f) v (h refl)
 
@@ -56,7 +57,8 @@ field_wide at (When here f other cs) v h =
     wide_by (absent v) (When here f other cs) v (λ e. held_or (taken (at other) (listed cs)) f v h e) refl
 
 -- a table that is tiled, written behind the front p
-behind : (at : ℕ → ℕ) (fs : List Field) (vs : List Content) (p b : List ℕ) (n end : ℕ) → length p ≡ n → tiled n end fs ≡ true → HoldsAll at fs vs → over_all fs vs (p ++ drop n b) ≡ p ++ (encode fs vs ++ drop end b)
+behind : (at : ℕ → ℕ) (fs : List Field) (vs : List Content) (p b : List ℕ) (n end : ℕ) → length p ≡ n → tiled n end fs
+    ≡ true → HoldsAll at fs vs → over_all fs vs (p ++ drop n b) ≡ p ++ (encode fs vs ++ drop end b)
 unfolding encode
 behind at [] vs p b n end l t h = rw (eqb-true n end t)
 behind at (f ∷ fs) [] p b n end l t h = absurd h
@@ -70,7 +72,8 @@ behind at (f ∷ fs) (v ∷ vs) p b n end l t h =
     ap (over_all fs vs) s ∙ behind at fs vs (p ++ field_bytes f v) b (n + width f) end l' q.1 h.1 ∙ simp append_assoc
 
 -- a whole message, its header first
-pub whole : (letter total : ℕ) (fs : List Field) (vs : List Content) (b c d : List ℕ) → tiled 4 total fs ≡ true → HoldsIn fs vs
+pub whole : (letter total : ℕ) (fs : List Field) (vs : List Content) (b c d : List ℕ) → tiled 4 total fs ≡ true
+    → HoldsIn fs vs
     → c ≡ over b 0 (header letter total) → d ≡ over_all fs vs c → Wrote letter total fs vs b d
 unfolding over
 whole letter total fs vs b c d t h e k =

@@ -9,7 +9,8 @@ use Rattle.line.specs.Conservation.{Move, Moved, Made, of, Conserves}
 use Rattle.line.specs.Runs.{Runs}
 use Rattle.call.specs.declared.venue_side.Done.{Done}
 
-runs_made : (s : State) (ds : List Done) (w : State) → Runs s ds w → (ms : List Move) × Made s ds w ms × Moved s.venue.rows ms w.venue.rows
+runs_made : (s : State) (ds : List Done) (w : State) → Runs s ds w → (ms : List Move) × Made s ds w ms
+    × Moved s.venue.rows ms w.venue.rows
 runs_made s [] w e = ([], (e, refl), ap (λ (z : State). z.venue.rows) e)
 runs_made s (d ∷ ds) w (x, h, k, r) =
     let (now, f, may) = call_moves s d x h in

@@ -127,9 +127,11 @@ RecoverDoes s c bytes y =
 left_err : (r : Result ℕ GatewayFault) (f : GatewayFault) (out : List ℕ) → r ≡ Err f → left r out ≡ []
 left_err r f out e = ap (λ (z : Result ℕ GatewayFault). left z out) e
 
-left_ok : (r : Result ℕ GatewayFault) (bytes buffer out : List ℕ) → r ≡ Ok (length bytes) → out ≡ fronted bytes buffer → left r out ≡ bytes
+left_ok : (r : Result ℕ GatewayFault) (bytes buffer out : List ℕ) → r ≡ Ok (length bytes) → out ≡ fronted bytes buffer
+    → left r out ≡ bytes
 left_ok r bytes buffer out e f =
-    ap (λ (z : Result ℕ GatewayFault). left z out) e ∙ ap (λ (z : List ℕ). take (length bytes) z) f ∙ take-append_seam bytes (drop (length bytes) buffer)
+    ap (λ (z : Result ℕ GatewayFault). left z out) e ∙ ap
+    (λ (z : List ℕ). take (length bytes) z) f ∙ take-append_seam bytes (drop (length bytes) buffer)
 
 left_zero : (r : Result ℕ GatewayFault) (out : List ℕ) → r ≡ Ok 0 → left r out ≡ []
 left_zero r out e = ap (λ (z : Result ℕ GatewayFault). left z out) e
@@ -154,38 +156,49 @@ module _ (line : ℕ) (P : List ℕ → SessionState → Type 0) where
   Makes (Answered a u) = P (answer_bytes a) (session u line)
   Makes (Reported most u) = P [] (session u line)
 
-  made : (bytes : List ℕ) (u w : State) (r : Result ℕ GatewayFault) (out : List ℕ) → left r out ≡ bytes → w ≡ u → P bytes (session u line) → P (left r out) (session w line)
+  made : (bytes : List ℕ) (u w : State) (r : Result ℕ GatewayFault) (out : List ℕ) → left r out ≡ bytes → w ≡ u
+      → P bytes (session u line) → P (left r out) (session w line)
   made bytes u w r out e f h =
       subst (λ (z : List ℕ). P z (session w line)) (sym e) (subst (λ (z : State). P bytes (session z line)) (sym f) h)
 
-  placed : (s : State) (bytes : List ℕ) (x : SessionState) → line < length s.lines → P bytes x → P bytes (session (with_session s line x) line)
+  placed : (s : State) (bytes : List ℕ) (x : SessionState) → line < length s.lines → P bytes x
+      → P bytes (session (with_session s line x) line)
   placed s bytes x there h = subst (P bytes) (sym (set_here line s x there)) h
 
-  settled_makes : (o : Outcome) (buffer : List ℕ) (r : Result ℕ GatewayFault) (w : State) (out : List ℕ) → Makes o → Settled o buffer r w out → P (left r out) (session w line)
-  settled_makes (Answered a u) buffer r w out h (e, f, g) = made (answer_bytes a) u w r out (left_ok r (answer_bytes a) buffer out e g) f h
-  settled_makes (Reported most u) buffer r w out h (e, (f, l), g) = made [] (with_venue u w.venue) w r out (left_zero r out e) f h
+  settled_makes : (o : Outcome) (buffer : List ℕ) (r : Result ℕ GatewayFault) (w : State) (out : List ℕ) → Makes o
+      → Settled o buffer r w out → P (left r out) (session w line)
+  settled_makes (Answered a u) buffer r w out h (e, f, g) =
+      made (answer_bytes a) u w r out (left_ok r (answer_bytes a) buffer out e g) f h
+  settled_makes (Reported most u) buffer r w out h (e, (f, l), g) =
+      made [] (with_venue u w.venue) w r out (left_zero r out e) f h
 
 -- it holds of each thing that a message can come to, on a line that there is
 record Holds (line : ℕ) (P : List ℕ → SessionState → Type 0) (ch : Channel) (bs : List ℕ) (s : State) : Type 0 where
   rejects : (code : ℕ) (m : Message) → P (answer_bytes (rejection code m)) (session s line)
   opens : (m : Logon) → Makes line P (answered (logon ch line m s))
-  asks : (m : MissedMessageRequest) → Reads (reader_of ch) bs (message.MissedMessageRequest m) → on ch (session s line) ≡ true → Makes line P (missed_on ch line m s)
+  asks : (m : MissedMessageRequest) → Reads (reader_of ch) bs (message.MissedMessageRequest m) → on ch (session s line)
+      ≡ true → Makes line P (missed_on ch line m s)
   closes : (t : Time) → Makes line P (logout ch line t s)
 
-module _ (line : ℕ) (P : List ℕ → SessionState → Type 0) (ch : Channel) (bs : List ℕ) (s : State) (same : P [] (session s line)) where
+module _ (line : ℕ) (P : List ℕ → SessionState → Type 0) (ch : Channel) (bs : List ℕ) (s : State)
+    (same : P [] (session s line)) where
   module _ (h : Holds line P ch bs s) where
     asked_makes : (m : Message) (o : Requested) → Makes line P (requested_as m s o)
     asked_makes m (Refused t) = h.rejects (turned_number t) m
     asked_makes m (Did most v) = same
 
-    where_on : (m : Message) (b : Bool) (o : Outcome) → on ch (session s line) ≡ b → (on ch (session s line) ≡ true → Makes line P o) → Makes line P (cond b o (Answered (rejection (session_number NotLoggedOn) m) s))
+    where_on : (m : Message) (b : Bool) (o : Outcome) → on ch (session s line) ≡ b
+        → (on ch (session s line) ≡ true → Makes line P o)
+        → Makes line P (cond b o (Answered (rejection (session_number NotLoggedOn) m) s))
     where_on m true o e f = f e
     where_on m false o e f = h.rejects (session_number NotLoggedOn) m
 
-    silence : (m : Message) → Makes line P (cond (on ch (session s line)) (Answered Silent s) (Answered (rejection (session_number NotLoggedOn) m) s))
+    silence : (m : Message) → Makes line P (cond (on ch (session s line)) (Answered Silent s)
+        (Answered (rejection (session_number NotLoggedOn) m) s))
     silence m = where_on m (on ch (session s line)) (Answered Silent s) refl (λ e. same)
 
-    asked : (m : Message) (o : Requested) → Makes line P (cond (on ch (session s line)) (requested_as m s o) (Answered (rejection (session_number NotLoggedOn) m) s))
+    asked : (m : Message) (o : Requested) → Makes line P
+        (cond (on ch (session s line)) (requested_as m s o) (Answered (rejection (session_number NotLoggedOn) m) s))
     asked m o = where_on m (on ch (session s line)) (requested_as m s o) refl (λ e. asked_makes m o)
 
     heard_makes : (m : Message) (t : Time) → Reads (reader_of ch) bs m → Makes line P (heard ch line m t s)
@@ -194,7 +207,8 @@ module _ (line : ℕ) (P : List ℕ → SessionState → Type 0) (ch : Channel) 
     heard_makes (message.OrderCancelRequest m) t reads = asked (message.OrderCancelRequest m) _
     heard_makes (message.OrderCancelReplaceRequest m) t reads = asked (message.OrderCancelReplaceRequest m) _
     heard_makes (message.OrderMassCancelRequest m) t reads = asked (message.OrderMassCancelRequest m) _
-    heard_makes (message.MissedMessageRequest m) t reads = where_on (message.MissedMessageRequest m) (on ch (session s line)) _ refl (λ e. h.asks m reads e)
+    heard_makes (message.MissedMessageRequest m) t reads =
+        where_on (message.MissedMessageRequest m) (on ch (session s line)) _ refl (λ e. h.asks m reads e)
     heard_makes (message.Logout m) t reads = where_on (message.Logout m) (on ch (session s line)) _ refl (λ e. h.closes t)
     heard_makes (message.LogonReply m) t reads = silence (message.LogonReply m)
     heard_makes (message.Heartbeat m) t reads = silence (message.Heartbeat m)
@@ -206,12 +220,16 @@ module _ (line : ℕ) (P : List ℕ → SessionState → Type 0) (ch : Channel) 
     heard_makes (message.OrderMassCancelReport m) t reads = silence (message.OrderMassCancelReport m)
 
   -- a call that takes a message
-  module _ (t : Time) (buffer : List ℕ) (r : Result ℕ GatewayFault) (w : State) (out : List ℕ) (ready : line < length s.lines → Holds line P ch bs s) where
-    read_makes : (o : Option Fault) → line < length s.lines → Read o ch line bs t s buffer r w out → P (left r out) (session w line)
+  module _ (t : Time) (buffer : List ℕ) (r : Result ℕ GatewayFault) (w : State) (out : List ℕ)
+      (ready : line < length s.lines → Holds line P ch bs s) where
+    read_makes : (o : Option Fault) → line < length s.lines → Read o ch line bs t s buffer r w out
+        → P (left r out) (session w line)
     read_makes (Some f) there (e, g, k) = made line P [] s w r out (left_err r _ out e) g same
-    read_makes None there (m, reads, k) = settled_makes line P (heard ch line m t s) buffer r w out (heard_makes (ready there) m t reads) k
+    read_makes None there (m, reads, k) =
+        settled_makes line P (heard ch line m t s) buffer r w out (heard_makes (ready there) m t reads) k
 
-    given_makes : (o : Option GatewayFault) → call_fault (length buffer) line s ≡ o → Given o ch line bs t s buffer r w out → P (left r out) (session w line)
+    given_makes : (o : Option GatewayFault) → call_fault (length buffer) line s ≡ o
+        → Given o ch line bs t s buffer r w out → P (left r out) (session w line)
     given_makes (Some f) n (e, g, k) = made line P [] s w r out (left_err r f out e) g same
     given_makes None n k = read_makes (verdict (reader_of ch) bs) (call_there (length buffer) line s n) k
 
@@ -219,19 +237,26 @@ module _ (line : ℕ) (P : List ℕ → SessionState → Type 0) (ch : Channel) 
     hears_makes k = given_makes (call_fault (length buffer) line s) refl k
 
   -- a call that hands something out
-  hands_makes : (o : Option GatewayFault) (h : Handed) (buffer : List ℕ) (r : Result ℕ GatewayFault) (w : State) (out : List ℕ)
+  hands_makes : (o : Option GatewayFault) (h : Handed) (buffer : List ℕ) (r : Result ℕ GatewayFault) (w : State)
+      (out : List ℕ)
       → (o ≡ None → P h.bytes (session h.after line)) → Hands o h s buffer r w out → P (left r out) (session w line)
   hands_makes (Some f) h buffer r w out after (e, g, k) = made line P [] s w r out (left_err r f out e) g same
-  hands_makes None h buffer r w out after (e, g, k) = made line P h.bytes h.after w r out (left_ok r h.bytes buffer out e k) g (after refl)
+  hands_makes None h buffer r w out after (e, g, k) =
+      made line P h.bytes h.after w r out (left_ok r h.bytes buffer out e k) g (after refl)
 
 -- what a Missed Message Request comes to, on a line that there is
-module _ (line : ℕ) (P : List ℕ → SessionState → Type 0) (s : State) (m : MissedMessageRequest) (there : line < length s.lines)
-    (turned : P (answer_bytes (rejection (request_number DownloadRuns) (message.MissedMessageRequest m))) (session s line))
+module _ (line : ℕ) (P : List ℕ → SessionState → Type 0) (s : State) (m : MissedMessageRequest)
+    (there : line < length s.lines)
+    (turned : P (answer_bytes (rejection (request_number DownloadRuns) (message.MissedMessageRequest m)))
+    (session s line))
     (refused : (a : AckResponse) → Grants (Ack a) ≡ false → P (answer_bytes (Ack a)) (session s line))
-    (granted : (p : Partition) → partition_of m.partition ≡ Some p → (session s line).download ≡ None → (session s line).used < REQUESTS
+    (granted : (p : Partition) → partition_of m.partition ≡ Some p → (session s line).download ≡ None
+    → (session s line).used < REQUESTS
     → P (answer_bytes (Ack Successful)) (begins s.venue.kept p m (session s line))) where
-  counted_makes : (p : Partition) (b : Bool) → partition_of m.partition ≡ Some p → (session s line).download ≡ None → nat_le REQUESTS (session s line).used ≡ b
-      → Makes line P (missed_by (Ok (cond b (session s line, LimitReached) (begins s.venue.kept p m (session s line), Successful))) line m s)
+  counted_makes : (p : Partition) (b : Bool) → partition_of m.partition ≡ Some p → (session s line).download ≡ None
+      → nat_le REQUESTS (session s line).used ≡ b
+      → Makes line P (missed_by (Ok (cond b (session s line, LimitReached)
+      (begins s.venue.kept p m (session s line), Successful))) line m s)
   counted_makes p true e f g = placed line P s _ (session s line) there (refused LimitReached refl)
   counted_makes p false e f g = placed line P s _ _ there (granted p e f (leb-false REQUESTS (session s line).used g))
 
@@ -241,7 +266,9 @@ module _ (line : ℕ) (P : List ℕ → SessionState → Type 0) (s : State) (m 
   named_makes (Some p) e f = counted_makes p (nat_le REQUESTS (session s line).used) e f refl
 
   idle_makes : (d : Option Download) → (session s line).download ≡ d
-      → Makes line P (missed_by (cond (is_some d) (Err DownloadRuns) (Ok (acknowledged (partition_of m.partition) m.last.value (last_of s.venue.kept (partition_of m.partition)) (session s line)))) line m s)
+      → Makes line P (missed_by (cond (is_some d) (Err DownloadRuns)
+      (Ok (acknowledged (partition_of m.partition) m.last.value (last_of s.venue.kept (partition_of m.partition))
+      (session s line)))) line m s)
   idle_makes (Some d) e = turned
   idle_makes None e = named_makes (partition_of m.partition) refl e
 
@@ -261,11 +288,14 @@ reject_apart code m = apart 3 (answer_bytes (rejection code m)) (λ e. let z : �
 
 again_apart : answer_bytes (LogonReply (pos (logon_number AlreadyOn))) ≢ accepted_bytes
 unfolding encode field_bytes
-again_apart = apart 4 (answer_bytes (LogonReply (pos (logon_number AlreadyOn)))) (λ e. let z : ◌≡◌ {A = ℕ} 12 0 = e in omega arith)
+again_apart =
+    apart 4 (answer_bytes (LogonReply (pos (logon_number AlreadyOn))))
+    (λ e. let z : ◌≡◌ {A = ℕ} 12 0 = e in omega arith)
 
 unknown_apart : answer_bytes (LogonReply (pos BAD_CREDENTIALS)) ≢ accepted_bytes
 unfolding encode field_bytes
-unknown_apart = apart 4 (answer_bytes (LogonReply (pos BAD_CREDENTIALS))) (λ e. let z : ◌≡◌ {A = ℕ} 11 0 = e in omega arith)
+unknown_apart =
+    apart 4 (answer_bytes (LogonReply (pos BAD_CREDENTIALS))) (λ e. let z : ◌≡◌ {A = ℕ} 11 0 = e in omega arith)
 
 -- ---- a real-time message
 
@@ -281,7 +311,8 @@ module _ (line : ℕ) (s : State) (sound : Sound (session s line)) where
   idle e = no_download (session s line).download (λ d. true≢false (sym (sound.1 (sound.2 d)) ∙ e))
 
   real_opens : line < length s.lines → (known b : Bool) → (session s line).real_time ≡ b
-      → Makes line Tells (answered (admitted known line s (cond b (Err AlreadyOn) (Ok (opened s.venue.kept (session s line))))))
+      → Makes line Tells (answered (admitted known line s
+      (cond b (Err AlreadyOn) (Ok (opened s.venue.kept (session s line))))))
   real_opens there known true e = inr (again_apart, inl (refl, refl))
   real_opens there true false e = placed line Tells s accepted_bytes _ there (inl (refl, (refl, idle e)))
   real_opens there false false e = inr (unknown_apart, inl (refl, refl))
@@ -294,10 +325,12 @@ module _ (line : ℕ) (s : State) (sound : Sound (session s line)) where
     closes = λ t. placed line Tells s [] (closed (session s line)) there (inr (nothing_apart, inr (refl, refl)));
   }
 
-pub effect_realtime : (c : ℕ) (s : State) (bs : Bor (List ℕ)) (t : Time) (r : Reply) (w : State) → Sound (session s c) → Does s (done.RealTime c bs t r) w
+pub effect_realtime : (c : ℕ) (s : State) (bs : Bor (List ℕ)) (t : Time) (r : Reply) (w : State) → Sound (session s c)
+    → Does s (done.RealTime c bs t r) w
     → RealTimeDoes s.venue.kept (bytes_of r) (session s c) (session w c)
 effect_realtime c s bs t r w sound k =
-    hears_makes c (Tells c s sound) RealTime bs.now s (inr (nothing_apart, inl (refl, refl))) t blank r.answer w r.buffer (real_holds c s sound bs.now) k
+    hears_makes c (Tells c s sound) RealTime bs.now s
+    (inr (nothing_apart, inl (refl, refl))) t blank r.answer w r.buffer (real_holds c s sound bs.now) k
 
 -- ---- a recovery message
 
@@ -309,13 +342,16 @@ module _ (line : ℕ) (bs : List ℕ) (s : State) where
   stays_by a e = inr (a, refl, e, inl (refl, refl))
 
   recovery_on : line < length s.lines → (known b : Bool)
-      → Makes line Replies (answered (admitted known line s (cond b (Ok (recovering (session s line))) (Err RecoveryBeforeRealTime))))
+      → Makes line Replies (answered (admitted known line s
+      (cond b (Ok (recovering (session s line))) (Err RecoveryBeforeRealTime))))
   recovery_on there known false = stays_by (LogonReply (pos (logon_number RecoveryBeforeRealTime))) refl
   recovery_on there true true = placed line Replies s _ _ there (inr (LogonReply (pos 0), refl, refl, inl (refl, refl)))
   recovery_on there false true = stays_by (LogonReply (pos BAD_CREDENTIALS)) refl
 
   recovery_opens : line < length s.lines → (known b : Bool)
-      → Makes line Replies (answered (admitted known line s (cond b (Err AlreadyOn) (cond (session s line).real_time (Ok (recovering (session s line))) (Err RecoveryBeforeRealTime)))))
+      → Makes line Replies (answered (admitted known line s
+      (cond b (Err AlreadyOn) (cond (session s line).real_time (Ok (recovering (session s line)))
+      (Err RecoveryBeforeRealTime)))))
   recovery_opens there known true = stays_by (LogonReply (pos (logon_number AlreadyOn))) refl
   recovery_opens there known false = recovery_on there known (session s line).real_time
 
@@ -328,13 +364,16 @@ module _ (line : ℕ) (bs : List ℕ) (s : State) where
         (stays_by (rejection (request_number DownloadRuns) (message.MissedMessageRequest m)) refl)
         (λ a g. stays_by (Ack a) g)
         (λ p named none few. inl (m, p, reads, named, refl, none, refl, refl));
-    closes = λ t. placed line Replies s [] (recovery_closed (session s line)) there (inr (Silent, refl, refl, inr (refl, refl)));
+    closes = λ t. placed line Replies s [] (recovery_closed (session s line)) there
+        (inr (Silent, refl, refl, inr (refl, refl)));
   }
 
-pub effect_recovery : (c : ℕ) (s : State) (bs : Bor (List ℕ)) (t : Time) (r : Reply) (w : State) → Does s (done.Recovery c bs t r) w
+pub effect_recovery : (c : ℕ) (s : State) (bs : Bor (List ℕ)) (t : Time) (r : Reply) (w : State)
+    → Does s (done.Recovery c bs t r) w
     → RecoveryDoes s.venue.kept bs.now (bytes_of r) (session s c) (session w c)
 effect_recovery c s bs t r w k =
-    hears_makes c (Replies c bs.now s) Recovery bs.now s (stays_by c bs.now s Silent refl) t blank r.answer w r.buffer (recovery_holds c bs.now s) k
+    hears_makes c (Replies c bs.now s) Recovery bs.now s (stays_by c bs.now s Silent refl) t blank r.answer w r.buffer
+    (recovery_holds c bs.now s) k
 
 -- ---- a lost line, and what is handed out
 
@@ -342,10 +381,12 @@ closing : (Q : SessionState → Type 0) (line : ℕ) (s : State) (t : Time) (r :
     → Q (session s line) → Q (closed (session s line)) → Loses line t s r w → Q (session w line)
 closing Q line s t (Ok u) w same shut (x, (e, l)) =
     let there = line_there line s (first_none (line_fault line s) _ x) in
-    subst (λ (z : State). Q (session z line)) (sym e) (subst Q (sym (set_here line s (closed (session s line)) there)) shut)
+    subst (λ (z : State). Q (session z line)) (sym e)
+    (subst Q (sym (set_here line s (closed (session s line)) there)) shut)
 closing Q line s t (Err f) w same shut (x, e) = subst (λ (z : State). Q (session z line)) (sym e) same
 
-pub effect_lost : (c : ℕ) (s : State) (t : Time) (r : Result (Unit {0}) GatewayFault) (w : State) → Does s (done.LineLost c t r) w
+pub effect_lost : (c : ℕ) (s : State) (t : Time) (r : Result (Unit {0}) GatewayFault) (w : State)
+    → Does s (done.LineLost c t r) w
     → Stays (session s c) (session w c) ⊎ Closes (session s c) (session w c)
 effect_lost c s t r w k =
     closing (λ y. Stays (session s c) y ⊎ Closes (session s c) y) c s t r w (inl (refl, refl)) (inr (refl, refl)) k
@@ -353,21 +394,26 @@ effect_lost c s t r w k =
 sends_there : (ch : Channel) (line : ℕ) (s : State) → send_fault ch (length blank) line s ≡ None → line < length s.lines
 sends_there ch line s e = call_there (length blank) line s (first_none (call_fault (length blank) line s) _ e)
 
-pub effect_send : (c : ℕ) (s : State) (r : Reply) (w : State) → Does s (done.Send c r) w → SendDoes s c (bytes_of r) (session w c)
+pub effect_send : (c : ℕ) (s : State) (r : Reply) (w : State) → Does s (done.Send c r) w
+    → SendDoes s c (bytes_of r) (session w c)
 effect_send c s r w k =
     let x = session s c in
     let marked = with_sent x (sent_after s.venue.kept c x.sent) in
-    hands_makes c (SendDoes s c) RealTime [] s (inl (refl, (refl, refl))) (send_fault RealTime (length blank) c s) (live_handed c s) blank r.answer w r.buffer
+    hands_makes c (SendDoes s c) RealTime [] s (inl (refl, (refl, refl))) (send_fault RealTime (length blank) c s)
+    (live_handed c s) blank r.answer w r.buffer
     (λ e. placed c (SendDoes s c) s _ marked (sends_there RealTime c s e) (inr (refl, refl, refl, e))) k
 
-pub effect_recover : (c : ℕ) (s : State) (r : Reply) (w : State) → Does s (done.SendRecovered c r) w → RecoverDoes s c (bytes_of r) (session w c)
+pub effect_recover : (c : ℕ) (s : State) (r : Reply) (w : State) → Does s (done.SendRecovered c r) w
+    → RecoverDoes s c (bytes_of r) (session w c)
 effect_recover c s r w k =
     let x = session s c in
     let rest = with_download x (recovered s.venue.kept c x.download).1 in
-    hands_makes c (RecoverDoes s c) Recovery [] s (inl (refl, (refl, refl))) (send_fault Recovery (length blank) c s) (recovery_handed c s) blank r.answer w r.buffer
+    hands_makes c (RecoverDoes s c) Recovery [] s (inl (refl, (refl, refl))) (send_fault Recovery (length blank) c s)
+    (recovery_handed c s) blank r.answer w r.buffer
     (λ e. placed c (RecoverDoes s c) s _ rest (sends_there Recovery c s e) (inr (refl, refl, refl, e))) k
 
-pub effect_other : (c : ℕ) (s : State) (d : Done) (w : State) → Does s d w → line_of d ≢ Some c → session w c ≡ session s c
+pub effect_other : (c : ℕ) (s : State) (d : Done) (w : State) → Does s d w → line_of d ≢ Some c → session w c
+    ≡ session s c
 effect_other c s d w k ne = lines_apart s d w c k ne
 
 -- ---- a session stays sound
@@ -380,27 +426,33 @@ module _ (line : ℕ) (s : State) (sound : Sound (session s line)) where
   shut_sound = (sound.0, (λ e. absurd (false≢true e)), (λ e. absurd (false≢true e)))
 
   real_on_sound : line < length s.lines → (known b : Bool)
-      → Makes line Keeps (answered (admitted known line s (cond b (Err AlreadyOn) (Ok (opened s.venue.kept (session s line))))))
+      → Makes line Keeps (answered (admitted known line s
+      (cond b (Err AlreadyOn) (Ok (opened s.venue.kept (session s line))))))
   real_on_sound there known true = sound
   real_on_sound there true false = placed line Keeps s accepted_bytes _ there (sound.0, (λ e. refl), sound.2)
   real_on_sound there false false = sound
 
   second_on_sound : line < length s.lines → (known b : Bool) → (session s line).real_time ≡ b
-      → Makes line Keeps (answered (admitted known line s (cond b (Ok (recovering (session s line))) (Err RecoveryBeforeRealTime))))
+      → Makes line Keeps (answered (admitted known line s
+      (cond b (Ok (recovering (session s line))) (Err RecoveryBeforeRealTime))))
   second_on_sound there known false e = sound
   second_on_sound there true true e = placed line Keeps s accepted_bytes _ there (sound.0, (λ f. e), (λ f. refl))
   second_on_sound there false true e = sound
 
   recovery_on_sound : line < length s.lines → (known b : Bool)
-      → Makes line Keeps (answered (admitted known line s (cond b (Err AlreadyOn) (cond (session s line).real_time (Ok (recovering (session s line))) (Err RecoveryBeforeRealTime)))))
+      → Makes line Keeps (answered (admitted known line s
+      (cond b (Err AlreadyOn) (cond (session s line).real_time (Ok (recovering (session s line)))
+      (Err RecoveryBeforeRealTime)))))
   recovery_on_sound there known true = sound
   recovery_on_sound there known false = second_on_sound there known (session s line).real_time refl
 
   opens_sound : (ch : Channel) → line < length s.lines → (m : Logon) → Makes line Keeps (answered (logon ch line m s))
   opens_sound RealTime there m = real_on_sound there (admits (slice_get s.participants line) m) (session s line).real_time
-  opens_sound Recovery there m = recovery_on_sound there (admits (slice_get s.participants line) m) (session s line).recovery
+  opens_sound Recovery there m = recovery_on_sound there (admits (slice_get s.participants line) m)
+      (session s line).recovery
 
-  asks_sound : (ch : Channel) → line < length s.lines → (m : MissedMessageRequest) → on ch (session s line) ≡ true → Makes line Keeps (missed_on ch line m s)
+  asks_sound : (ch : Channel) → line < length s.lines → (m : MissedMessageRequest) → on ch (session s line) ≡ true
+      → Makes line Keeps (missed_on ch line m s)
   asks_sound RealTime there m e = sound
   asks_sound Recovery there m e =
       missed_makes line Keeps s m there sound (λ a g. sound) (λ p named none few. (omega (arith, few), sound.1, (λ f. e)))
@@ -408,7 +460,8 @@ module _ (line : ℕ) (s : State) (sound : Sound (session s line)) where
   closes_sound : (ch : Channel) → line < length s.lines → (t : Time) → Makes line Keeps (logout ch line t s)
   closes_sound RealTime there t = placed line Keeps s [] (closed (session s line)) there shut_sound
   closes_sound Recovery there t =
-      placed line Keeps s [] (recovery_closed (session s line)) there (sound.0, (λ e. absurd (false≢true e)), (λ e. absurd (false≢true e)))
+      placed line Keeps s [] (recovery_closed (session s line)) there
+      (sound.0, (λ e. absurd (false≢true e)), (λ e. absurd (false≢true e)))
 
   holds_sound : (ch : Channel) (bs : List ℕ) → line < length s.lines → Holds line Keeps ch bs s
   holds_sound ch bs there = record {
@@ -418,22 +471,28 @@ module _ (line : ℕ) (s : State) (sound : Sound (session s line)) where
     closes = λ t. closes_sound ch there t;
   }
 
-  hears_sound : (ch : Channel) (bs : List ℕ) (t : Time) (r : Result ℕ GatewayFault) (w : State) (out : List ℕ) → Hears ch line bs t s blank r w out → Sound (session w line)
+  hears_sound : (ch : Channel) (bs : List ℕ) (t : Time) (r : Result ℕ GatewayFault) (w : State) (out : List ℕ)
+      → Hears ch line bs t s blank r w out → Sound (session w line)
   hears_sound ch bs t r w out k = hears_makes line Keeps ch bs s sound t blank r w out (holds_sound ch bs) k
 
   runs_before : (d : Option Download) → is_some (recovered s.venue.kept line d).1 ≡ true → is_some d ≡ true
   runs_before None e = e
   runs_before (Some d) e = refl
 
-  sends_sound : (r : Result ℕ GatewayFault) (w : State) (out : List ℕ) → Sends line s blank r w out → Sound (session w line)
+  sends_sound : (r : Result ℕ GatewayFault) (w : State) (out : List ℕ) → Sends line s blank r w out
+      → Sound (session w line)
   sends_sound r w out k =
-      hands_makes line Keeps RealTime [] s sound (send_fault RealTime (length blank) line s) (live_handed line s) blank r w out
+      hands_makes line Keeps RealTime [] s sound (send_fault RealTime (length blank) line s)
+      (live_handed line s) blank r w out
       (λ e. placed line Keeps s [] _ (sends_there RealTime line s e) sound) k
 
-  recovers_sound : (r : Result ℕ GatewayFault) (w : State) (out : List ℕ) → Recovers line s blank r w out → Sound (session w line)
+  recovers_sound : (r : Result ℕ GatewayFault) (w : State) (out : List ℕ) → Recovers line s blank r w out
+      → Sound (session w line)
   recovers_sound r w out k =
-      hands_makes line Keeps Recovery [] s sound (send_fault Recovery (length blank) line s) (recovery_handed line s) blank r w out
-      (λ e. placed line Keeps s [] _ (sends_there Recovery line s e) (sound.0, sound.1, (λ f. sound.2 (runs_before (session s line).download f)))) k
+      hands_makes line Keeps Recovery [] s sound (send_fault Recovery (length blank) line s)
+      (recovery_handed line s) blank r w out
+      (λ e. placed line Keeps s [] _ (sends_there Recovery line s e)
+      (sound.0, sound.1, (λ f. sound.2 (runs_before (session s line).download f)))) k
 
 -- the line is the call's, or its session is as it was
 by_line : (b : Bool) (c line : ℕ) (s : State) (d : Done) (w : State) → eqb line c ≡ b → line_of d ≡ Some line → Does s d w
@@ -442,19 +501,29 @@ by_line true c line s d w e f k keeps sound =
     let same : line ≡ c = eqb-true line c e in
     subst (λ (n : ℕ). Sound (session w n)) same (keeps (subst (λ (n : ℕ). Sound (session s n)) (sym same) sound))
 by_line false c line s d w e f k keeps sound =
-    subst Sound (sym (effect_other c s d w k (λ g. eqb-false line c e (let z : ◌≡◌ {A = Option ℕ} (Some line) (Some c) = sym f ∙ g in cc)))) sound
+    subst Sound (sym (effect_other c s d w k (λ g. eqb-false line c e
+    (let z : ◌≡◌ {A = Option ℕ} (Some line) (Some c) = sym f ∙ g in cc)))) sound
 
-on_line : (c line : ℕ) (s : State) (d : Done) (w : State) → line_of d ≡ Some line → Does s d w → (Sound (session s line) → Sound (session w line)) → Sound (session s c) → Sound (session w c)
+on_line : (c line : ℕ) (s : State) (d : Done) (w : State) → line_of d ≡ Some line → Does s d w
+    → (Sound (session s line) → Sound (session w line)) → Sound (session s c) → Sound (session w c)
 on_line c line s d w f k keeps sound = by_line (eqb line c) c line s d w refl f k keeps sound
 
-on_none : (c : ℕ) (s : State) (d : Done) (w : State) → line_of d ≡ None → Does s d w → Sound (session s c) → Sound (session w c)
+on_none : (c : ℕ) (s : State) (d : Done) (w : State) → line_of d ≡ None → Does s d w → Sound (session s c)
+    → Sound (session w c)
 on_none c s d w f k sound = subst Sound (sym (effect_other c s d w k (λ g. none-some c (sym f ∙ g)))) sound
 
 pub stays_sound : (c : ℕ) (s : State) (d : Done) (w : State) → Does s d w → Sound (session s c) → Sound (session w c)
-stays_sound c s (done.RealTime line bs t r) w k sound = on_line c line s (done.RealTime line bs t r) w refl k (λ h. hears_sound line s h RealTime bs.now t r.answer w r.buffer k) sound
-stays_sound c s (done.Recovery line bs t r) w k sound = on_line c line s (done.Recovery line bs t r) w refl k (λ h. hears_sound line s h Recovery bs.now t r.answer w r.buffer k) sound
+stays_sound c s (done.RealTime line bs t r) w k sound =
+    on_line c line s (done.RealTime line bs t r) w refl k
+    (λ h. hears_sound line s h RealTime bs.now t r.answer w r.buffer k) sound
+stays_sound c s (done.Recovery line bs t r) w k sound =
+    on_line c line s (done.Recovery line bs t r) w refl k
+    (λ h. hears_sound line s h Recovery bs.now t r.answer w r.buffer k) sound
 stays_sound c s (done.Step t r) w k sound = on_none c s (done.Step t r) w refl k sound
 stays_sound c s (done.CancelTrade n t r) w k sound = on_none c s (done.CancelTrade n t r) w refl k sound
-stays_sound c s (done.LineLost line t r) w k sound = on_line c line s (done.LineLost line t r) w refl k (λ h. closing Sound line s t r w h (shut_sound line s h) k) sound
-stays_sound c s (done.Send line r) w k sound = on_line c line s (done.Send line r) w refl k (λ h. sends_sound line s h r.answer w r.buffer k) sound
-stays_sound c s (done.SendRecovered line r) w k sound = on_line c line s (done.SendRecovered line r) w refl k (λ h. recovers_sound line s h r.answer w r.buffer k) sound
+stays_sound c s (done.LineLost line t r) w k sound =
+    on_line c line s (done.LineLost line t r) w refl k (λ h. closing Sound line s t r w h (shut_sound line s h) k) sound
+stays_sound c s (done.Send line r) w k sound =
+    on_line c line s (done.Send line r) w refl k (λ h. sends_sound line s h r.answer w r.buffer k) sound
+stays_sound c s (done.SendRecovered line r) w k sound =
+    on_line c line s (done.SendRecovered line r) w refl k (λ h. recovers_sound line s h r.answer w r.buffer k) sound

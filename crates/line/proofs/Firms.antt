@@ -80,15 +80,18 @@ use Rattle.wire.specs.declared.message.Message.TheVariants as message
 
 -- ---- what is not touched stays
 
-untouched : (s : State) (line : ℕ) (a : List Row) (ms : List Move) (b : List Row) (n : ℕ) (r : Row) → Moved a ms b → Each (λ m. FirmOf s line (under s.venue.rows m.0)) ms
+untouched : (s : State) (line : ℕ) (a : List Row) (ms : List Move) (b : List Row) (n : ℕ) (r : Row) → Moved a ms b
+    → Each (λ m. FirmOf s line (under s.venue.rows m.0)) ms
     → under s.venue.rows n ≡ Some r → (firm s r.terms.owner ≡ firm s line → ⊥) → under b n ≡ under a n
 untouched s line a [] b n r e each was apart = ap (λ (rows : List Row). under rows n) e
 untouched s line a (m ∷ ms) b n r (x, f, move) (mine, each) was apart =
-    move.others n (λ same. apart (subst (FirmOf s line) (ap (under s.venue.rows) (sym same) ∙ was) mine)) ∙ untouched s line a ms x n r f each was apart
+    move.others n (λ same. apart (subst (FirmOf s line) (ap (under s.venue.rows) (sym same) ∙ was) mine)) ∙ untouched s
+    line a ms x n r f each was apart
 
 -- ---- the order that is named is the line's
 
-here_true : (p : Row → Bool) (x r : Row) (rest : Option Row) (b : Bool) → p x ≡ b → (rest ≡ Some r → p r ≡ true) → cond b (Some x) rest ≡ Some r → p r ≡ true
+here_true : (p : Row → Bool) (x r : Row) (rest : Option Row) (b : Bool) → p x ≡ b → (rest ≡ Some r → p r ≡ true)
+    → cond b (Some x) rest ≡ Some r → p r ≡ true
 here_true p x r rest true k later h = let is : x ≡ r = cc in ap p (sym is) ∙ k
 here_true p x r rest false k later h = later h
 
@@ -104,10 +107,12 @@ if_owned line (Some x) r e = mine (eqb x.terms.owner line) refl e
     mine true k h = let is : x ≡ r = cc in ap (λ (y : Row). y.terms.owner) (sym is) ∙ eqb-true x.terms.owner line k
     mine false k h = none-some r h
 
-found_own : (line : ℕ) (i : Option OrderId) (original : FixedText 20) (rows : List Row) (r : Row) → found line i original rows ≡ Some r → r.terms.owner ≡ line
+found_own : (line : ℕ) (i : Option OrderId) (original : FixedText 20) (rows : List Row) (r : Row)
+    → found line i original rows ≡ Some r → r.terms.owner ≡ line
 found_own line (Some i) original rows r e = if_owned line (under rows i.number) r e
 found_own line None original rows r e =
-    eqb-true r.terms.owner line (and_parts (eqb r.terms.owner line) _ (find_true (goes_by line (said original.bytes)) (reverse rows) r e)).0
+    eqb-true r.terms.owner line (and_parts (eqb r.terms.owner line) _
+    (find_true (goes_by line (said original.bytes)) (reverse rows) r e)).0
 
 opened : (x : Result Row Refusal) (r : Row) → if_open x ≡ Ok r → x ≡ Ok r
 opened (Err e) r h = absurd (cc)
@@ -125,10 +130,12 @@ agreed n (Some y) r h = here (agrees n y) h
     here true k = let is : y ≡ r = cc in ap Some is
     here false k = absurd (cc)
 
-named_found : (n : Naming) (rows : List Row) (r : Row) → named n rows ≡ Ok r → found n.line n.order n.original rows ≡ Some r
+named_found : (n : Naming) (rows : List Row) (r : Row) → named n rows ≡ Ok r → found n.line n.order n.original rows
+    ≡ Some r
 named_found n rows r h = agreed n _ r (opened (if_agreeing n (found n.line n.order n.original rows)) r h)
 
-served_named : (b : Bool) (n : Naming) (v : View) (r : Row) → cond b (named n v.rows) (Err BookNotServed) ≡ Ok r → named n v.rows ≡ Ok r
+served_named : (b : Bool) (n : Naming) (v : View) (r : Row) → cond b (named n v.rows) (Err BookNotServed) ≡ Ok r
+    → named n v.rows ≡ Ok r
 served_named true n v r h = h
 served_named false n v r h = absurd (cc)
 
@@ -137,21 +144,26 @@ module _ (s : State) (line : ℕ) (sound : Sound s.venue) where
   abbrev Own : Move → Type 0
   Own m = FirmOf s line (under s.venue.rows m.0)
 
-  own_row : (n : ℕ) (r : Row) → under s.venue.rows n ≡ Some r → r.terms.owner ≡ line → FirmOf s line (under s.venue.rows n)
+  own_row : (n : ℕ) (r : Row) → under s.venue.rows n ≡ Some r → r.terms.owner ≡ line
+      → FirmOf s line (under s.venue.rows n)
   own_row n r e o = subst (FirmOf s line) (sym e) (ap (firm s) o)
 
-  own_served : (bk : Book) (n : Naming) (r : Row) → n.line ≡ line → cancels.served bk n s.venue ≡ Ok r → FirmOf s line (under s.venue.rows r.number)
+  own_served : (bk : Book) (n : Naming) (r : Row) → n.line ≡ line → cancels.served bk n s.venue ≡ Ok r
+      → FirmOf s line (under s.venue.rows r.number)
   own_served bk n r is h =
       let f = named_found n s.venue.rows r (served_named (serves s.venue.market bk) n s.venue r h) in
-      own_row r.number r (named_there s.venue n.line n.order n.original r sound (sym f)) (found_own n.line n.order n.original s.venue.rows r f ∙ is)
+      own_row r.number r (named_there s.venue n.line n.order n.original r sound (sym f))
+      (found_own n.line n.order n.original s.venue.rows r f ∙ is)
 
   -- ---- requests
 
-  after_spare : (b : Bool) (o : Requested) → MovesTo Own s.venue.rows o → MovesTo Own s.venue.rows (cond b (Refused NoPlace) o)
+  after_spare : (b : Bool) (o : Requested) → MovesTo Own s.venue.rows o
+      → MovesTo Own s.venue.rows (cond b (Refused NoPlace) o)
   after_spare true o f = tt
   after_spare false o f = f
 
-  where_known : (b : Bool) (o : Requested) → MovesTo Own s.venue.rows o → MovesTo Own s.venue.rows (cond b o (Refused UnknownInstrument))
+  where_known : (b : Bool) (o : Requested) → MovesTo Own s.venue.rows o
+      → MovesTo Own s.venue.rows (cond b o (Refused UnknownInstrument))
   where_known true o f = f
   where_known false o f = tt
 
@@ -162,47 +174,65 @@ module _ (s : State) (line : ℕ) (sound : Sound s.venue) where
       behind [] = refl
       behind (x ∷ xs) = behind xs
 
-  accepted_own : (o : Option AcceptRefusal) (a : Ask) (l : Listing) (m : NewOrder) (t : Time) → orderable a.quantity ≡ true → MovesTo Own s.venue.rows (new.accepts o line a l m t s.venue)
+  accepted_own : (o : Option AcceptRefusal) (a : Ask) (l : Listing) (m : NewOrder) (t : Time) → orderable a.quantity
+      ≡ true → MovesTo Own s.venue.rows (new.accepts o line a l m t s.venue)
   accepted_own (Some e) a l m t k = still Own s.venue.rows
   accepted_own None a l m t k =
-      adds Own s.venue.rows (new.terms_of line l.place m) a k (subst (FirmOf s line) (sym (past s.venue.rows (length s.venue.rows + 1) (omega arith))) tt)
+      adds Own s.venue.rows (new.terms_of line l.place m) a k
+      (subst (FirmOf s line) (sym (past s.venue.rows (length s.venue.rows + 1) (omega arith))) tt)
 
-  ordered_own : (r : Result Ask Refusal) (l : Listing) (m : NewOrder) (t : Time) → new.asked m s.venue ≡ r → MovesTo Own s.venue.rows (new.ordered r line l m t s.venue)
+  ordered_own : (r : Result Ask Refusal) (l : Listing) (m : NewOrder) (t : Time) → new.asked m s.venue ≡ r
+      → MovesTo Own s.venue.rows (new.ordered r line l m t s.venue)
   ordered_own (Err e) l m t h = still Own s.venue.rows
   ordered_own (Ok a) l m t h = accepted_own (accept_fault s.venue) a l m t (new_served m _ _ a h).0
 
-  new_own : (o : Option Listing) (m : NewOrder) (t : Time) → MovesTo Own s.venue.rows (new.new_order_in o line m t s.venue)
+  new_own : (o : Option Listing) (m : NewOrder) (t : Time)
+      → MovesTo Own s.venue.rows (new.new_order_in o line m t s.venue)
   new_own None m t = tt
   new_own (Some l) m t = after_spare (nat_lt (spare s.venue) 2) _ (ordered_own (new.asked m s.venue) l m t refl)
 
-  cancelled_own : (r : Result Row Refusal) (l : Listing) (m : OrderCancelRequest) (t : Time) → cancels.served m.book (cancels.named_by line l m) s.venue ≡ r
+  cancelled_own : (r : Result Row Refusal) (l : Listing) (m : OrderCancelRequest) (t : Time)
+      → cancels.served m.book (cancels.named_by line l m) s.venue ≡ r
       → MovesTo Own s.venue.rows (cancels.cancelled r line l m t s.venue)
   cancelled_own (Err e) l m t h = after_spare (nat_lt (spare s.venue) 1) _ (still Own s.venue.rows)
   cancelled_own (Ok r) l m t h =
-      changes Own s.venue.instruments t r.number (Withdraw Cancelled (kept m.client_order_id.text)) (ledger_of s.venue) (λ k. refl) (own_served m.book (cancels.named_by line l m) r refl h)
+      changes Own s.venue.instruments t r.number (Withdraw Cancelled (kept m.client_order_id.text)) (ledger_of s.venue)
+      (λ k. refl) (own_served m.book (cancels.named_by line l m) r refl h)
 
-  cancel_own : (o : Option Listing) (m : OrderCancelRequest) (t : Time) → MovesTo Own s.venue.rows (cancels.cancel_in o line m t s.venue)
+  cancel_own : (o : Option Listing) (m : OrderCancelRequest) (t : Time)
+      → MovesTo Own s.venue.rows (cancels.cancel_in o line m t s.venue)
   cancel_own None m t = tt
   cancel_own (Some l) m t = cancelled_own _ l m t refl
 
   -- what is replaced is the order that is named
-  numbered : (m : OrderCancelReplaceRequest) (x : Result Row Refusal) (r : Replacement) → replaces.of_row m x ≡ Ok r → (b : Row) × (x ≡ Ok b) × (b.number ≡ r.number)
+  numbered : (m : OrderCancelReplaceRequest) (x : Result Row Refusal) (r : Replacement) → replaces.of_row m x ≡ Ok r
+      → (b : Row) × (x ≡ Ok b) × (b.number ≡ r.number)
   numbered m (Err e) r h = absurd (cc)
-  numbered m (Ok b) r h = (b, refl, timed (eqb (time_in_force_code b.terms.time_in_force) (time_in_force_code m.time_in_force)) h)
+  numbered m (Ok b) r h = (
+    b,
+    refl,
+    timed (eqb (time_in_force_code b.terms.time_in_force)
+        (time_in_force_code m.time_in_force)) h,
+  )
     where
-      more : (c : Bool) (a : Ask) (e : Refusal) → cond c (Err e) (Ok (record { number = b.number; ask = a })) ≡ Ok r → b.number ≡ r.number
+      more : (c : Bool) (a : Ask) (e : Refusal) → cond c (Err e) (Ok (record { number = b.number; ask = a })) ≡ Ok r
+          → b.number ≡ r.number
       more true a e k = absurd (cc)
-      more false a e k = let x : Replacement = record { number = b.number; ask = a } in let is : x ≡ r = cc in ap (λ (y : Replacement). y.number) is
+      more false a e k =
+          let x : Replacement = record { number = b.number; ask = a } in let is : x
+          ≡ r = cc in ap (λ (y : Replacement). y.number) is
 
       above : (o : Option Ask) → replaces.above b o ≡ Ok r → b.number ≡ r.number
       above None k = absurd (cc)
       above (Some a) k = more (nat_le a.quantity b.executed) a NotAboveExecuted k
 
-      timed : (c : Bool) → cond c (replaces.above b (replaces.ask_of m b)) (Err TimeInForceDiffers) ≡ Ok r → b.number ≡ r.number
+      timed : (c : Bool) → cond c (replaces.above b (replaces.ask_of m b)) (Err TimeInForceDiffers) ≡ Ok r → b.number
+          ≡ r.number
       timed true k = above (replaces.ask_of m b) k
       timed false k = absurd (cc)
 
-  replaced_own : (x : Result Replacement Refusal) (l : Listing) (m : OrderCancelReplaceRequest) (t : Time) → replaces.judged line l m s.venue ≡ x
+  replaced_own : (x : Result Replacement Refusal) (l : Listing) (m : OrderCancelReplaceRequest) (t : Time)
+      → replaces.judged line l m s.venue ≡ x
       → MovesTo Own s.venue.rows (replaces.replaced x line l m t s.venue)
   replaced_own (Err e) l m t h = still Own s.venue.rows
   replaced_own (Ok r) l m t h =
@@ -210,33 +240,41 @@ module _ (s : State) (line : ℕ) (sound : Sound s.venue) where
       changes Own s.venue.instruments t r.number (change.Replace r.ask) (ledger_of s.venue) (λ j. refl)
       (subst (λ n. FirmOf s line (under s.venue.rows n)) k (own_served _ (replaces.named_by line l m) b refl e))
 
-  replace_own : (o : Option Listing) (m : OrderCancelReplaceRequest) (t : Time) → MovesTo Own s.venue.rows (replaces.replace_in o line m t s.venue)
+  replace_own : (o : Option Listing) (m : OrderCancelReplaceRequest) (t : Time)
+      → MovesTo Own s.venue.rows (replaces.replace_in o line m t s.venue)
   replace_own None m t = tt
-  replace_own (Some l) m t = after_spare (nat_lt (spare s.venue) 1) _ (replaced_own (replaces.judged line l m s.venue) l m t refl)
+  replace_own (Some l) m t = after_spare (nat_lt (spare s.venue) 1) _
+      (replaced_own (replaces.judged line l m s.venue) l m t refl)
 
   -- ---- withdrawals: the orders that are still to come stand as they stood
 
-  apart_changed : (is : List Instrument) (t : Time) (n : ℕ) (c : Change) (l : Ledger) (k : ℕ) (o : Option Row) → (k ≡ n → ⊥) → under (rewritten is t n c o l).rows k ≡ under l.rows k
+  apart_changed : (is : List Instrument) (t : Time) (n : ℕ) (c : Change) (l : Ledger) (k : ℕ) (o : Option Row)
+      → (k ≡ n → ⊥) → under (rewritten is t n c o l).rows k ≡ under l.rows k
   apart_changed is t n c l k None ne = refl
   apart_changed is t n c l k (Some r) ne = under-others l.rows n k r ne
 
-  apart_expired : (t : Time) (n : ℕ) (v : View) (k : ℕ) (o : Option Row) → (k ≡ n → ⊥) → under (expired_as v.instruments t n o (ledger_of v)).rows k ≡ under v.rows k
+  apart_expired : (t : Time) (n : ℕ) (v : View) (k : ℕ) (o : Option Row) → (k ≡ n → ⊥)
+      → under (expired_as v.instruments t n o (ledger_of v)).rows k ≡ under v.rows k
   apart_expired t n v k None ne = refl
   apart_expired t n v k (Some r) ne = apart_changed v.instruments t n (Withdraw Expired r.client) (ledger_of v) k _ ne
 
-  apart_for : (c : Cause) (t : Time) (n : ℕ) (v : View) (k : ℕ) → (k ≡ n → ⊥) → under (withdrawn_for c t n v).rows k ≡ under v.rows k
+  apart_for : (c : Cause) (t : Time) (n : ℕ) (v : View) (k : ℕ) → (k ≡ n → ⊥) → under (withdrawn_for c t n v).rows k
+      ≡ under v.rows k
   apart_for (Request i) t n v k ne = apart_changed v.instruments t n (Withdraw Cancelled i) (ledger_of v) k _ ne
   apart_for LineLost t n v k ne = apart_expired t n v k (under v.rows n) ne
 
-  apart_if : (b : Bool) (c : Cause) (t : Time) (n : ℕ) (v : View) (k : ℕ) → (k ≡ n → ⊥) → under (cond b (withdrawn_for c t n v) v).rows k ≡ under v.rows k
+  apart_if : (b : Bool) (c : Cause) (t : Time) (n : ℕ) (v : View) (k : ℕ) → (k ≡ n → ⊥)
+      → under (cond b (withdrawn_for c t n v) v).rows k ≡ under v.rows k
   apart_if true c t n v k ne = apart_for c t n v k ne
   apart_if false c t n v k ne = refl
 
-  ahead : (q : Row → Bool) (c : Cause) (t : Time) (n : ℕ) (v : View) (k : ℕ) → n < k → under (withdrawn_to q c t n v).rows k ≡ under v.rows k
+  ahead : (q : Row → Bool) (c : Cause) (t : Time) (n : ℕ) (v : View) (k : ℕ) → n < k
+      → under (withdrawn_to q c t n v).rows k ≡ under v.rows k
   ahead q c t zero v k h = refl
   ahead q c t (suc n) v k h =
       let u = withdrawn_to q c t n v in
-      apart_if (picks_at q (under u.rows (suc n))) c t (suc n) u k (λ e. let no : ⊥ = omega arith in no) ∙ ahead q c t n v k (omega arith)
+      apart_if (picks_at q (under u.rows (suc n))) c t (suc n) u k
+      (λ e. let no : ⊥ = omega arith in no) ∙ ahead q c t n v k (omega arith)
 
   -- who is picked is of the firm
   abbrev Mine : (Row → Bool) → Type 0
@@ -246,28 +284,36 @@ module _ (s : State) (line : ℕ) (sound : Sound s.venue) where
   picked q n None mine h = tt
   picked q n (Some r) mine h = mine r h
 
-  expired_own : (t : Time) (n : ℕ) (v : View) (o : Option Row) → FirmOf s line (under s.venue.rows n) → Moving Own v.rows (expired_as v.instruments t n o (ledger_of v)).rows
+  expired_own : (t : Time) (n : ℕ) (v : View) (o : Option Row) → FirmOf s line (under s.venue.rows n)
+      → Moving Own v.rows (expired_as v.instruments t n o (ledger_of v)).rows
   expired_own t n v None may = still Own v.rows
   expired_own t n v (Some r) may = changes Own v.instruments t n (Withdraw Expired r.client) (ledger_of v) (λ k. refl) may
 
-  for_own : (c : Cause) (t : Time) (n : ℕ) (v : View) → FirmOf s line (under s.venue.rows n) → Moving Own v.rows (withdrawn_for c t n v).rows
+  for_own : (c : Cause) (t : Time) (n : ℕ) (v : View) → FirmOf s line (under s.venue.rows n)
+      → Moving Own v.rows (withdrawn_for c t n v).rows
   for_own (Request i) t n v may = changes Own v.instruments t n (Withdraw Cancelled i) (ledger_of v) (λ k. refl) may
   for_own LineLost t n v may = expired_own t n v (under v.rows n) may
 
-  if_own : (b : Bool) (c : Cause) (t : Time) (n : ℕ) (v : View) → (b ≡ true → FirmOf s line (under s.venue.rows n)) → Moving Own v.rows (cond b (withdrawn_for c t n v) v).rows
+  if_own : (b : Bool) (c : Cause) (t : Time) (n : ℕ) (v : View) → (b ≡ true → FirmOf s line (under s.venue.rows n))
+      → Moving Own v.rows (cond b (withdrawn_for c t n v) v).rows
   if_own true c t n v may = for_own c t n v (may refl)
   if_own false c t n v may = still Own v.rows
 
-  to_own : (q : Row → Bool) (c : Cause) (t : Time) (n : ℕ) (v : View) → v.rows ≡ s.venue.rows → Mine q → Moving Own v.rows (withdrawn_to q c t n v).rows
+  to_own : (q : Row → Bool) (c : Cause) (t : Time) (n : ℕ) (v : View) → v.rows ≡ s.venue.rows → Mine q
+      → Moving Own v.rows (withdrawn_to q c t n v).rows
   to_own q c t zero v e mine = still Own v.rows
   to_own q c t (suc n) v e mine =
       let u = withdrawn_to q c t n v in
-      let was : under u.rows (suc n) ≡ under s.venue.rows (suc n) = ahead q c t n v (suc n) (omega arith) ∙ ap (λ (rows : List Row). under rows (suc n)) e in
+      let was : under u.rows (suc n) ≡ under s.venue.rows (suc n) = ahead q c t n v (suc n) (omega arith) ∙ ap
+      (λ (rows : List Row). under rows (suc n)) e in
       onward Own v.rows u.rows _ (to_own q c t n v e mine)
-      (if_own (picks_at q (under u.rows (suc n))) c t (suc n) u (λ h. subst (FirmOf s line) was (picked q (suc n) (under u.rows (suc n)) mine h)))
+      (if_own (picks_at q (under u.rows (suc n))) c t (suc n) u
+      (λ h. subst (FirmOf s line) was (picked q (suc n) (under u.rows (suc n)) mine h)))
 
-  all_own : (q : Row → Bool) (c : Cause) (t : Time) (v : View) → v.rows ≡ s.venue.rows → Mine q → Moving Own s.venue.rows (withdrawn_all q c t v).rows
-  all_own q c t v e mine = subst (λ rows. Moving Own rows (withdrawn_all q c t v).rows) e (to_own q c t (length v.rows) v e mine)
+  all_own : (q : Row → Bool) (c : Cause) (t : Time) (v : View) → v.rows ≡ s.venue.rows → Mine q
+      → Moving Own s.venue.rows (withdrawn_all q c t v).rows
+  all_own q c t v e mine = subst (λ rows. Moving Own rows (withdrawn_all q c t v).rows) e
+      (to_own q c t (length v.rows) v e mine)
 
   -- ---- a Mass Cancel
 
@@ -286,30 +332,40 @@ module _ (s : State) (line : ℕ) (sound : Sound s.venue) where
       same (Some p) k = eqb-true p.firm (firm s line) k
 
   meant_own : (owner : ℕ → Bool) (within : Row → Bool) (marked : Bool) → Owners owner → Mine (meant owner within marked)
-  meant_own owner within marked f r h = f r.terms.owner (and_parts (owner r.terms.owner) _ (and_parts (nat_lt 0 r.leaves) _ h).1).0
+  meant_own owner within marked f r h = f r.terms.owner
+      (and_parts (owner r.terms.owner) _ (and_parts (nat_lt 0 r.leaves) _ h).1).0
 
-  served_own : (b : Bool) (q : Row → Bool) (c : Cause) (t : Time) (n : ℕ) (v u : View) → v.rows ≡ s.venue.rows → u.rows ≡ s.venue.rows → Mine q
+  served_own : (b : Bool) (q : Row → Bool) (c : Cause) (t : Time) (n : ℕ) (v u : View) → v.rows ≡ s.venue.rows → u.rows
+      ≡ s.venue.rows → Mine q
       → MovesTo Own s.venue.rows (cond b (Did n (withdrawn_all q c t v)) (Did 1 u))
   served_own true q c t n v u e f mine = all_own q c t v e mine
   served_own false q c t n v u e f mine = subst (Moving Own s.venue.rows) (sym f) (still Own s.venue.rows)
 
-  instrument_own : (o : Option Listing) (owner : ℕ → Bool) (bk : Book) (m : OrderMassCancelRequest) (t : Time) → Owners owner → MovesTo Own s.venue.rows (mass.in_instrument o owner bk line m t s.venue)
+  instrument_own : (o : Option Listing) (owner : ℕ → Bool) (bk : Book) (m : OrderMassCancelRequest) (t : Time)
+      → Owners owner → MovesTo Own s.venue.rows (mass.in_instrument o owner bk line m t s.venue)
   instrument_own None owner bk m t f = tt
   instrument_own (Some l) owner bk m t f =
       let v = noted l.instrument.partition (mass.accepted line m t) s.venue in
       let u = noted l.instrument.partition (mass.refused line m t) s.venue in
       after_spare (nat_lt (spare s.venue) 1) _
-      (served_own (serves s.venue.market bk) (meant owner (mass.of_instrument l bk) false) (Request (kept m.client_order_id.text)) t _ v u refl refl (meant_own owner (mass.of_instrument l bk) false f))
+      (served_own (serves s.venue.market bk) (meant owner (mass.of_instrument l bk) false)
+      (Request (kept m.client_order_id.text)) t _ v u refl refl (meant_own owner (mass.of_instrument l bk) false f))
 
-  in_all_own : (owner : ℕ → Bool) (within : Row → Bool) (m : OrderMassCancelRequest) (t : Time) → Owners owner → MovesTo Own s.venue.rows (mass.in_all owner within line m t s.venue)
+  in_all_own : (owner : ℕ → Bool) (within : Row → Bool) (m : OrderMassCancelRequest) (t : Time) → Owners owner
+      → MovesTo Own s.venue.rows (mass.in_all owner within line m t s.venue)
   in_all_own owner within m t f =
       let v = mass.told_everywhere (mass.accepted line m t) s.venue in
-      after_spare (nat_lt (spare s.venue) 3) _ (all_own (meant owner within false) (Request (kept m.client_order_id.text)) t v refl (meant_own owner within false f))
+      after_spare (nat_lt (spare s.venue) 3) _
+      (all_own (meant owner within false) (Request (kept m.client_order_id.text)) t v refl
+      (meant_own owner within false f))
 
-  segment_own : (x : List ℕ) (owner : ℕ → Bool) (m : OrderMassCancelRequest) (t : Time) → Owners owner → MovesTo Own s.venue.rows (mass.in_segment x owner line m t s.venue)
-  segment_own x owner m t f = where_known (mass.has_segment s.venue.instruments x) _ (in_all_own owner (mass.of_segment s.venue.instruments x) m t f)
+  segment_own : (x : List ℕ) (owner : ℕ → Bool) (m : OrderMassCancelRequest) (t : Time) → Owners owner
+      → MovesTo Own s.venue.rows (mass.in_segment x owner line m t s.venue)
+  segment_own x owner m t f = where_known (mass.has_segment s.venue.instruments x) _
+      (in_all_own owner (mass.of_segment s.venue.instruments x) m t f)
 
-  scope_own : (x : Scope) (m : OrderMassCancelRequest) (t : Time) → MovesTo Own s.venue.rows (mass.in_scope x s.participants (firm s line) line m t s.venue)
+  scope_own : (x : Scope) (m : OrderMassCancelRequest) (t : Time)
+      → MovesTo Own s.venue.rows (mass.in_scope x s.participants (firm s line) line m t s.venue)
   scope_own (FirmInstrument x b) m t = instrument_own _ (mass.of_firm s.participants (firm s line)) b m t firms_own
   scope_own (CompIdInstrument x b) m t = instrument_own _ (mass.of_line line) b m t lines_own
   scope_own (FirmSegment x) m t = segment_own _ (mass.of_firm s.participants (firm s line)) m t firms_own
@@ -327,12 +383,14 @@ module _ (s : State) (line : ℕ) (sound : Sound s.venue) where
   asked_own m (Refused t) f = refl
   asked_own m (Did most v) f = f
 
-  admitted_own : (known : Bool) (r : Result SessionState LogonRefusal) → (admitted known line s r).1.venue.rows ≡ s.venue.rows
+  admitted_own : (known : Bool) (r : Result SessionState LogonRefusal) → (admitted known line s r).1.venue.rows
+      ≡ s.venue.rows
   admitted_own known (Err e) = refl
   admitted_own true (Ok x) = refl
   admitted_own false (Ok x) = refl
 
-  missed_own : (r : Result (SessionState × AckResponse) RequestRefusal) (m : MissedMessageRequest) → OutOwn (missed_by r line m s)
+  missed_own : (r : Result (SessionState × AckResponse) RequestRefusal) (m : MissedMessageRequest)
+      → OutOwn (missed_by r line m s)
   missed_own (Err e) m = refl
   missed_own (Ok (x, a)) m = refl
 
@@ -341,7 +399,8 @@ module _ (s : State) (line : ℕ) (sound : Sound s.venue) where
   missed_here RealTime m = refl
 
   marked_own : (ends : Bool) (t : Time) → Moving Own s.venue.rows (without_marked ends line t s.venue).rows
-  marked_own true t = all_own (ends_with line) LineLost t s.venue refl (meant_own (λ o. eqb o line) (λ r. true) true (λ o h. ap (firm s) (eqb-true o line h)))
+  marked_own true t = all_own (ends_with line) LineLost t s.venue refl
+      (meant_own (λ o. eqb o line) (λ r. true) true (λ o h. ap (firm s) (eqb-true o line h)))
   marked_own false t = still Own s.venue.rows
 
   pub closed_own : (t : Time) → Moving Own s.venue.rows (line_closed line t s).venue.rows
@@ -361,10 +420,14 @@ module _ (s : State) (line : ℕ) (sound : Sound s.venue) where
 
   heard_own : (ch : Channel) (m : Message) (t : Time) → OutOwn (heard ch line m t s)
   heard_own ch (message.Logon m) t = admitted_own (admits (slice_get s.participants line) m) _
-  heard_own ch (message.NewOrder m) t = where_on (on ch (session s line)) _ _ (asked_own (message.NewOrder m) _ (new_own (look_up s.venue.instruments (says m.symbol)) m t))
-  heard_own ch (message.OrderCancelRequest m) t = where_on (on ch (session s line)) _ _ (asked_own (message.OrderCancelRequest m) _ (cancel_own (look_up s.venue.instruments (says m.symbol)) m t))
-  heard_own ch (message.OrderCancelReplaceRequest m) t = where_on (on ch (session s line)) _ _ (asked_own (message.OrderCancelReplaceRequest m) _ (replace_own (look_up s.venue.instruments (says m.symbol)) m t))
-  heard_own ch (message.OrderMassCancelRequest m) t = where_on (on ch (session s line)) _ _ (asked_own (message.OrderMassCancelRequest m) _ (scope_own m.scope m t))
+  heard_own ch (message.NewOrder m) t = where_on (on ch (session s line)) _ _
+      (asked_own (message.NewOrder m) _ (new_own (look_up s.venue.instruments (says m.symbol)) m t))
+  heard_own ch (message.OrderCancelRequest m) t = where_on (on ch (session s line)) _ _
+      (asked_own (message.OrderCancelRequest m) _ (cancel_own (look_up s.venue.instruments (says m.symbol)) m t))
+  heard_own ch (message.OrderCancelReplaceRequest m) t = where_on (on ch (session s line)) _ _
+      (asked_own (message.OrderCancelReplaceRequest m) _ (replace_own (look_up s.venue.instruments (says m.symbol)) m t))
+  heard_own ch (message.OrderMassCancelRequest m) t = where_on (on ch (session s line)) _ _
+      (asked_own (message.OrderMassCancelRequest m) _ (scope_own m.scope m t))
   heard_own ch (message.MissedMessageRequest m) t = where_on (on ch (session s line)) _ _ (missed_here ch m)
   heard_own ch (message.Logout m) t = where_on (on ch (session s line)) _ _ (logout_own ch t)
   heard_own ch (message.LogonReply m) t = silence (on ch (session s line)) _ _
@@ -381,36 +444,50 @@ module _ (s : State) (line : ℕ) (sound : Sound s.venue) where
   stays_own : (w : State) → w ≡ s → Moving Own s.venue.rows w.venue.rows
   stays_own w e = subst (λ (z : State). Moving Own s.venue.rows z.venue.rows) (sym e) (still Own s.venue.rows)
 
-  settled_own : (o : Outcome) (buffer : List ℕ) (r : Result ℕ GatewayFault) (w : State) (out : List ℕ) → OutOwn o → Settled o buffer r w out → Moving Own s.venue.rows w.venue.rows
-  settled_own (Answered a u) buffer r w out m (x, e, y) = subst (Moving Own s.venue.rows) (sym (ap (λ (z : State). z.venue.rows) e ∙ m)) (still Own s.venue.rows)
-  settled_own (Reported most u) buffer r w out m (x, (e, l), y) = subst (Moving Own s.venue.rows) (sym (ap (λ (z : View). z.rows) l.state)) m
+  settled_own : (o : Outcome) (buffer : List ℕ) (r : Result ℕ GatewayFault) (w : State) (out : List ℕ) → OutOwn o
+      → Settled o buffer r w out → Moving Own s.venue.rows w.venue.rows
+  settled_own (Answered a u) buffer r w out m (x, e, y) = subst (Moving Own s.venue.rows)
+      (sym (ap (λ (z : State). z.venue.rows) e ∙ m)) (still Own s.venue.rows)
+  settled_own (Reported most u) buffer r w out m (x, (e, l), y) = subst (Moving Own s.venue.rows)
+      (sym (ap (λ (z : View). z.rows) l.state)) m
 
-  hears_own : (ch : Channel) (bs : List ℕ) (t : Time) (buffer : List ℕ) (r : Result ℕ GatewayFault) (w : State) (out : List ℕ) → Hears ch line bs t s buffer r w out → Moving Own s.venue.rows w.venue.rows
+  hears_own : (ch : Channel) (bs : List ℕ) (t : Time) (buffer : List ℕ) (r : Result ℕ GatewayFault) (w : State)
+      (out : List ℕ) → Hears ch line bs t s buffer r w out → Moving Own s.venue.rows w.venue.rows
   hears_own ch bs t buffer r w out h =
-      hears_by (λ z. Moving Own s.venue.rows z.venue.rows) s (still Own s.venue.rows) ch line bs t buffer r w out (λ m k reads d. settled_own (heard ch line m t s) buffer r w out (heard_own ch m t) d) h
+      hears_by (λ z. Moving Own s.venue.rows z.venue.rows) s (still Own s.venue.rows) ch line bs t buffer r w out
+      (λ m k reads d. settled_own (heard ch line m t s) buffer r w out (heard_own ch m t) d) h
 
-  hands_own : (o : Option GatewayFault) (p : Handed) (buffer : List ℕ) (r : Result ℕ GatewayFault) (w : State) (out : List ℕ) → p.after.venue.rows ≡ s.venue.rows → Hands o p s buffer r w out
+  hands_own : (o : Option GatewayFault) (p : Handed) (buffer : List ℕ) (r : Result ℕ GatewayFault) (w : State)
+      (out : List ℕ) → p.after.venue.rows ≡ s.venue.rows → Hands o p s buffer r w out
       → Moving Own s.venue.rows w.venue.rows
   hands_own o p buffer r w out k d =
-      hands_by (λ z. Moving Own s.venue.rows z.venue.rows) s (still Own s.venue.rows) o p buffer r w out (subst (Moving Own s.venue.rows) (sym k) (still Own s.venue.rows)) d
+      hands_by (λ z. Moving Own s.venue.rows z.venue.rows) s (still Own s.venue.rows) o p buffer r w out
+      (subst (Moving Own s.venue.rows) (sym k) (still Own s.venue.rows)) d
 
 the : (k line : ℕ) → ◌≡◌ {A = Option ℕ} (Some k) (Some line) → k ≡ line
 the k line e = cc
 
 -- a call on a line changes none but its firm's orders
-line_own : (s : State) (line : ℕ) (d : Done) (w : State) → Sound s.venue → Does s d w → line_of d ≡ Some line → Moving (λ m. FirmOf s line (under s.venue.rows m.0)) s.venue.rows w.venue.rows
+line_own : (s : State) (line : ℕ) (d : Done) (w : State) → Sound s.venue → Does s d w → line_of d ≡ Some line
+    → Moving (λ m. FirmOf s line (under s.venue.rows m.0)) s.venue.rows w.venue.rows
 line_own s line (done.RealTime k bs t r) w sound h e =
-    subst (λ l. Moving (λ m. FirmOf s l (under s.venue.rows m.0)) s.venue.rows w.venue.rows) (the k line e) (hears_own s k sound RealTime bs.now t blank r.answer w r.buffer h)
+    subst (λ l. Moving (λ m. FirmOf s l (under s.venue.rows m.0)) s.venue.rows w.venue.rows) (the k line e)
+    (hears_own s k sound RealTime bs.now t blank r.answer w r.buffer h)
 line_own s line (done.Recovery k bs t r) w sound h e =
-    subst (λ l. Moving (λ m. FirmOf s l (under s.venue.rows m.0)) s.venue.rows w.venue.rows) (the k line e) (hears_own s k sound Recovery bs.now t blank r.answer w r.buffer h)
+    subst (λ l. Moving (λ m. FirmOf s l (under s.venue.rows m.0)) s.venue.rows w.venue.rows) (the k line e)
+    (hears_own s k sound Recovery bs.now t blank r.answer w r.buffer h)
 line_own s line (done.Step t r) w sound h e = none-some line e
 line_own s line (done.CancelTrade n t r) w sound h e = none-some line e
 line_own s line (done.LineLost k t (Ok u)) w sound (x, (f, l)) e =
     subst (λ j. Moving (λ m. FirmOf s j (under s.venue.rows m.0)) s.venue.rows w.venue.rows) (the k line e)
-    (subst (Moving (λ m. FirmOf s k (under s.venue.rows m.0)) s.venue.rows) (sym (ap (λ (z : View). z.rows) l.state)) (closed_own s k sound t))
+    (subst (Moving (λ m. FirmOf s k (under s.venue.rows m.0)) s.venue.rows) (sym (ap (λ (z : View). z.rows) l.state))
+    (closed_own s k sound t))
 line_own s line (done.LineLost k t (Err g)) w sound (x, f) e = stays_own s line sound w f
-line_own s line (done.Send k r) w sound h e = hands_own s line sound (send_fault RealTime (length blank) k s) (live_handed k s) blank r.answer w r.buffer refl h
-line_own s line (done.SendRecovered k r) w sound h e = hands_own s line sound (send_fault Recovery (length blank) k s) (recovery_handed k s) blank r.answer w r.buffer refl h
+line_own s line (done.Send k r) w sound h e =
+    hands_own s line sound (send_fault RealTime (length blank) k s) (live_handed k s) blank r.answer w r.buffer refl h
+line_own s line (done.SendRecovered k r) w sound h e =
+    hands_own s line sound (send_fault Recovery (length blank) k s)
+    (recovery_handed k s) blank r.answer w r.buffer refl h
 
 pub firms_apart : FirmsApart
 firms_apart s d w line n r sound h e was apart =

@@ -33,7 +33,8 @@ grown_same l = ([], sym (append-nil l))
 grown_more : (a b c : List Entry) → Grown a b → Grown b c → Grown a c
 grown_more a b c (x, e) (y, f) = (x ++ y, f ∙ ap (λ l. l ++ y) e ∙ append_assoc a x y)
 
-appended_grown : (k : Kept) (q p : Partition) (es : List Entry) → (q ≡ p) ⊎ (is_at q p ≡ false) → Grown (at k p) (at (appended k q es) p)
+appended_grown : (k : Kept) (q p : Partition) (es : List Entry) → (q ≡ p) ⊎ (is_at q p ≡ false)
+    → Grown (at k p) (at (appended k q es) p)
 appended_grown k q p es (inl e) = (es, subst (λ u. at (appended k q es) u ≡ at k u ++ es) e (appended-here k q es))
 appended_grown k q p es (inr a) = ([], appended-apart k q p es a ∙ sym (append-nil (at k p)))
 
@@ -44,7 +45,8 @@ told_grows : (t : Time) (c : Change) (r : Row) (i : Option Instrument) (k : Kept
 told_grows t c r None k p = grown_same (at k p)
 told_grows t c r (Some i) k p = appended_grows k i.partition (entries_of r.terms.owner (reports_of (told_at i t) c r)) p
 
-changed_longer : (is : List Instrument) (t : Time) (n : ℕ) (c : Change) (o : Option Row) (l : Ledger) → Longer l (rewritten is t n c o l)
+changed_longer : (is : List Instrument) (t : Time) (n : ℕ) (c : Change) (o : Option Row) (l : Ledger)
+    → Longer l (rewritten is t n c o l)
 changed_longer is t n c None l p = grown_same (at l.kept p)
 changed_longer is t n c (Some r) l p = told_grows t c r (slice_get is r.terms.instrument) l.kept p
 

@@ -80,9 +80,11 @@ use Rattle.wire.specs.declared.message.Message.TheVariants as message
 pub record Leads (R : Ledger → Ledger → Type 0) (lines : ℕ) : Type 0 where
   pub same : (l : Ledger) → R l l
   pub then : (a b c : Ledger) → R a b → R b c → R a c
-  pub change : (is : List Instrument) (t : Time) (n : ℕ) (c : Change) (l : Ledger) → ((k : ℕ) → after k c None ≡ None) → R l (changed is t n c l)
+  pub change : (is : List Instrument) (t : Time) (n : ℕ) (c : Change) (l : Ledger) → ((k : ℕ) → after k c None ≡ None)
+      → R l (changed is t n c l)
   pub note : (p : Partition) (e : Entry) (l : Ledger) → e.owner < lines → R l (ledger l.rows (grown l.kept p e))
-  pub add : (is : List Instrument) (t : Time) (s : Terms) (a : Ask) (l : Ledger) → s.owner < lines → R l (entered is t s a l)
+  pub add : (is : List Instrument) (t : Time) (s : Terms) (a : Ask) (l : Ledger) → s.owner < lines
+      → R l (entered is t s a l)
 
 module _ (R : Ledger → Ledger → Type 0) (lines : ℕ) (leads : Leads R lines) where
   -- from a venue on
@@ -99,18 +101,21 @@ module _ (R : Ledger → Ledger → Type 0) (lines : ℕ) (leads : Leads R lines
   left_out : (v u w : View) (most : ℕ) → Leaves most u w → From v u → From v w
   left_out v u w most l f = subst (From v) (sym l.state) f
 
-  expiry_leads : (t : Time) (n : ℕ) (v : View) (o : Option Row) → R (ledger_of v) (expired_as v.instruments t n o (ledger_of v))
+  expiry_leads : (t : Time) (n : ℕ) (v : View) (o : Option Row)
+      → R (ledger_of v) (expired_as v.instruments t n o (ledger_of v))
   expiry_leads t n v None = leads.same (ledger_of v)
   expiry_leads t n v (Some r) = leads.change v.instruments t n (Withdraw Expired r.client) (ledger_of v) (λ k. refl)
 
   -- ---- requests, of a line
 
   module _ (line : ℕ) (there : line < lines) where
-    accepts_leads : (o : Option AcceptRefusal) (a : Ask) (l : Listing) (m : NewOrder) (t : Time) (v : View) → To v (new.accepts o line a l m t v)
+    accepts_leads : (o : Option AcceptRefusal) (a : Ask) (l : Listing) (m : NewOrder) (t : Time) (v : View)
+        → To v (new.accepts o line a l m t v)
     accepts_leads (Some e) a l m t v = one_note v _ _ there
     accepts_leads None a l m t v = leads.add v.instruments t (new.terms_of line l.place m) a (ledger_of v) there
 
-    ordered_leads : (r : Result Ask Refusal) (l : Listing) (m : NewOrder) (t : Time) (v : View) → To v (new.ordered r line l m t v)
+    ordered_leads : (r : Result Ask Refusal) (l : Listing) (m : NewOrder) (t : Time) (v : View)
+        → To v (new.ordered r line l m t v)
     ordered_leads (Err e) l m t v = one_note v _ _ there
     ordered_leads (Ok a) l m t v = accepts_leads (accept_fault v) a l m t v
 
@@ -126,21 +131,28 @@ module _ (R : Ledger → Ledger → Type 0) (lines : ℕ) (leads : Leads R lines
     new_leads None m t v = tt
     new_leads (Some l) m t v = after_spare v (nat_lt (spare v) 2) _ (ordered_leads (new.asked m v) l m t v)
 
-    cancelled_leads : (r : Result Row Refusal) (l : Listing) (m : OrderCancelRequest) (t : Time) (v : View) → To v (cancels.cancelled r line l m t v)
+    cancelled_leads : (r : Result Row Refusal) (l : Listing) (m : OrderCancelRequest) (t : Time) (v : View)
+        → To v (cancels.cancelled r line l m t v)
     cancelled_leads (Err e) l m t v = after_spare v (nat_lt (spare v) 1) _ (one_note v _ _ there)
-    cancelled_leads (Ok r) l m t v = leads.change v.instruments t r.number (Withdraw Cancelled (kept m.client_order_id.text)) (ledger_of v) (λ k. refl)
+    cancelled_leads (Ok r) l m t v =
+        leads.change v.instruments t r.number (Withdraw Cancelled (kept m.client_order_id.text)) (ledger_of v)
+        (λ k. refl)
 
-    cancel_leads : (o : Option Listing) (m : OrderCancelRequest) (t : Time) (v : View) → To v (cancels.cancel_in o line m t v)
+    cancel_leads : (o : Option Listing) (m : OrderCancelRequest) (t : Time) (v : View)
+        → To v (cancels.cancel_in o line m t v)
     cancel_leads None m t v = tt
     cancel_leads (Some l) m t v = cancelled_leads _ l m t v
 
-    replaced_leads : (x : Result Replacement Refusal) (l : Listing) (m : OrderCancelReplaceRequest) (t : Time) (v : View) → To v (replaces.replaced x line l m t v)
+    replaced_leads : (x : Result Replacement Refusal) (l : Listing) (m : OrderCancelReplaceRequest) (t : Time)
+        (v : View) → To v (replaces.replaced x line l m t v)
     replaced_leads (Err e) l m t v = one_note v _ _ there
     replaced_leads (Ok r) l m t v = leads.change v.instruments t r.number (change.Replace r.ask) (ledger_of v) (λ k. refl)
 
-    replace_leads : (o : Option Listing) (m : OrderCancelReplaceRequest) (t : Time) (v : View) → To v (replaces.replace_in o line m t v)
+    replace_leads : (o : Option Listing) (m : OrderCancelReplaceRequest) (t : Time) (v : View)
+        → To v (replaces.replace_in o line m t v)
     replace_leads None m t v = tt
-    replace_leads (Some l) m t v = after_spare v (nat_lt (spare v) 1) _ (replaced_leads (replaces.judged line l m v) l m t v)
+    replace_leads (Some l) m t v =
+        after_spare v (nat_lt (spare v) 1) _ (replaced_leads (replaces.judged line l m v) l m t v)
 
     -- ---- withdrawals
 
@@ -166,17 +178,20 @@ module _ (R : Ledger → Ledger → Type 0) (lines : ℕ) (leads : Leads R lines
     behind : (q : Row → Bool) (c : Cause) (t : Time) (v u : View) → From v u → From v (withdrawn_all q c t u)
     behind q c t v u f = leads.then _ _ _ f (all_leads q c t u)
 
-    served_leads : (b : Bool) (q : Row → Bool) (c : Cause) (t : Time) (n : ℕ) (v w u : View) → From v w → From v u → To v (cond b (Did n (withdrawn_all q c t w)) (Did 1 u))
+    served_leads : (b : Bool) (q : Row → Bool) (c : Cause) (t : Time) (n : ℕ) (v w u : View) → From v w → From v u
+        → To v (cond b (Did n (withdrawn_all q c t w)) (Did 1 u))
     served_leads true q c t n v w u f g = behind q c t v w f
     served_leads false q c t n v w u f g = g
 
-    instrument_leads : (o : Option Listing) (owner : ℕ → Bool) (bk : Book) (m : OrderMassCancelRequest) (t : Time) (v : View) → To v (mass.in_instrument o owner bk line m t v)
+    instrument_leads : (o : Option Listing) (owner : ℕ → Bool) (bk : Book) (m : OrderMassCancelRequest) (t : Time)
+        (v : View) → To v (mass.in_instrument o owner bk line m t v)
     instrument_leads None owner bk m t v = tt
     instrument_leads (Some l) owner bk m t v =
         let w = noted l.instrument.partition (mass.accepted line m t) v in
         let u = noted l.instrument.partition (mass.refused line m t) v in
         after_spare v (nat_lt (spare v) 1) _
-        (served_leads (serves v.market bk) (meant owner (mass.of_instrument l bk) false) (Request (kept m.client_order_id.text)) t _ v w u (one_note v _ _ there) (one_note v _ _ there))
+        (served_leads (serves v.market bk) (meant owner (mass.of_instrument l bk) false)
+        (Request (kept m.client_order_id.text)) t _ v w u (one_note v _ _ there) (one_note v _ _ there))
 
     everywhere_leads : (e : Entry) (v : View) → e.owner < lines → From v (mass.told_everywhere e v)
     everywhere_leads e v h =
@@ -184,16 +199,21 @@ module _ (R : Ledger → Ledger → Type 0) (lines : ℕ) (leads : Leads R lines
         let y = noted Two e x in
         leads.then _ _ _ (leads.then _ _ _ (one_note v One e h) (one_note x Two e h)) (one_note y Three e h)
 
-    in_all_leads : (owner : ℕ → Bool) (within : Row → Bool) (m : OrderMassCancelRequest) (t : Time) (v : View) → To v (mass.in_all owner within line m t v)
+    in_all_leads : (owner : ℕ → Bool) (within : Row → Bool) (m : OrderMassCancelRequest) (t : Time) (v : View)
+        → To v (mass.in_all owner within line m t v)
     in_all_leads owner within m t v =
         let w = mass.told_everywhere (mass.accepted line m t) v in
         after_spare v (nat_lt (spare v) 3) _
-        (behind (meant owner within false) (Request (kept m.client_order_id.text)) t v w (everywhere_leads (mass.accepted line m t) v there))
+        (behind (meant owner within false) (Request (kept m.client_order_id.text)) t v w
+        (everywhere_leads (mass.accepted line m t) v there))
 
-    segment_leads : (s : List ℕ) (owner : ℕ → Bool) (m : OrderMassCancelRequest) (t : Time) (v : View) → To v (mass.in_segment s owner line m t v)
-    segment_leads s owner m t v = where_known v (mass.has_segment v.instruments s) _ (in_all_leads owner (mass.of_segment v.instruments s) m t v)
+    segment_leads : (s : List ℕ) (owner : ℕ → Bool) (m : OrderMassCancelRequest) (t : Time) (v : View)
+        → To v (mass.in_segment s owner line m t v)
+    segment_leads s owner m t v =
+        where_known v (mass.has_segment v.instruments s) _ (in_all_leads owner (mass.of_segment v.instruments s) m t v)
 
-    scope_leads : (x : Scope) (ps : List Participant) (f : ℕ) (m : OrderMassCancelRequest) (t : Time) (v : View) → To v (mass.in_scope x ps f line m t v)
+    scope_leads : (x : Scope) (ps : List Participant) (f : ℕ) (m : OrderMassCancelRequest) (t : Time) (v : View)
+        → To v (mass.in_scope x ps f line m t v)
     scope_leads (FirmInstrument s b) ps f m t v = instrument_leads _ (mass.of_firm ps f) b m t v
     scope_leads (CompIdInstrument s b) ps f m t v = instrument_leads _ (mass.of_line line) b m t v
     scope_leads (FirmSegment s) ps f m t v = segment_leads _ (mass.of_firm ps f) m t v
@@ -211,12 +231,14 @@ module _ (R : Ledger → Ledger → Type 0) (lines : ℕ) (leads : Leads R lines
     asked_of m s (Refused t) f = refl
     asked_of m s (Did most v) f = f
 
-    admitted_out : (known : Bool) (s : State) (r : Result SessionState LogonRefusal) → (admitted known line s r).1.venue ≡ s.venue
+    admitted_out : (known : Bool) (s : State) (r : Result SessionState LogonRefusal)
+        → (admitted known line s r).1.venue ≡ s.venue
     admitted_out known s (Err e) = refl
     admitted_out true s (Ok x) = refl
     admitted_out false s (Ok x) = refl
 
-    missed_out : (r : Result (SessionState × AckResponse) RequestRefusal) (m : MissedMessageRequest) (s : State) → Out s (missed_by r line m s)
+    missed_out : (r : Result (SessionState × AckResponse) RequestRefusal) (m : MissedMessageRequest) (s : State)
+        → Out s (missed_by r line m s)
     missed_out (Err e) m s = refl
     missed_out (Ok (x, a)) m s = refl
 
@@ -245,10 +267,20 @@ module _ (R : Ledger → Ledger → Type 0) (lines : ℕ) (leads : Leads R lines
 
     heard_out : (ch : Channel) (m : Message) (t : Time) (s : State) → Out s (heard ch line m t s)
     heard_out ch (message.Logon m) t s = admitted_out (admits (slice_get s.participants line) m) s _
-    heard_out ch (message.NewOrder m) t s = where_on s (on ch (session s line)) _ _ (asked_of (message.NewOrder m) s _ (new_leads (look_up s.venue.instruments (says m.symbol)) m t s.venue))
-    heard_out ch (message.OrderCancelRequest m) t s = where_on s (on ch (session s line)) _ _ (asked_of (message.OrderCancelRequest m) s _ (cancel_leads (look_up s.venue.instruments (says m.symbol)) m t s.venue))
-    heard_out ch (message.OrderCancelReplaceRequest m) t s = where_on s (on ch (session s line)) _ _ (asked_of (message.OrderCancelReplaceRequest m) s _ (replace_leads (look_up s.venue.instruments (says m.symbol)) m t s.venue))
-    heard_out ch (message.OrderMassCancelRequest m) t s = where_on s (on ch (session s line)) _ _ (asked_of (message.OrderMassCancelRequest m) s _ (scope_leads m.scope s.participants (firm s line) m t s.venue))
+    heard_out ch (message.NewOrder m) t s =
+        where_on s (on ch (session s line)) _ _
+        (asked_of (message.NewOrder m) s _ (new_leads (look_up s.venue.instruments (says m.symbol)) m t s.venue))
+    heard_out ch (message.OrderCancelRequest m) t s =
+        where_on s (on ch (session s line)) _ _
+        (asked_of (message.OrderCancelRequest m) s _
+        (cancel_leads (look_up s.venue.instruments (says m.symbol)) m t s.venue))
+    heard_out ch (message.OrderCancelReplaceRequest m) t s =
+        where_on s (on ch (session s line)) _ _
+        (asked_of (message.OrderCancelReplaceRequest m) s _
+        (replace_leads (look_up s.venue.instruments (says m.symbol)) m t s.venue))
+    heard_out ch (message.OrderMassCancelRequest m) t s =
+        where_on s (on ch (session s line)) _ _
+        (asked_of (message.OrderMassCancelRequest m) s _ (scope_leads m.scope s.participants (firm s line) m t s.venue))
     heard_out ch (message.MissedMessageRequest m) t s = where_on s (on ch (session s line)) _ _ (missed_here ch m s)
     heard_out ch (message.Logout m) t s = where_on s (on ch (session s line)) _ _ (logout_out ch t s)
     heard_out ch (message.LogonReply m) t s = silence s (on ch (session s line)) _ _
@@ -260,8 +292,10 @@ module _ (R : Ledger → Ledger → Type 0) (lines : ℕ) (leads : Leads R lines
     heard_out ch (message.OrderCancelReject m) t s = silence s (on ch (session s line)) _ _
     heard_out ch (message.OrderMassCancelReport m) t s = silence s (on ch (session s line)) _ _
 
-    settled_out : (s : State) (o : Outcome) (buffer : List ℕ) (r : Result ℕ GatewayFault) (w : State) (out : List ℕ) → Out s o → Settled o buffer r w out → From s.venue w.venue
-    settled_out s (Answered a u) buffer r w out e (x, f, y) = subst (From s.venue) (sym (ap (λ (z : State). z.venue) f ∙ e)) (leads.same (ledger_of s.venue))
+    settled_out : (s : State) (o : Outcome) (buffer : List ℕ) (r : Result ℕ GatewayFault) (w : State) (out : List ℕ)
+        → Out s o → Settled o buffer r w out → From s.venue w.venue
+    settled_out s (Answered a u) buffer r w out e (x, f, y) =
+        subst (From s.venue) (sym (ap (λ (z : State). z.venue) f ∙ e)) (leads.same (ledger_of s.venue))
     settled_out s (Reported most u) buffer r w out g (x, (e, l), y) = left_out s.venue u.venue w.venue most l g
 
   -- ---- every call
@@ -271,18 +305,21 @@ module _ (R : Ledger → Ledger → Type 0) (lines : ℕ) (leads : Leads R lines
 
   -- ---- an event of the matcher, and a trade cancelled
 
-  filled_leads : (is : List Instrument) (t : Time) (d : Deal) (first second : Option ℕ) (l : Ledger) → R l (both_filled is t d first second l)
+  filled_leads : (is : List Instrument) (t : Time) (d : Deal) (first second : Option ℕ) (l : Ledger)
+      → R l (both_filled is t d first second l)
   filled_leads is t d None None l = leads.same l
   filled_leads is t d (Some n) None l = leads.change is t n (Fill (filling d Added)) l (λ k. refl)
   filled_leads is t d None (Some m) l = leads.change is t m (Fill (filling d Removed)) l (λ k. refl)
   filled_leads is t d (Some n) (Some m) l =
       let x = passive_filled is t d (Some n) l in
-      leads.then _ _ _ (leads.change is t n (Fill (filling d Added)) l (λ k. refl)) (leads.change is t m (Fill (filling d Removed)) x (λ k. refl))
+      leads.then _ _ _ (leads.change is t n (Fill (filling d Added)) l (λ k. refl))
+      (leads.change is t m (Fill (filling d Removed)) x (λ k. refl))
 
   pub stepped_leads : (t : Time) (v : View) (e : Step) (w : View) → Stepped t v e w → From v w
   stepped_leads t v Nothing w (x, e) = subst (From v) (sym e) (leads.same (ledger_of v))
   stepped_leads t v (Ended n) w (x, y, l) = left_out v _ w 1 l (expiry_leads t n v (under v.rows n))
-  stepped_leads t v (Traded k a b q x) w (y, z, u, l) = left_out v _ w 2 l (filled_leads v.instruments t (next_deal v q x) a b (ledger_of v))
+  stepped_leads t v (Traded k a b q x) w (y, z, u, l) =
+      left_out v _ w 2 l (filled_leads v.instruments t (next_deal v q x) a b (ledger_of v))
 
   undone_leads : (is : List Instrument) (t : Time) (q : ℕ) (o : Option Side) (l : Ledger) → R l (side_undone is t q o l)
   undone_leads is t q None l = leads.same l
@@ -292,15 +329,18 @@ module _ (R : Ledger → Ledger → Type 0) (lines : ℕ) (leads : Leads R lines
   trade_leads t n None v = leads.same (ledger_of v)
   trade_leads t n (Some tr) v =
       let x = passive_undone v.instruments t tr (ledger_of v) in
-      leads.then _ _ _ (undone_leads v.instruments t tr.quantity tr.passive (ledger_of v)) (undone_leads v.instruments t tr.quantity tr.aggressive x)
+      leads.then _ _ _ (undone_leads v.instruments t tr.quantity tr.passive (ledger_of v))
+      (undone_leads v.instruments t tr.quantity tr.aggressive x)
 
 -- ---- any call
 
-short_or : (line : ℕ) (s : State) (b : Bool) → cond b (Some ShortBuffer) (line_fault line s) ≡ None → line_fault line s ≡ None
+short_or : (line : ℕ) (s : State) (b : Bool) → cond b (Some ShortBuffer) (line_fault line s) ≡ None → line_fault line s
+    ≡ None
 short_or line s true e = none-some ShortBuffer (sym e)
 short_or line s false e = e
 
-there_or : (line : ℕ) (s : State) (b : Bool) → nat_lt line (length s.lines) ≡ b → cond b None (Some NoSuchLine) ≡ None → line < length s.lines
+there_or : (line : ℕ) (s : State) (b : Bool) → nat_lt line (length s.lines) ≡ b → cond b None (Some NoSuchLine) ≡ None
+    → line < length s.lines
 there_or line s true h e = ltb-true line (length s.lines) h
 there_or line s false h e = none-some NoSuchLine (sym e)
 
@@ -318,18 +358,22 @@ module _ (R : Ledger → Ledger → Type 0) (s : State) (leads : Leads R (length
   abbrev Holds : State → Type 0
   Holds w = R (ledger_of s.venue) (ledger_of w.venue)
 
-  hears_leads : (ch : Channel) (line : ℕ) (bs : List ℕ) (t : Time) (buffer : List ℕ) (r : Result ℕ GatewayFault) (w : State) (out : List ℕ) → Hears ch line bs t s buffer r w out → Holds w
+  hears_leads : (ch : Channel) (line : ℕ) (bs : List ℕ) (t : Time) (buffer : List ℕ) (r : Result ℕ GatewayFault)
+      (w : State) (out : List ℕ) → Hears ch line bs t s buffer r w out → Holds w
   hears_leads ch line bs t buffer r w out h =
       hears_by Holds s (leads.same (ledger_of s.venue)) ch line bs t buffer r w out
       (λ m k reads d. let there = call_there (length buffer) line s k in
-      settled_out R (length s.lines) leads line there s (heard ch line m t s) buffer r w out (heard_out R (length s.lines) leads line there ch m t s) d) h
+      settled_out R (length s.lines) leads line there s (heard ch line m t s) buffer r w out
+      (heard_out R (length s.lines) leads line there ch m t s) d) h
 
   step_leads : (t : Time) (r : Result Step GatewayFault) (w : State) → Steps t s r w → Holds w
   step_leads t (Ok e) w (x, h, y) = stepped_leads R (length s.lines) leads t s.venue e w.venue h
   step_leads t (Err f) w (x, e) = stays R (length s.lines) leads s w e
 
   undo_leads : (n : ℕ) (t : Time) (r : Result (Unit {0}) GatewayFault) (w : State) → Undoes n t s r w → Holds w
-  undo_leads n t (Ok u) w (x, (e, l)) = left_out R (length s.lines) leads s.venue _ w.venue 4 l (trade_leads R (length s.lines) leads t n (under s.venue.trades n) s.venue)
+  undo_leads n t (Ok u) w (x, (e, l)) =
+      left_out R (length s.lines) leads s.venue _ w.venue 4 l
+      (trade_leads R (length s.lines) leads t n (under s.venue.trades n) s.venue)
   undo_leads n t (Err f) w (x, e) = stays R (length s.lines) leads s w e
 
   lose_leads : (line : ℕ) (t : Time) (r : Result (Unit {0}) GatewayFault) (w : State) → Loses line t s r w → Holds w
@@ -338,7 +382,8 @@ module _ (R : Ledger → Ledger → Type 0) (s : State) (leads : Leads R (length
       left_out R (length s.lines) leads s.venue _ w.venue _ l (closed_leads R (length s.lines) leads line there t s)
   lose_leads line t (Err f) w (x, e) = stays R (length s.lines) leads s w e
 
-  hands_leads : (o : Option GatewayFault) (h : Handed) (buffer : List ℕ) (r : Result ℕ GatewayFault) (w : State) (out : List ℕ) → h.after.venue ≡ s.venue → Hands o h s buffer r w out → Holds w
+  hands_leads : (o : Option GatewayFault) (h : Handed) (buffer : List ℕ) (r : Result ℕ GatewayFault) (w : State)
+      (out : List ℕ) → h.after.venue ≡ s.venue → Hands o h s buffer r w out → Holds w
   hands_leads o h buffer r w out k d =
       let same = leads.same (ledger_of s.venue) in
       hands_by Holds s same o h buffer r w out (subst (λ (z : View). R (ledger_of s.venue) (ledger_of z)) (sym k) same) d
@@ -349,5 +394,7 @@ module _ (R : Ledger → Ledger → Type 0) (s : State) (leads : Leads R (length
   call_leads (done.Step t r) w h = step_leads t r w h
   call_leads (done.CancelTrade n t r) w h = undo_leads n t r w h
   call_leads (done.LineLost line t r) w h = lose_leads line t r w h
-  call_leads (done.Send line r) w h = hands_leads (send_fault RealTime (length blank) line s) (live_handed line s) blank r.answer w r.buffer refl h
-  call_leads (done.SendRecovered line r) w h = hands_leads (send_fault Recovery (length blank) line s) (recovery_handed line s) blank r.answer w r.buffer refl h
+  call_leads (done.Send line r) w h =
+      hands_leads (send_fault RealTime (length blank) line s) (live_handed line s) blank r.answer w r.buffer refl h
+  call_leads (done.SendRecovered line r) w h =
+      hands_leads (send_fault Recovery (length blank) line s) (recovery_handed line s) blank r.answer w r.buffer refl h

@@ -40,7 +40,8 @@ same_set : (line : ℕ) (s u w : State) → w.lines ≡ u.lines → Set line s u
 same_set line s u w e (inl f) = inl (e ∙ f)
 same_set line s u w e (inr (x, f)) = inr (x, e ∙ f)
 
-admitted_set : (known : Bool) (line : ℕ) (s : State) (r : Result SessionState LogonRefusal) → Set line s (admitted known line s r).1
+admitted_set : (known : Bool) (line : ℕ) (s : State) (r : Result SessionState LogonRefusal)
+    → Set line s (admitted known line s r).1
 admitted_set known line s (Err e) = inl refl
 admitted_set true line s (Ok x) = inr (x, refl)
 admitted_set false line s (Ok x) = inl refl
@@ -49,7 +50,8 @@ asked_set : (line : ℕ) (m : Message) (s : State) (o : Requested) → OutSet li
 asked_set line m s (Refused t) = inl refl
 asked_set line m s (Did most v) = inl refl
 
-missed_set : (r : Result (SessionState × AckResponse) RequestRefusal) (line : ℕ) (m : MissedMessageRequest) (s : State) → OutSet line s (missed_by r line m s)
+missed_set : (r : Result (SessionState × AckResponse) RequestRefusal) (line : ℕ) (m : MissedMessageRequest) (s : State)
+    → OutSet line s (missed_by r line m s)
 missed_set (Err e) line m s = inl refl
 missed_set (Ok (x, a)) line m s = inr (x, refl)
 
@@ -61,7 +63,8 @@ logout_set : (ch : Channel) (line : ℕ) (t : Time) (s : State) → OutSet line 
 logout_set RealTime line t s = inr (_, refl)
 logout_set Recovery line t s = inr (_, refl)
 
-where_on : (line : ℕ) (s : State) (b : Bool) (o : Outcome) (a : Answer) → OutSet line s o → OutSet line s (cond b o (Answered a s))
+where_on : (line : ℕ) (s : State) (b : Bool) (o : Outcome) (a : Answer) → OutSet line s o
+    → OutSet line s (cond b o (Answered a s))
 where_on line s true o a f = f
 where_on line s false o a f = inl refl
 
@@ -71,11 +74,16 @@ silence line s false a c = inl refl
 
 heard_set : (ch : Channel) (line : ℕ) (m : Message) (t : Time) (s : State) → OutSet line s (heard ch line m t s)
 heard_set ch line (message.Logon m) t s = admitted_set (admits (slice_get s.participants line) m) line s _
-heard_set ch line (message.NewOrder m) t s = where_on line s (on ch (session s line)) _ _ (asked_set line (message.NewOrder m) s _)
-heard_set ch line (message.OrderCancelRequest m) t s = where_on line s (on ch (session s line)) _ _ (asked_set line (message.OrderCancelRequest m) s _)
-heard_set ch line (message.OrderCancelReplaceRequest m) t s = where_on line s (on ch (session s line)) _ _ (asked_set line (message.OrderCancelReplaceRequest m) s _)
-heard_set ch line (message.OrderMassCancelRequest m) t s = where_on line s (on ch (session s line)) _ _ (asked_set line (message.OrderMassCancelRequest m) s _)
-heard_set ch line (message.MissedMessageRequest m) t s = where_on line s (on ch (session s line)) _ _ (missed_here ch line m s)
+heard_set ch line (message.NewOrder m) t s =
+    where_on line s (on ch (session s line)) _ _ (asked_set line (message.NewOrder m) s _)
+heard_set ch line (message.OrderCancelRequest m) t s =
+    where_on line s (on ch (session s line)) _ _ (asked_set line (message.OrderCancelRequest m) s _)
+heard_set ch line (message.OrderCancelReplaceRequest m) t s =
+    where_on line s (on ch (session s line)) _ _ (asked_set line (message.OrderCancelReplaceRequest m) s _)
+heard_set ch line (message.OrderMassCancelRequest m) t s =
+    where_on line s (on ch (session s line)) _ _ (asked_set line (message.OrderMassCancelRequest m) s _)
+heard_set ch line (message.MissedMessageRequest m) t s =
+    where_on line s (on ch (session s line)) _ _ (missed_here ch line m s)
 heard_set ch line (message.Logout m) t s = where_on line s (on ch (session s line)) _ _ (logout_set ch line t s)
 heard_set ch line (message.LogonReply m) t s = silence line s (on ch (session s line)) _ _
 heard_set ch line (message.Heartbeat m) t s = silence line s (on ch (session s line)) _ _
@@ -89,16 +97,21 @@ heard_set ch line (message.OrderMassCancelReport m) t s = silence line s (on ch 
 stays_set : (line : ℕ) (s w : State) → w ≡ s → Set line s w
 stays_set line s w e = inl (ap (λ (z : State). z.lines) e)
 
-settled_set : (line : ℕ) (s : State) (o : Outcome) (buffer : List ℕ) (r : Result ℕ GatewayFault) (w : State) (out : List ℕ) → OutSet line s o → Settled o buffer r w out → Set line s w
+settled_set : (line : ℕ) (s : State) (o : Outcome) (buffer : List ℕ) (r : Result ℕ GatewayFault) (w : State)
+    (out : List ℕ) → OutSet line s o → Settled o buffer r w out → Set line s w
 settled_set line s (Answered a u) buffer r w out f (x, e, y) = same_set line s u w (ap (λ (z : State). z.lines) e) f
-settled_set line s (Reported most u) buffer r w out f (x, (e, l), y) = same_set line s u w (ap (λ (z : State). z.lines) e) f
+settled_set line s (Reported most u) buffer r w out f (x, (e, l), y) =
+    same_set line s u w (ap (λ (z : State). z.lines) e) f
 
-hears_set : (ch : Channel) (line : ℕ) (bs : List ℕ) (t : Time) (s : State) (buffer : List ℕ) (r : Result ℕ GatewayFault) (w : State) (out : List ℕ)
+hears_set : (ch : Channel) (line : ℕ) (bs : List ℕ) (t : Time) (s : State) (buffer : List ℕ)
+    (r : Result ℕ GatewayFault) (w : State) (out : List ℕ)
     → Hears ch line bs t s buffer r w out → Set line s w
 hears_set ch line bs t s buffer r w out h =
-    hears_by (Set line s) s (inl refl) ch line bs t buffer r w out (λ m k reads d. settled_set line s (heard ch line m t s) buffer r w out (heard_set ch line m t s) d) h
+    hears_by (Set line s) s (inl refl) ch line bs t buffer r w out
+    (λ m k reads d. settled_set line s (heard ch line m t s) buffer r w out (heard_set ch line m t s) d) h
 
-hands_set : (line : ℕ) (o : Option GatewayFault) (p : Handed) (s : State) (buffer : List ℕ) (r : Result ℕ GatewayFault) (w : State) (out : List ℕ)
+hands_set : (line : ℕ) (o : Option GatewayFault) (p : Handed) (s : State) (buffer : List ℕ) (r : Result ℕ GatewayFault)
+    (w : State) (out : List ℕ)
     → Set line s p.after → Hands o p s buffer r w out → Set line s w
 hands_set line o p s buffer r w out k d = hands_by (Set line s) s (inl refl) o p buffer r w out k d
 
@@ -116,14 +129,19 @@ call_sets s (done.CancelTrade n t (Ok u)) w (x, (e, l)) = ap (λ (z : State). z.
 call_sets s (done.CancelTrade n t (Err f)) w (x, e) = ap (λ (z : State). z.lines) e
 call_sets s (done.LineLost line t (Ok u)) w (x, (e, l)) = inr (_, ap (λ (z : State). z.lines) e)
 call_sets s (done.LineLost line t (Err f)) w (x, e) = stays_set line s w e
-call_sets s (done.Send line r) w h = hands_set line (send_fault RealTime (length blank) line s) (live_handed line s) s blank r.answer w r.buffer (inr (_, refl)) h
-call_sets s (done.SendRecovered line r) w h = hands_set line (send_fault Recovery (length blank) line s) (recovery_handed line s) s blank r.answer w r.buffer (inr (_, refl)) h
+call_sets s (done.Send line r) w h =
+    hands_set line (send_fault RealTime (length blank) line s) (live_handed line s) s blank r.answer w r.buffer
+    (inr (_, refl)) h
+call_sets s (done.SendRecovered line r) w h =
+    hands_set line (send_fault Recovery (length blank) line s) (recovery_handed line s) s blank r.answer w r.buffer
+    (inr (_, refl)) h
 
 -- ---- others stay
 
 at_other : (line : ℕ) (s w : State) (k : ℕ) → (k ≡ line → ⊥) → Set line s w → session w k ≡ session s k
 at_other line s w k ne (inl e) = ap (λ (l : List SessionState). slice_index_or l k fresh) e
-at_other line s w k ne (inr (x, e)) = ap (λ (l : List SessionState). slice_index_or l k fresh) e ∙ get_or-set_other s.lines line k x fresh ne
+at_other line s w k ne (inr (x, e)) =
+    ap (λ (l : List SessionState). slice_index_or l k fresh) e ∙ get_or-set_other s.lines line k x fresh ne
 
 on_others : (o : Option ℕ) (s w : State) (k : ℕ) → (o ≡ Some k → ⊥) → SetOn o s w → session w k ≡ session s k
 on_others None s w k ne e = ap (λ (l : List SessionState). slice_index_or l k fresh) e

@@ -25,7 +25,8 @@ Moving p a b = (ms : List Move) × Moved a ms b × Each p ms
 pub still : (p : Move → Type 0) (a : List Row) → Moving p a a
 still p a = ([], refl, tt)
 
-pub moved_on : (a b : List Row) (ms : List Move) (c : List Row) (ns : List Move) → Moved a ms b → Moved b ns c → Moved a (ns ++ ms) c
+pub moved_on : (a b : List Row) (ms : List Move) (c : List Row) (ns : List Move) → Moved a ms b → Moved b ns c
+    → Moved a (ns ++ ms) c
 moved_on a b ms c [] f g = subst (Moved a ms) (sym g) f
 moved_on a b ms c (n ∷ ns) f (x, g, h) = (x, moved_on a b ms x ns f g, h)
 
@@ -58,7 +59,8 @@ put_there xs (suc n) b x e = there xs n b x e
 abbrev pub Alters : Change → Type 0
 Alters c = (n : ℕ) → after n c None ≡ None
 
-rewrites : (p : Move → Type 0) (is : List Instrument) (t : Time) (n : ℕ) (c : Change) (l : Ledger) (b o : Option Row) → Alters c → p (n, c) → under l.rows n ≡ b → after n c b ≡ o
+rewrites : (p : Move → Type 0) (is : List Instrument) (t : Time) (n : ℕ) (c : Change) (l : Ledger) (b o : Option Row)
+    → Alters c → p (n, c) → under l.rows n ≡ b → after n c b ≡ o
     → Moving p l.rows (rewritten is t n c o l).rows
 rewrites p is t n c l b None k may e h = still p l.rows
 rewrites p is t n c l None (Some r) k may e h = none-some r (sym (k n) ∙ h)
@@ -76,7 +78,8 @@ rewrites p is t n c l (Some b) (Some r) k may e h = (
   (may, tt),
 )
 
-pub changes : (p : Move → Type 0) (is : List Instrument) (t : Time) (n : ℕ) (c : Change) (l : Ledger) → Alters c → p (n, c) → Moving p l.rows (changed is t n c l).rows
+pub changes : (p : Move → Type 0) (is : List Instrument) (t : Time) (n : ℕ) (c : Change) (l : Ledger) → Alters c
+    → p (n, c) → Moving p l.rows (changed is t n c l).rows
 changes p is t n c l k may = rewrites p is t n c l (under l.rows n) (after n c (under l.rows n)) k may refl refl
 
 -- ---- a new order
@@ -99,10 +102,12 @@ apart_under : (xs : List Row) (x : Row) (k : ℕ) → (k ≡ suc (length xs) →
 apart_under xs x zero ne = refl
 apart_under xs x (suc i) ne = apart_get xs x i (λ e. ne (ap suc e))
 
-added_by : (p : Move → Type 0) (rows : List Row) (s : Terms) (a : Ask) (n : ℕ) → n ≡ suc (length rows) → orderable a.quantity ≡ true → p (n, Accept s a)
+added_by : (p : Move → Type 0) (rows : List Row) (s : Terms) (a : Ask) (n : ℕ) → n ≡ suc (length rows)
+    → orderable a.quantity ≡ true → p (n, Accept s a)
     → Moving p rows (rows ++ accepted n s a ∷ [])
 added_by p rows s a n e o may =
-    let here : under (rows ++ accepted n s a ∷ []) n ≡ Some (accepted n s a) = ap (under (rows ++ accepted n s a ∷ [])) e ∙ last_there rows (accepted n s a) in
+    let here : under (rows ++ accepted n s a ∷ []) n
+    ≡ Some (accepted n s a) = ap (under (rows ++ accepted n s a ∷ [])) e ∙ last_there rows (accepted n s a) in
     let none : under rows n ≡ None = ap (under rows) e ∙ none_past rows in (
       (n, Accept s a) ∷ [],
       (
@@ -117,19 +122,27 @@ added_by p rows s a n e o may =
       (may, tt),
     )
 
-pub adds : (p : Move → Type 0) (rows : List Row) (s : Terms) (a : Ask) → orderable a.quantity ≡ true → p (length rows + 1, Accept s a)
+pub adds : (p : Move → Type 0) (rows : List Row) (s : Terms) (a : Ask) → orderable a.quantity ≡ true
+    → p (length rows + 1, Accept s a)
     → Moving p rows (rows ++ accepted (length rows + 1) s a ∷ [])
 adds p rows s a o may = added_by p rows s a (length rows + 1) (omega arith) o may
 
 -- ---- the changes of one order make its row
 
-one : (n : ℕ) (k : ℕ) (c : Change) (ms : List Move) (b : List Row) (x : List Row) (same : Bool) → eqb k n ≡ same → Moves (k, c) x b → Makes n (of n ms) (under x n)
+one : (n : ℕ) (k : ℕ) (c : Change) (ms : List Move) (b : List Row) (x : List Row) (same : Bool) → eqb k n ≡ same
+    → Moves (k, c) x b → Makes n (of n ms) (under x n)
     → Makes n (cond same (c ∷ of n ms) (of n ms)) (under b n)
 one n k c ms b x true e m was =
-    let is : k ≡ n = eqb-true k n e in
-    (under x n, was, subst (λ i. after i c (under x i) ≡ under b i) is m.made, subst (λ i. is_some (under b i) ≡ true) is m.there)
+    let is : k ≡ n = eqb-true k n e in (
+      under x n,
+      was,
+      subst (λ i. after i c (under x i) ≡ under b i) is m.made,
+      subst
+          (λ i. is_some (under b i) ≡ true) is m.there,
+    )
 one n k c ms b x false e m was =
-    subst (Makes n (of n ms)) (sym (m.others n (λ f. let t : eqb k n ≡ true = eq-eqb k n (sym f) in absurd (let z : true ≡ false = sym t ∙ e in cc)))) was
+    subst (Makes n (of n ms)) (sym (m.others n
+    (λ f. let t : eqb k n ≡ true = eq-eqb k n (sym f) in absurd (let z : true ≡ false = sym t ∙ e in cc)))) was
 
 pub order_made : (n : ℕ) (ms : List Move) (b : List Row) → Moved [] ms b → Makes n (of n ms) (under b n)
 order_made n [] b e = ap (λ rows. under rows n) e ∙ nothing n

@@ -30,7 +30,8 @@ use Rattle.venue.specs.Steps.{ledger_of}
 
 -- ---- a change keeps the terms
 
-if_same : (b : Bool) (x : Row) (terms : Terms) (r : Row) → x.terms ≡ terms → cond b (Some x) None ≡ Some r → r.terms ≡ terms
+if_same : (b : Bool) (x : Row) (terms : Terms) (r : Row) → x.terms ≡ terms → cond b (Some x) None ≡ Some r → r.terms
+    ≡ terms
 if_same true x terms r e h = let is : x ≡ r = cc in ap (λ (y : Row). y.terms) (sym is) ∙ e
 if_same false x terms r e h = none-some r h
 
@@ -43,14 +44,16 @@ terms_stay n (Undo u) b r h = if_same (undoable u.quantity b) _ b.terms r refl h
 
 -- ---- reports of one owner
 
-told_owner : (o : ℕ) (es : List ExecutionReport) (i : ℕ) (e : Entry) → slice_get (entries_of o es) i ≡ Some e → e.owner ≡ o
+told_owner : (o : ℕ) (es : List ExecutionReport) (i : ℕ) (e : Entry) → slice_get (entries_of o es) i ≡ Some e → e.owner
+    ≡ o
 told_owner o [] i e h = none-some e h
 told_owner o (x ∷ es) zero e h =
     let first : Entry = record { owner = o; report = Execution x } in
     let is : first ≡ e = cc in ap (λ (y : Entry). y.owner) (sym is)
 told_owner o (x ∷ es) (suc i) e h = told_owner o es i e h
 
-split : (xs ys : List Entry) (i : ℕ) (e : Entry) → slice_get (xs ++ ys) i ≡ Some e → (slice_get xs i ≡ Some e) ⊎ ((j : ℕ) × (slice_get ys j ≡ Some e))
+split : (xs ys : List Entry) (i : ℕ) (e : Entry) → slice_get (xs ++ ys) i ≡ Some e → (slice_get xs i ≡ Some e)
+    ⊎ ((j : ℕ) × (slice_get ys j ≡ Some e))
 split [] ys i e h = inr (i, h)
 split (x ∷ xs) ys zero e h = inl h
 split (x ∷ xs) ys (suc i) e h = split xs ys i e h
@@ -72,24 +75,30 @@ told_of lines o es l i e h = subst (λ x. x < lines) (sym (told_owner o es i e h
 abbrev AllOf : ℕ → Kept → Type 0
 AllOf lines k = (p : Partition) → Of lines (at k p)
 
-appended_at : (lines : ℕ) (k : Kept) (q p : Partition) (es : List Entry) → (q ≡ p) ⊎ (is_at q p ≡ false) → AllOf lines k → Of lines es → Of lines (at (appended k q es) p)
+appended_at : (lines : ℕ) (k : Kept) (q p : Partition) (es : List Entry) → (q ≡ p) ⊎ (is_at q p ≡ false)
+    → AllOf lines k → Of lines es → Of lines (at (appended k q es) p)
 appended_at lines k q p es (inl e) f g =
-    subst (Of lines) (sym (subst (λ u. at (appended k q es) u ≡ at k u ++ es) e (appended-here k q es))) (both_of lines (at k p) es (f p) g)
+    subst (Of lines) (sym (subst (λ u. at (appended k q es) u ≡ at k u ++ es) e (appended-here k q es)))
+    (both_of lines (at k p) es (f p) g)
 appended_at lines k q p es (inr a) f g = subst (Of lines) (sym (appended-apart k q p es a)) (f p)
 
-appended_of : (lines : ℕ) (k : Kept) (q : Partition) (es : List Entry) → AllOf lines k → Of lines es → AllOf lines (appended k q es)
+appended_of : (lines : ℕ) (k : Kept) (q : Partition) (es : List Entry) → AllOf lines k → Of lines es
+    → AllOf lines (appended k q es)
 appended_of lines k q es f g p = appended_at lines k q p es (same_or_apart q p) f g
 
-told_all : (lines : ℕ) (t : Time) (c : Change) (r : Row) (i : Option Instrument) (k : Kept) → r.terms.owner < lines → AllOf lines k → AllOf lines (told_in t c r i k)
+told_all : (lines : ℕ) (t : Time) (c : Change) (r : Row) (i : Option Instrument) (k : Kept) → r.terms.owner < lines
+    → AllOf lines k → AllOf lines (told_in t c r i k)
 told_all lines t c r None k l f = f
 told_all lines t c r (Some i) k l f =
-    appended_of lines k i.partition (entries_of r.terms.owner (reports_of (told_at i t) c r)) f (told_of lines r.terms.owner (reports_of (told_at i t) c r) l)
+    appended_of lines k i.partition (entries_of r.terms.owner (reports_of (told_at i t) c r)) f
+    (told_of lines r.terms.owner (reports_of (told_at i t) c r) l)
 
 -- from numbers to places, and back
 placed : (lines : ℕ) (l : Ledger) → OfLines lines l → AllOf lines l.kept
 placed lines l o p i e h = o.reports p (suc i) e h
 
-numbered : (lines : ℕ) (k : Kept) → AllOf lines k → (p : Partition) (n : ℕ) (e : Entry) → under (at k p) n ≡ Some e → e.owner < lines
+numbered : (lines : ℕ) (k : Kept) → AllOf lines k → (p : Partition) (n : ℕ) (e : Entry) → under (at k p) n ≡ Some e
+    → e.owner < lines
 numbered lines k f p zero e h = none-some e h
 numbered lines k f p (suc i) e h = f p i e h
 
@@ -98,7 +107,8 @@ numbered lines k f p (suc i) e h = f p i e h
 abbrev pub Stay : ℕ → Ledger → Ledger → Type 0
 Stay lines l l' = OfLines lines l → OfLines lines l'
 
-row_of : (lines : ℕ) (rows : List Row) (n : ℕ) (b r : Row) → under rows n ≡ Some b → r.terms.owner < lines → ((m : ℕ) (x : Row) → under rows m ≡ Some x → x.terms.owner < lines)
+row_of : (lines : ℕ) (rows : List Row) (n : ℕ) (b r : Row) → under rows n ≡ Some b → r.terms.owner < lines
+    → ((m : ℕ) (x : Row) → under rows m ≡ Some x → x.terms.owner < lines)
     → (m : ℕ) (x : Row) (same : Bool) → eqb m n ≡ same → under (put_under rows n r) m ≡ Some x → x.terms.owner < lines
 row_of lines rows n b r was l f m x true e h =
     let is : m ≡ n = eqb-true m n e in
@@ -106,27 +116,34 @@ row_of lines rows n b r was l f m x true e h =
     let it : r ≡ x = let g = sym (put_there rows n b r was) ∙ at_n in cc in
     subst (λ (y : Row). y.terms.owner < lines) it l
 row_of lines rows n b r was l f m x false e h =
-    f m x (sym (under-others rows n m r (λ k. let t : eqb m n ≡ true = eq-eqb m n k in absurd (let z : true ≡ false = sym t ∙ e in cc))) ∙ h)
+    f m x (sym (under-others rows n m r (λ k. let t : eqb m n
+    ≡ true = eq-eqb m n k in absurd (let z : true ≡ false = sym t ∙ e in cc))) ∙ h)
 
-changed_stay : (lines : ℕ) (is : List Instrument) (t : Time) (n : ℕ) (c : Change) (l : Ledger) (b o : Option Row) → ((k : ℕ) → after k c None ≡ None) → under l.rows n ≡ b → after n c b ≡ o
+changed_stay : (lines : ℕ) (is : List Instrument) (t : Time) (n : ℕ) (c : Change) (l : Ledger) (b o : Option Row)
+    → ((k : ℕ) → after k c None ≡ None) → under l.rows n ≡ b → after n c b ≡ o
     → Stay lines l (rewritten is t n c o l)
 changed_stay lines is t n c l b None k e h f = f
 changed_stay lines is t n c l None (Some r) k e h f = none-some r (sym (k n) ∙ h)
 changed_stay lines is t n c l (Some b) (Some r) k e h f =
-    let owner : r.terms.owner < lines = subst (λ (x : Terms). x.owner < lines) (sym (terms_stay n c b r h)) (f.orders n b e) in
+    let owner : r.terms.owner < lines = subst (λ (x : Terms). x.owner < lines) (sym (terms_stay n c b r h))
+    (f.orders n b e) in
     record {
       orders = λ m x g. row_of lines l.rows n b r e owner f.orders m x (eqb m n) refl g;
       reports = numbered lines _ (told_all lines t c r (slice_get is r.terms.instrument) l.kept owner (placed lines l f));
     }
 
-new_row : (lines : ℕ) (rows : List Row) (r : Row) → r.terms.owner < lines → ((m : ℕ) (x : Row) → under rows m ≡ Some x → x.terms.owner < lines) → (m : ℕ) (x : Row) → under (rows ++ r ∷ []) m ≡ Some x → x.terms.owner < lines
+new_row : (lines : ℕ) (rows : List Row) (r : Row) → r.terms.owner < lines
+    → ((m : ℕ) (x : Row) → under rows m ≡ Some x → x.terms.owner < lines) → (m : ℕ) (x : Row)
+    → under (rows ++ r ∷ []) m ≡ Some x → x.terms.owner < lines
 new_row lines rows r l f zero x h = none-some x h
 new_row lines [] r l f (suc zero) x h = let is : r ≡ x = cc in subst (λ (y : Row). y.terms.owner < lines) is l
 new_row lines [] r l f (suc (suc i)) x h = none-some x h
 new_row lines (y ∷ ys) r l f (suc zero) x h = f 1 x h
 new_row lines (y ∷ ys) r l f (suc (suc i)) x h = new_row lines ys r l (behind lines y ys f) (suc i) x h
   where
-    behind : (lines : ℕ) (y : Row) (ys : List Row) → ((m : ℕ) (x : Row) → under (y ∷ ys) m ≡ Some x → x.terms.owner < lines) → (m : ℕ) (x : Row) → under ys m ≡ Some x → x.terms.owner < lines
+    behind : (lines : ℕ) (y : Row) (ys : List Row)
+        → ((m : ℕ) (x : Row) → under (y ∷ ys) m ≡ Some x → x.terms.owner < lines) → (m : ℕ) (x : Row) → under ys m ≡ Some x
+        → x.terms.owner < lines
     behind lines y ys f zero x h = none-some x h
     behind lines y ys f (suc m) x h = f (suc (suc m)) x h
 
@@ -145,10 +162,12 @@ stay lines = record {
   };
   add = λ is t s a l h f. record {
     orders = new_row lines l.rows (accepted (length l.rows + 1) s a) h f.orders;
-    reports = numbered lines _ (told_all lines t (Accept s a) (accepted (length l.rows + 1) s a) (slice_get is s.instrument) l.kept h (placed lines l f));
+    reports = numbered lines _ (told_all lines t (Accept s a) (accepted (length l.rows + 1) s a)
+        (slice_get is s.instrument) l.kept h (placed lines l f));
   };
 }
 
 pub stay_owned : StayOwned
 stay_owned s d w h f =
-    subst (λ n. OfLines n (ledger_of w.venue)) (sym (same_many s d w h)) (call_leads (Stay (length s.lines)) s (stay (length s.lines)) d w h f)
+    subst (λ n. OfLines n (ledger_of w.venue)) (sym (same_many s d w h))
+    (call_leads (Stay (length s.lines)) s (stay (length s.lines)) d w h f)

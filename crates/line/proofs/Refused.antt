@@ -17,14 +17,19 @@ use Rattle.texts.specs.declared.values.Time.{Time}
 not_refused : {A : Type 0} (r : Result ℕ GatewayFault) (n : ℕ) → r ≡ Ok n → is_err r ≡ true → A
 not_refused r n e h = absurd (let z : false ≡ true = sym (ap is_err e) ∙ h in cc)
 
-settled : (o : Outcome) (buffer : List ℕ) (r : Result ℕ GatewayFault) (s w : State) (out : List ℕ) → Settled o buffer r w out → is_err r ≡ true → w ≡ s
+settled : (o : Outcome) (buffer : List ℕ) (r : Result ℕ GatewayFault) (s w : State) (out : List ℕ)
+    → Settled o buffer r w out → is_err r ≡ true → w ≡ s
 settled (Answered a u) buffer r s w out (x, e, y) h = not_refused r _ x h
 settled (Reported most u) buffer r s w out (x, e, y) h = not_refused r 0 x h
 
-hears : (ch : Channel) (line : ℕ) (bs : List ℕ) (t : Time) (s : State) (buffer : List ℕ) (r : Result ℕ GatewayFault) (w : State) (out : List ℕ) → Hears ch line bs t s buffer r w out → is_err r ≡ true → w ≡ s
-hears ch line bs t s buffer r w out k h = hears_by (λ z. z ≡ s) s refl ch line bs t buffer r w out (λ m f reads d. settled (heard ch line m t s) buffer r s w out d h) k
+hears : (ch : Channel) (line : ℕ) (bs : List ℕ) (t : Time) (s : State) (buffer : List ℕ) (r : Result ℕ GatewayFault)
+    (w : State) (out : List ℕ) → Hears ch line bs t s buffer r w out → is_err r ≡ true → w ≡ s
+hears ch line bs t s buffer r w out k h =
+    hears_by (λ z. z ≡ s) s refl ch line bs t buffer r w out
+    (λ m f reads d. settled (heard ch line m t s) buffer r s w out d h) k
 
-hands : (o : Option GatewayFault) (p : Handed) (s : State) (buffer : List ℕ) (r : Result ℕ GatewayFault) (w : State) (out : List ℕ) → Hands o p s buffer r w out → is_err r ≡ true → w ≡ s
+hands : (o : Option GatewayFault) (p : Handed) (s : State) (buffer : List ℕ) (r : Result ℕ GatewayFault) (w : State)
+    (out : List ℕ) → Hands o p s buffer r w out → is_err r ≡ true → w ≡ s
 hands (Some f) p s buffer r w out (x, e, y) h = e
 hands None p s buffer r w out (x, e, y) h = not_refused r _ x h
 
@@ -37,5 +42,7 @@ refused_stand s (done.CancelTrade n t (Err f)) w (x, e) h = e
 refused_stand s (done.CancelTrade n t (Ok u)) w k h = absurd (cc)
 refused_stand s (done.LineLost line t (Err f)) w (x, e) h = e
 refused_stand s (done.LineLost line t (Ok u)) w k h = absurd (cc)
-refused_stand s (done.Send line r) w k h = hands (send_fault RealTime (length blank) line s) (live_handed line s) s blank r.answer w r.buffer k h
-refused_stand s (done.SendRecovered line r) w k h = hands (send_fault Recovery (length blank) line s) (recovery_handed line s) s blank r.answer w r.buffer k h
+refused_stand s (done.Send line r) w k h =
+    hands (send_fault RealTime (length blank) line s) (live_handed line s) s blank r.answer w r.buffer k h
+refused_stand s (done.SendRecovered line r) w k h =
+    hands (send_fault Recovery (length blank) line s) (recovery_handed line s) s blank r.answer w r.buffer k h

@@ -15,13 +15,16 @@ module _ (P : State → Type 0) (s : State) (same : P s) where
   unchanged w e = subst P (sym e) same
 
   -- a message is refused, or was read and did what it does
-  module _ (ch : Channel) (line : ℕ) (bs : List ℕ) (t : Time) (buffer : List ℕ) (r : Result ℕ GatewayFault) (w : State) (out : List ℕ)
-      (does : (m : Message) → call_fault (length buffer) line s ≡ None → Reads (reader_of ch) bs m → Settled (heard ch line m t s) buffer r w out → P w) where
+  module _ (ch : Channel) (line : ℕ) (bs : List ℕ) (t : Time) (buffer : List ℕ) (r : Result ℕ GatewayFault) (w : State)
+      (out : List ℕ)
+      (does : (m : Message) → call_fault (length buffer) line s ≡ None → Reads (reader_of ch) bs m
+      → Settled (heard ch line m t s) buffer r w out → P w) where
     read_by : (o : Option Fault) → call_fault (length buffer) line s ≡ None → Read o ch line bs t s buffer r w out → P w
     read_by (Some f) k (x, e, y) = unchanged w e
     read_by None k (m, reads, h) = does m k reads h
 
-    given_by : (o : Option GatewayFault) → call_fault (length buffer) line s ≡ o → Given o ch line bs t s buffer r w out → P w
+    given_by : (o : Option GatewayFault) → call_fault (length buffer) line s ≡ o
+        → Given o ch line bs t s buffer r w out → P w
     given_by (Some f) k (x, e, y) = unchanged w e
     given_by None k h = read_by (verdict (reader_of ch) bs) k h
 
@@ -29,6 +32,7 @@ module _ (P : State → Type 0) (s : State) (same : P s) where
     hears_by h = given_by (call_fault (length buffer) line s) refl h
 
   -- nothing is handed out, or what is
-  pub hands_by : (o : Option GatewayFault) (p : Handed) (buffer : List ℕ) (r : Result ℕ GatewayFault) (w : State) (out : List ℕ) → P p.after → Hands o p s buffer r w out → P w
+  pub hands_by : (o : Option GatewayFault) (p : Handed) (buffer : List ℕ) (r : Result ℕ GatewayFault) (w : State)
+      (out : List ℕ) → P p.after → Hands o p s buffer r w out → P w
   hands_by (Some f) p buffer r w out after (x, e, y) = unchanged w e
   hands_by None p buffer r w out after (x, e, y) = subst P (sym e) after

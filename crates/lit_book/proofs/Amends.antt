@@ -22,29 +22,36 @@ in_at : (xs : List Order) (i n : ℕ) (y : Order) → FoundOrder xs n (Some i) �
 in_at [] i n y f read = absurd (let l = f.0 in let z : ⊥ = omega arith in z)
 in_at (x ∷ xs) zero n y f read = cond-true (eqb x.number n) _ _ (eq-eqb x.number n (f.2 x)) ∙ ap Some (sym read)
 in_at (x ∷ xs) (suc i) n y f read =
-    let p = passes order_number order_held (eqb x.number n) (order_held x) (look order_number order_held (take i xs) n) f.1 in
+    let p = passes order_number order_held (eqb x.number n) (order_held x)
+    (look order_number order_held (take i xs) n) f.1 in
     cond-false (eqb x.number n) _ _ p.0 ∙ in_at xs i n y (omega arith, p.1, f.2) read
 
-under_at : (xs : List Order) (k i n : ℕ) (y : Order) → FoundOrder xs n (Some i) → y ≡ get_or xs i y → order_under (lists xs k) n ≡ Some y
+under_at : (xs : List Order) (k i n : ℕ) (y : Order) → FoundOrder xs n (Some i) → y ≡ get_or xs i y
+    → order_under (lists xs k) n ≡ Some y
 under_at xs k i n y f read = ap (λ (l : List Order). order_in l n) (take-append-drop k xs) ∙ in_at xs i n y f read
 
 -- it goes to the back, or keeps its place
-pub goes_to_back : (xs : List Order) (k i n q : ℕ) (p : Price) (o x : Order) (b : Lit) → FoundOrder xs n (Some i) → o ≡ get_or xs i o
+pub goes_to_back : (xs : List Order) (k i n q : ℕ) (p : Price) (o x : Order) (b : Lit) → FoundOrder xs n (Some i) → o
+    ≡ get_or xs i o
     → goes_back o q p ≡ true → x ≡ with_limit (with_quantity o q) p → b ≡ altered (lists xs k) n None
     → entered b x ≡ amended (lists xs k) (order_under (lists xs k) n) q p
 goes_to_back xs k i n q p o x b f read g r e =
     ap (λ (y : Lit). entered y x) (e ∙ ap (λ (m : ℕ). altered (lists xs k) m None) (sym (ap order_number read ∙ f.2 o)))
     ∙ ap (entered (altered (lists xs k) o.number None)) r
-    ∙ sym (ap (λ (w : Option Order). amended (lists xs k) w q p) (under_at xs k i n o f read) ∙ cond-true (goes_back o q p) _ _ g)
+    ∙ sym (ap (λ (w : Option Order). amended (lists xs k) w q p) (under_at xs k i n o f read) ∙ cond-true
+    (goes_back o q p) _ _ g)
 
-pub keeps_place : (xs : List Order) (k i n q : ℕ) (p : Price) (o : Order) → FoundOrder xs n (Some i) → o ≡ get_or xs i o → goes_back o q p ≡ false
+pub keeps_place : (xs : List Order) (k i n q : ℕ) (p : Price) (o : Order) → FoundOrder xs n (Some i) → o
+    ≡ get_or xs i o → goes_back o q p ≡ false
     → altered (lists xs k) n (Some q) ≡ amended (lists xs k) (order_under (lists xs k) n) q p
 keeps_place xs k i n q p o f read g =
     ap (λ (m : ℕ). altered (lists xs k) m (Some q)) (sym (ap order_number read ∙ f.2 o))
-    ∙ sym (ap (λ (w : Option Order). amended (lists xs k) w q p) (under_at xs k i n o f read) ∙ cond-false (goes_back o q p) _ _ g)
+    ∙ sym (ap (λ (w : Option Order). amended (lists xs k) w q p) (under_at xs k i n o f read) ∙ cond-false
+    (goes_back o q p) _ _ g)
 
 -- ended and opened anew under its number, it is an order of another size
-pub reopened : (m m' : Meaning) (n q : ℕ) (h h' : Held) → get m.orders n ≡ Some h → h' ≡ record h { quantity = q } → m' ≡ closed m n
+pub reopened : (m m' : Meaning) (n q : ℕ) (h h' : Held) → get m.orders n ≡ Some h → h' ≡ record h { quantity = q } → m'
+    ≡ closed m n
     → opened m' n h' ≡ resized m n q
 reopened m m' n q h h' is e f =
     ap (λ (x : Meaning). opened x n h') f

@@ -19,7 +19,8 @@ WorseCrossed a o (x ∷ xs) = (crosses a x ≡ true → prefers a.side (price o)
 -- none that a crosses is priced better
 abbrev pub NoneBetterCrossed : Order → Order → List Order → Type 0
 NoneBetterCrossed a o [] = Unit {0}
-NoneBetterCrossed a o (x ∷ xs) = (crosses a x ≡ true → prefers a.side (price x) (price o) ≡ false) × NoneBetterCrossed a o xs
+NoneBetterCrossed a o (x ∷ xs) =
+    (crosses a x ≡ true → prefers a.side (price x) (price o) ≡ false) × NoneBetterCrossed a o xs
 
 -- o is the best for a among some: those before it are worse, those after it no better
 pub record Best (a o : Order) (xs : List Order) : Type 0 where
@@ -51,27 +52,41 @@ misses_push : (a x : Order) (xs : List Order) → Misses a xs → crosses a x �
 misses_push a x [] m e = (e, tt)
 misses_push a x (y ∷ xs) m e = (m.0, misses_push a x xs m.1 e)
 
-no_better_push : (a o x : Order) (xs : List Order) → NoneBetterCrossed a o xs → (crosses a x ≡ true → prefers a.side (price x) (price o) ≡ false) → NoneBetterCrossed a o (xs ++ x ∷ [])
+no_better_push : (a o x : Order) (xs : List Order) → NoneBetterCrossed a o xs
+    → (crosses a x ≡ true → prefers a.side (price x) (price o) ≡ false) → NoneBetterCrossed a o (xs ++ x ∷ [])
 no_better_push a o x [] m e = (e, tt)
 no_better_push a o x (y ∷ xs) m e = (m.0, no_better_push a o x xs m.1 e)
 
 -- a better order is better than all before
-worse_chain : (a o x : Order) (xs : List Order) → prefers a.side (price x) (price o) ≡ true → WorseCrossed a o xs → WorseCrossed a x xs
+worse_chain : (a o x : Order) (xs : List Order) → prefers a.side (price x) (price o) ≡ true → WorseCrossed a o xs
+    → WorseCrossed a x xs
 worse_chain a o x [] h w = tt
-worse_chain a o x (y ∷ xs) h w = ((λ t. better_chain a.side (price x) (price o) (price y) h (w.0 t)), worse_chain a o x xs h w.1)
+worse_chain a o x (y ∷ xs) h w =
+    ((λ t. better_chain a.side (price x) (price o) (price y) h (w.0 t)), worse_chain a o x xs h w.1)
 
-worse_over : (a o x : Order) (xs : List Order) → prefers a.side (price x) (price o) ≡ true → NoneBetterCrossed a o xs → WorseCrossed a x xs
+worse_over : (a o x : Order) (xs : List Order) → prefers a.side (price x) (price o) ≡ true → NoneBetterCrossed a o xs
+    → WorseCrossed a x xs
 worse_over a o x [] h w = tt
-worse_over a o x (y ∷ xs) h w = ((λ t. better_over a.side (price x) (price o) (price y) h (w.0 t)), worse_over a o x xs h w.1)
+worse_over a o x (y ∷ xs) h w =
+    ((λ t. better_over a.side (price x) (price o) (price y) h (w.0 t)), worse_over a o x xs h w.1)
 
-worse_append : (a x : Order) (xs ys : List Order) → WorseCrossed a x xs → WorseCrossed a x ys → WorseCrossed a x (xs ++ ys)
+worse_append : (a x : Order) (xs ys : List Order) → WorseCrossed a x xs → WorseCrossed a x ys
+    → WorseCrossed a x (xs ++ ys)
 worse_append a x [] ys v w = w
 worse_append a x (y ∷ xs) ys v w = (v.0, worse_append a x xs ys v.1 w)
 
 -- one more order is looked at
-sofar_more : (a x : Order) (xs : List Order) (r : Option Order) (b : Bool) → (crosses a x && improves a x r) ≡ b → Sofar a xs r → Sofar a (xs ++ x ∷ []) (cond b (Some x) r)
+sofar_more : (a x : Order) (xs : List Order) (r : Option Order) (b : Bool) → (crosses a x && improves a x r) ≡ b
+    → Sofar a xs r → Sofar a (xs ++ x ∷ []) (cond b (Some x) r)
 sofar_more a x xs None true e m =
-    record { before = xs; after = []; split = refl; crossed = (and_parts (crosses a x) true e).0; earlier = misses_worse a x xs m; later = tt }
+    record {
+      before = xs;
+      after = [];
+      split = refl;
+      crossed = (and_parts (crosses a x) true e).0;
+      earlier = misses_worse a x xs m;
+      later = tt;
+    }
 sofar_more a x xs None false e m = misses_push a x xs m (only (crosses a x) e)
   where
     only : (c : Bool) → (c && true) ≡ false → c ≡ false
@@ -84,7 +99,9 @@ sofar_more a x xs (Some o) true e m =
       after = [];
       split = refl;
       crossed = p.0;
-      earlier = subst (WorseCrossed a x) (sym m.split) (worse_append a x m.before (o ∷ m.after) (worse_chain a o x m.before p.1 m.earlier) ((λ _. p.1), worse_over a o x m.after p.1 m.later));
+      earlier = subst (WorseCrossed a x) (sym m.split)
+          (worse_append a x m.before (o ∷ m.after) (worse_chain a o x m.before p.1 m.earlier)
+          ((λ _. p.1), worse_over a o x m.after p.1 m.later));
       later = tt;
     }
 sofar_more a x xs (Some o) false e m =

@@ -40,12 +40,15 @@ absent_before xs ys o u =
 
 absent_back : (xs ys : List Order) (n : ℕ) → Absent (xs ++ ys) n → Absent ys n
 absent_back [] ys n h = h
-absent_back (x ∷ xs) ys n h = absent_back xs ys n (passes order_number order_held (eqb x.number n) (order_held x) (look order_number order_held (xs ++ ys) n) h).1
+absent_back (x ∷ xs) ys n h =
+    absent_back xs ys n (passes order_number order_held (eqb x.number n) (order_held x)
+    (look order_number order_held (xs ++ ys) n) h).1
 
 mid_in : (xs ys : List Order) (o : Order) → Absent xs o.number → order_in (xs ++ o ∷ ys) o.number ≡ Some o
 mid_in [] ys o h = cond-true (eqb o.number o.number) _ _ (eq-eqb o.number o.number refl)
 mid_in (x ∷ xs) ys o h =
-    let p = passes order_number order_held (eqb x.number o.number) (order_held x) (look order_number order_held xs o.number) h in
+    let p = passes order_number order_held (eqb x.number o.number) (order_held x)
+    (look order_number order_held xs o.number) h in
     cond-false (eqb x.number o.number) _ _ p.0 ∙ mid_in xs ys o p.1
 
 mid_before : (xs ys : List Order) (o : Order) → Absent xs o.number → before o.number (xs ++ o ∷ ys) ≡ xs
@@ -53,7 +56,8 @@ mid_before [] ys o h =
     take_while-cons (λ (x : Order). not (nat_eq x.number o.number)) o ys
     ∙ cond-false (not (nat_eq o.number o.number)) _ _ (ap not (eq-eqb o.number o.number refl))
 mid_before (x ∷ xs) ys o h =
-    let p = passes order_number order_held (eqb x.number o.number) (order_held x) (look order_number order_held xs o.number) h in
+    let p = passes order_number order_held (eqb x.number o.number) (order_held x)
+    (look order_number order_held xs o.number) h in
     take_while-cons (λ (y : Order). not (nat_eq y.number o.number)) x (xs ++ o ∷ ys)
     ∙ cond-true (not (nat_eq x.number o.number)) _ _ (ap not p.0)
     ∙ ap (λ (l : List Order). x ∷ l) (mid_before xs ys o p.1)
@@ -64,7 +68,8 @@ takes_price : (s : Side) (t u : Pricing) → takes s t u ≡ true → accepts s 
 takes_price s t Market h = absurd (both_ways false refl h)
 takes_price s t (Limit p) h = h
 
-crossed_parts : (a o : Order) → crosses a o ≡ true → (a.instrument ≡ o.instrument) × (opposes a.side o.side ≡ true) × (takes a.side a.pricing o.pricing ≡ true)
+crossed_parts : (a o : Order) → crosses a o ≡ true → (a.instrument ≡ o.instrument) × (opposes a.side o.side ≡ true)
+    × (takes a.side a.pricing o.pricing ≡ true)
 crossed_parts a o h =
     let p = and_parts (eqb a.instrument o.instrument) (opposes a.side o.side && takes a.side a.pricing o.pricing) h in
     let q = and_parts (opposes a.side o.side) (takes a.side a.pricing o.pricing) p.1 in
@@ -73,12 +78,15 @@ crossed_parts a o h =
 crosses_accepts : (a o : Order) → crosses a o ≡ true → accepts a.side a.pricing (price o) ≡ true
 crosses_accepts a o h = takes_price a.side a.pricing o.pricing (crossed_parts a o h).2
 
-fair_of : (b : Lit) (rs ws : List Order) (p : Event × Lit) → all_apart (rs ++ ws) ≡ true → rs ++ ws ≡ b.resting ++ b.waiting → Ends rs ws p → Fair b p.0
+fair_of : (b : Lit) (rs ws : List Order) (p : Event × Lit) → all_apart (rs ++ ws) ≡ true → rs ++ ws ≡ b.resting
+    ++ b.waiting → Ends rs ws p → Fair b p.0
 fair_of b rs [] p u e h = subst (λ (x : Event × Lit). Fair b x.0) (sym h) tt
 fair_of b rs (a ∷ ws) p u e (inl (o, f, h)) =
-    let under : order_under b a.number ≡ Some a = ap (λ (l : List Order). order_in l a.number) (sym e) ∙ mid_in rs ws a (absent_before rs ws a u) in
+    let under : order_under b a.number ≡ Some a = ap (λ (l : List Order). order_in l a.number) (sym e) ∙ mid_in rs ws a
+    (absent_before rs ws a u) in
     subst (λ (x : Event × Lit). Fair b x.0) (sym h)
-    (subst (λ (w : Option Order). MatchOption w ⊥ (λ x. accepts x.side x.pricing (price o) ≡ true)) (sym under) (crosses_accepts a o (best_some a o rs f).crossed))
+    (subst (λ (w : Option Order). MatchOption w ⊥ (λ x. accepts x.side x.pricing (price o) ≡ true)) (sym under)
+    (crosses_accepts a o (best_some a o rs f).crossed))
 fair_of b rs (a ∷ ws) p u e (inr h) = subst (λ (x : Event × Lit). Fair b x.0) (sym h) tt
 
 pub fair : (xs : List Order) (k : ℕ) (e : Event) → all_apart xs ≡ true → e ≡ (next (lists xs k)).0 → Fair (lists xs k) e
@@ -86,7 +94,8 @@ fair xs k e u is =
     let b = lists xs k in
     let s = stop b.resting b.waiting in
     let same = all_same b.resting b.waiting s in
-    subst (Fair b) (sym is) (fair_of b s.at_rest s.in_wait (next b) (ap all_apart (same ∙ take-append-drop k xs) ∙ u) same s.ends)
+    subst (Fair b) (sym is) (fair_of b s.at_rest s.in_wait (next b)
+    (ap all_apart (same ∙ take-append-drop k xs) ∙ u) same s.ends)
 
 -- ---- whom a trade passes over
 
@@ -108,7 +117,8 @@ rest_back : (xs ys : List Order) → AllRest (xs ++ ys) → AllRest ys
 rest_back [] ys r = r
 rest_back (x ∷ xs) ys r = rest_back xs ys r.1
 
-accepts_better : (s : Side) (t : Pricing) (p q : Price) → accepts s t p ≡ true → accepts s t q ≡ false → prefers s p q ≡ true
+accepts_better : (s : Side) (t : Pricing) (p q : Price) → accepts s t p ≡ true → accepts s t q ≡ false → prefers s p q
+    ≡ true
 accepts_better s Market p q h k = absurd (both_ways true k refl)
 accepts_better Buy (Limit l) p q h k = grind (arith, ints)
 accepts_better Sell (Limit l) p q h k = grind (arith, ints)
@@ -117,7 +127,8 @@ better_one_way : (s : Side) (p q : Price) → prefers s p q ≡ true → prefers
 better_one_way Buy p q h = grind (arith, ints)
 better_one_way Sell p q h = grind (arith, ints)
 
-refuses : (s : Side) (u t : Pricing) (f : TimeInForce) → lasting t f ≡ true → takes s u t ≡ false → accepts s u (limit t) ≡ false
+refuses : (s : Side) (u t : Pricing) (f : TimeInForce) → lasting t f ≡ true → takes s u t ≡ false
+    → accepts s u (limit t) ≡ false
 refuses s u Market f h k = absurd (both_ways false refl h)
 refuses s u (Limit p) f h k = k
 
@@ -135,66 +146,88 @@ third true false z h k e = absurd (both_ways false refl k)
 third false y z h k e = absurd (both_ways false refl h)
 
 -- an order like o that a does not cross is priced worse
-uncrossed_worse : (a o x : Order) → crosses a o ≡ true → rests x ≡ true → alike o x ≡ true → crosses a x ≡ false → prefers a.side (price o) (price x) ≡ true
+uncrossed_worse : (a o x : Order) → crosses a o ≡ true → rests x ≡ true → alike o x ≡ true → crosses a x ≡ false
+    → prefers a.side (price o) (price x) ≡ true
 uncrossed_worse a o x c r l n =
     let p = crossed_parts a o c in
     let q = and_parts (eqb o.instrument x.instrument) (not (opposes o.side x.side)) l in
     let same = eq-eqb a.instrument x.instrument (p.0 ∙ eqb-true _ _ q.0) in
     let face = facing a.side o.side x.side p.1 q.1 in
-    let k = third (eqb a.instrument x.instrument) (opposes a.side x.side) (takes a.side a.pricing x.pricing) same face n in
-    accepts_better a.side a.pricing (price o) (price x) (crosses_accepts a o c) (refuses a.side a.pricing x.pricing x.time_in_force r k)
+    let k = third (eqb a.instrument x.instrument) (opposes a.side x.side)
+    (takes a.side a.pricing x.pricing) same face n in
+    accepts_better a.side a.pricing (price o) (price x) (crosses_accepts a o c)
+    (refuses a.side a.pricing x.pricing x.time_in_force r k)
 
 -- no price is better than itself
 not_better : (s : Side) (p : Price) → prefers s p p ≡ false
 not_better Buy p = grind (arith, ints)
 not_better Sell p = grind (arith, ints)
 
-all_worse : (a o : Order) (xs : List Order) → crosses a o ≡ true → AllRest xs → WorseCrossed a o xs → All (Worse a.side o) xs
+all_worse : (a o : Order) (xs : List Order) → crosses a o ≡ true → AllRest xs → WorseCrossed a o xs
+    → All (Worse a.side o) xs
 all_worse a o [] c r w = All-nil (Worse a.side o)
 all_worse a o (x ∷ xs) c r w =
     All-cons (Worse a.side o) x xs
     (λ l. elim (cases_Bool (crosses a x)) [ inl t ↦ w.0 t | inr n ↦ uncrossed_worse a o x c r.0 l n ])
     (all_worse a o xs c r.1 w.1)
 
-none_after : (a o : Order) (xs : List Order) → crosses a o ≡ true → AllRest xs → NoneBetterCrossed a o xs → All (NoBetter a.side o) xs
+none_after : (a o : Order) (xs : List Order) → crosses a o ≡ true → AllRest xs → NoneBetterCrossed a o xs
+    → All (NoBetter a.side o) xs
 none_after a o [] c r w = All-nil (NoBetter a.side o)
 none_after a o (x ∷ xs) c r w =
     All-cons (NoBetter a.side o) x xs
-    (λ l. elim (cases_Bool (crosses a x)) [ inl t ↦ w.0 t | inr n ↦ better_one_way a.side (price o) (price x) (uncrossed_worse a o x c r.0 l n) ])
+    (λ l. elim (cases_Bool (crosses a x)) [
+      | inl t ↦ w.0 t
+      | inr n ↦ better_one_way a.side (price o) (price x)
+          (uncrossed_worse a o x c r.0 l n)
+    ])
     (none_after a o xs c r.1 w.1)
 
 -- none at all is better
-none_better : (a o : Order) (xs ys : List Order) → crosses a o ≡ true → AllRest (xs ++ o ∷ ys) → WorseCrossed a o xs → NoneBetterCrossed a o ys
+none_better : (a o : Order) (xs ys : List Order) → crosses a o ≡ true → AllRest (xs ++ o ∷ ys) → WorseCrossed a o xs
+    → NoneBetterCrossed a o ys
     → All (NoBetter a.side o) (xs ++ o ∷ ys)
-none_better a o [] ys c r w v = All-cons (NoBetter a.side o) o ys (λ l. not_better a.side (price o)) (none_after a o ys c r.1 v)
+none_better a o [] ys c r w v =
+    All-cons (NoBetter a.side o) o ys (λ l. not_better a.side (price o)) (none_after a o ys c r.1 v)
 none_better a o (x ∷ xs) ys c r w v =
     All-cons (NoBetter a.side o) x (xs ++ o ∷ ys)
-    (λ l. better_one_way a.side (price o) (price x) (elim (cases_Bool (crosses a x)) [ inl t ↦ w.0 t | inr n ↦ uncrossed_worse a o x c r.0 l n ]))
+    (λ l. better_one_way a.side (price o) (price x)
+    (elim (cases_Bool (crosses a x)) [ inl t ↦ w.0 t | inr n ↦ uncrossed_worse a o x c r.0 l n ]))
     (none_better a o xs ys c r.1 w.1 v)
 
-first_served : (a o : Order) (rs ws : List Order) → all_apart (rs ++ a ∷ ws) ≡ true → settled rs ≡ true → best a rs ≡ Some o → FirstServed a o.number rs
+first_served : (a o : Order) (rs ws : List Order) → all_apart (rs ++ a ∷ ws) ≡ true → settled rs ≡ true → best a rs
+    ≡ Some o → FirstServed a o.number rs
 first_served a o rs ws u s f =
     let t = best_some a o rs f in
-    let whole : rs ++ a ∷ ws ≡ t.before ++ o ∷ (t.after ++ a ∷ ws) = ap (λ (l : List Order). l ++ a ∷ ws) t.split ∙ append_assoc t.before (o ∷ t.after) (a ∷ ws) in
+    let whole : rs ++ a ∷ ws ≡ t.before ++ o ∷ (t.after ++ a ∷ ws) = ap
+    (λ (l : List Order). l ++ a ∷ ws) t.split ∙ append_assoc t.before (o ∷ t.after) (a ∷ ws) in
     let n = absent_before t.before (t.after ++ a ∷ ws) o (ap all_apart (sym whole) ∙ u) in
     let r = subst AllRest t.split (all_rest rs s) in
-    let in_line : All (Worse a.side o) (before o.number (t.before ++ o ∷ t.after)) × All (NoBetter a.side o) (t.before ++ o ∷ t.after) = (
-      subst (All (Worse a.side o)) (sym (mid_before t.before t.after o n)) (all_worse a o t.before t.crossed (rest_front t.before (o ∷ t.after) r) t.earlier),
+    let in_line : All (Worse a.side o) (before o.number (t.before ++ o ∷ t.after))
+    × All (NoBetter a.side o) (t.before ++ o ∷ t.after) = (
+      subst (All (Worse a.side o)) (sym (mid_before t.before t.after o n))
+          (all_worse a o t.before t.crossed (rest_front t.before (o ∷ t.after) r) t.earlier),
       none_better a o t.before t.after t.crossed r t.earlier t.later,
     ) in
     subst (FirstServed a o.number) (sym t.split)
-    (subst (λ (w : Option Order). MatchOption w ⊥ (λ y. All (Worse a.side y) (before o.number (t.before ++ o ∷ t.after)) × All (NoBetter a.side y) (t.before ++ o ∷ t.after)))
+    (subst (λ (w : Option Order). MatchOption w ⊥
+    (λ y. All (Worse a.side y) (before o.number (t.before ++ o ∷ t.after))
+    × All (NoBetter a.side y) (t.before ++ o ∷ t.after)))
     (sym (mid_in t.before t.after o n)) in_line)
 
-served_of : (b : Lit) (s : Stop b.resting b.waiting (next b)) (rs ws : List Order) → rs ≡ s.at_rest → ws ≡ s.in_wait → all_apart (rs ++ ws) ≡ true → settled rs ≡ true
+served_of : (b : Lit) (s : Stop b.resting b.waiting (next b)) (rs ws : List Order) → rs ≡ s.at_rest → ws ≡ s.in_wait
+    → all_apart (rs ++ ws) ≡ true → settled rs ≡ true
     → Ends rs ws (next b) → Served b (next b).0
 served_of b s rs [] p q u t h = subst (λ (x : Event × Lit). Served b x.0) (sym h) tt
 served_of b s rs (a ∷ ws) p q u t (inr h) = subst (λ (x : Event × Lit). Served b x.0) (sym h) tt
 served_of b s rs (a ∷ ws) p q u t (inl (o, f, h)) =
     let n = absent_before rs ws a u in
-    let all : b.resting ++ b.waiting ≡ rs ++ a ∷ ws = sym (all_same b.resting b.waiting s) ∙ ap (λ (l : List Order). l ++ s.in_wait) (sym p) ∙ ap (λ (l : List Order). rs ++ l) (sym q) in
+    let all : b.resting ++ b.waiting ≡ rs ++ a
+    ∷ ws = sym (all_same b.resting b.waiting s) ∙ ap (λ (l : List Order). l ++ s.in_wait) (sym p) ∙ ap
+    (λ (l : List Order). rs ++ l) (sym q) in
     let under : order_under b a.number ≡ Some a = ap (λ (l : List Order). order_in l a.number) all ∙ mid_in rs ws a n in
-    let came : Absent s.came a.number = absent_back b.resting s.came a.number (ap (λ (l : List Order). look order_number order_held l a.number) (sym s.rested ∙ sym p) ∙ n) in
+    let came : Absent s.came a.number = absent_back b.resting s.came a.number
+    (ap (λ (l : List Order). look order_number order_held l a.number) (sym s.rested ∙ sym p) ∙ n) in
     let there : at_rest_for a.number b ≡ rs =
     ap (λ (l : List Order). b.resting ++ before a.number l) (s.waited ∙ ap (λ (l : List Order). s.came ++ l) (sym q))
     ∙ ap (λ (l : List Order). b.resting ++ l) (mid_before s.came ws a came)
@@ -203,12 +236,14 @@ served_of b s rs (a ∷ ws) p q u t (inl (o, f, h)) =
     (subst (λ (w : Option Order). MatchOption w ⊥ (λ y. FirstServed y o.number (at_rest_for a.number b))) (sym under)
     (subst (FirstServed a o.number) (sym there) (first_served a o rs ws u t f)))
 
-pub served : (xs : List Order) (k : ℕ) (e : Event) → all_apart xs ≡ true → settled (take k xs) ≡ true → e ≡ (next (lists xs k)).0 → Served (lists xs k) e
+pub served : (xs : List Order) (k : ℕ) (e : Event) → all_apart xs ≡ true → settled (take k xs) ≡ true → e
+    ≡ (next (lists xs k)).0 → Served (lists xs k) e
 served xs k e u q is =
     let b = lists xs k in
     let s = stop b.resting b.waiting in
     subst (Served b) (sym is)
-    (served_of b s s.at_rest s.in_wait refl refl (ap all_apart (all_same b.resting b.waiting s ∙ take-append-drop k xs) ∙ u) (s.quiet q) s.ends)
+    (served_of b s s.at_rest s.in_wait refl refl
+    (ap all_apart (all_same b.resting b.waiting s ∙ take-append-drop k xs) ∙ u) (s.quiet q) s.ends)
 
 -- ---- no two at rest cross
 
@@ -219,7 +254,8 @@ self_uncrossed x = and_right (eqb x.instrument x.instrument) _ (and_left (oppose
     same Buy = refl
     same Sell = refl
 
-both_limits : (s s' : Side) (t t' : Pricing) (f f' : TimeInForce) → lasting t f ≡ true → lasting t' f' ≡ true → (opposes s s' && takes s t t') ≡ false → (opposes s' s && takes s' t' t) ≡ false
+both_limits : (s s' : Side) (t t' : Pricing) (f f' : TimeInForce) → lasting t f ≡ true → lasting t' f' ≡ true
+    → (opposes s s' && takes s t t') ≡ false → (opposes s' s && takes s' t' t) ≡ false
 both_limits s s' Market t' f f' h k e = absurd (both_ways false refl h)
 both_limits s s' (Limit l) Market f f' h k e = absurd (both_ways false refl k)
 both_limits Buy Buy (Limit l) (Limit m) f f' h k e = refl
@@ -230,11 +266,14 @@ both_limits Sell Sell (Limit l) (Limit m) f f' h k e = refl
 either_way : (x y : Order) → rests x ≡ true → rests y ≡ true → crosses x y ≡ false → crosses y x ≡ false
 either_way x y r q e =
     elim (and_cases (eqb x.instrument y.instrument) (opposes x.side y.side && takes x.side x.pricing y.pricing) e) [
-      | inl n ↦ and_left (eqb y.instrument x.instrument) _ (ne_eqb _ _ (λ i. eqb-false x.instrument y.instrument n (sym i)))
-      | inr n ↦ and_right (eqb y.instrument x.instrument) _ (both_limits x.side y.side x.pricing y.pricing x.time_in_force y.time_in_force r q n)
+      | inl n ↦ and_left (eqb y.instrument x.instrument) _
+          (ne_eqb _ _ (λ i. eqb-false x.instrument y.instrument n (sym i)))
+      | inr n ↦ and_right (eqb y.instrument x.instrument) _
+          (both_limits x.side y.side x.pricing y.pricing x.time_in_force y.time_in_force r q n)
     ]
 
-clear_at : (x : Order) (xs : List Order) (i : ℕ) (d : Order) → i < length xs → clear_of x xs ≡ true → crosses (get_or xs i d) x ≡ false
+clear_at : (x : Order) (xs : List Order) (i : ℕ) (d : Order) → i < length xs → clear_of x xs ≡ true
+    → crosses (get_or xs i d) x ≡ false
 clear_at x [] i d lt h = absurd (let z : ⊥ = omega arith in z)
 clear_at x (y ∷ xs) zero d lt h = not-true (crosses y x) (and_parts (not (crosses y x)) (clear_of x xs) h).0
 clear_at x (y ∷ xs) (suc i) d lt h = clear_at x xs i d (omega arith) (and_parts (not (crosses y x)) (clear_of x xs) h).1
@@ -242,7 +281,9 @@ clear_at x (y ∷ xs) (suc i) d lt h = clear_at x xs i d (omega arith) (and_part
 rest_at : (xs : List Order) (i : ℕ) (d : Order) → i < length xs → settled xs ≡ true → rests (get_or xs i d) ≡ true
 rest_at [] i d lt h = absurd (let z : ⊥ = omega arith in z)
 rest_at (x ∷ xs) zero d lt h = (and_parts (rests x) (clear_of x xs && settled xs) h).0
-rest_at (x ∷ xs) (suc i) d lt h = rest_at xs i d (omega arith) (and_parts (clear_of x xs) (settled xs) (and_parts (rests x) (clear_of x xs && settled xs) h).1).1
+rest_at (x ∷ xs) (suc i) d lt h =
+    rest_at xs i d (omega arith) (and_parts (clear_of x xs) (settled xs)
+    (and_parts (rests x) (clear_of x xs && settled xs) h).1).1
 
 pub uncrossed : (xs : List Order) → settled xs ≡ true → Uncrossed xs
 uncrossed [] h i j d li lj = absurd (let z : ⊥ = omega arith in z)

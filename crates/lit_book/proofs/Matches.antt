@@ -30,7 +30,8 @@ some_none : {X : Type 0} (x : X) → ◌≡◌ {A = Option X} None (Some x) → 
 some_none x e = let z : ◌≡◌ {A = ℕ} 0 1 = cc in omega arith
 
 -- numbers are apart, so every order is found under its number
-found_in : (xs : List Order) (i : ℕ) (o : Order) → Distinct order_number order_held xs → i < length xs → o ≡ get_or xs i o → FoundOrder xs o.number (Some i)
+found_in : (xs : List Order) (i : ℕ) (o : Order) → Distinct order_number order_held xs → i < length xs → o
+    ≡ get_or xs i o → FoundOrder xs o.number (Some i)
 found_in [] i o u lt read = absurd (let z : ⊥ = omega arith in z)
 found_in (x ∷ xs) zero o u lt read = (lt, refl, λ d. ap order_number (sym read))
 found_in (x ∷ xs) (suc i) o u lt read =
@@ -39,23 +40,28 @@ found_in (x ∷ xs) (suc i) o u lt read =
     let ne : eqb x.number o.number ≡ false = ne_eqb _ _ (λ q. some_none _ (sym u.0 ∙ ap (at xs) q ∙ held)) in
     (lt, cond-false (eqb x.number o.number) _ _ ne ∙ f.1, f.2)
 
-pub own_place : (xs : List Order) (i : ℕ) (o : Order) → all_apart xs ≡ true → i < length xs → o ≡ get_or xs i o → FoundOrder xs o.number (Some i)
+pub own_place : (xs : List Order) (i : ℕ) (o : Order) → all_apart xs ≡ true → i < length xs → o ≡ get_or xs i o
+    → FoundOrder xs o.number (Some i)
 own_place xs i o u lt read = found_in xs i o (distinct_from order_number order_held xs u) lt read
 
 -- the first of the waiting, by its place
-oldest_at : (xs : List Order) (k : ℕ) (a : Order) → slice_get (drop k xs) 0 ≡ Some a → (k < length xs) × (a ≡ get_or xs k a)
+oldest_at : (xs : List Order) (k : ℕ) (a : Order) → slice_get (drop k xs) 0 ≡ Some a → (k < length xs)
+    × (a ≡ get_or xs k a)
 oldest_at [] zero a e = absurd (some_none a e)
 oldest_at [] (suc k) a e = absurd (some_none a e)
 oldest_at (x ∷ xs) zero a e = (omega arith, cc)
 oldest_at (x ∷ xs) (suc k) a e = let h = oldest_at xs k a e in (let l = h.0 in omega arith, h.1)
 
-pub oldest_place : (xs : List Order) (k : ℕ) (a : Order) → all_apart xs ≡ true → slice_get (drop k xs) 0 ≡ Some a → FoundOrder xs a.number (Some k)
+pub oldest_place : (xs : List Order) (k : ℕ) (a : Order) → all_apart xs ≡ true → slice_get (drop k xs) 0 ≡ Some a
+    → FoundOrder xs a.number (Some k)
 oldest_place xs k a u e = let p = oldest_at xs k a e in own_place xs k a u p.0 p.1
 
-pub oldest_held : (xs : List Order) (k : ℕ) (a : Order) → all_apart xs ≡ true → slice_get (drop k xs) 0 ≡ Some a → get (orders_of xs) a.number ≡ Some (order_held a)
+pub oldest_held : (xs : List Order) (k : ℕ) (a : Order) → all_apart xs ≡ true → slice_get (drop k xs) 0 ≡ Some a
+    → get (orders_of xs) a.number ≡ Some (order_held a)
 oldest_held xs k a u e = held xs k a.number a (oldest_place xs k a u e) (oldest_at xs k a e).1
 
-pub oldest_known : (xs : List Order) (k : ℕ) (a : Order) → all_apart xs ≡ true → slice_get (drop k xs) 0 ≡ Some a → is_some (get (orders_of xs) a.number) ≡ true
+pub oldest_known : (xs : List Order) (k : ℕ) (a : Order) → all_apart xs ≡ true → slice_get (drop k xs) 0 ≡ Some a
+    → is_some (get (orders_of xs) a.number) ≡ true
 oldest_known xs k a u e = ap is_some (oldest_held xs k a u e)
 
 -- a, the oldest waiting order, and o, the best for it, which stands at i
@@ -69,7 +75,8 @@ pub record Matched (xs : List Order) (k i : ℕ) (a o : Order) : Type 0 where
   pub passive_some : 0 < o.quantity
   pub aggressive_some : 0 < a.quantity
 
-pub matched : (xs : List Order) (k i : ℕ) (a o : Order) → k ≤ length xs → all_apart xs ≡ true → All (λ o. 0 < o.quantity) xs → slice_get (drop k xs) 0 ≡ Some a
+pub matched : (xs : List Order) (k i : ℕ) (a o : Order) → k ≤ length xs → all_apart xs ≡ true
+    → All (λ o. 0 < o.quantity) xs → slice_get (drop k xs) 0 ≡ Some a
     → BestAt a (take k xs) (Some i) → o ≡ get_or xs i o → Matched xs k i a o
 matched xs k i a o le u h e b read =
     let d = distinct_from order_number order_held xs u in
@@ -80,8 +87,10 @@ matched xs k i a o le u h e b read =
     let is : best a (take k xs) ≡ Some o = b.1 o ∙ ap Some (get_or-take k xs i o lt ∙ sym read) in
     let f = own_place xs i o u (omega arith) read in
     let gone : at (drop k xs) o.number ≡ None = rest_absent xs i k o.number d f lt in
-    let off : cond (eqb a.number o.number) (Some (order_held a)) (at (drop 1 (drop k xs)) o.number) ≡ None = ap (λ (l : List Order). at l o.number) (sym (head_is (drop k xs) a e)) ∙ gone in
-    let ne = (passes order_number order_held (eqb a.number o.number) (order_held a) (at (drop 1 (drop k xs)) o.number) off).0 in
+    let off : cond (eqb a.number o.number) (Some (order_held a)) (at (drop 1 (drop k xs)) o.number)
+    ≡ None = ap (λ (l : List Order). at l o.number) (sym (head_is (drop k xs) a e)) ∙ gone in
+    let ne = (passes order_number order_held (eqb a.number o.number) (order_held a)
+    (at (drop 1 (drop k xs)) o.number) off).0 in
     let c = (best_some a o (take k xs) is).crossed in
     record {
       best = is;
@@ -95,7 +104,8 @@ matched xs k i a o le u h e b read =
     }
 
 -- after a change of the passive order the aggressive one is still the oldest
-pub still_oldest : (xs : List Order) (k i : ℕ) (a o : Order) (w : Option ℕ) (b : Lit) → Matched xs k i a o → slice_get (drop k xs) 0 ≡ Some a
+pub still_oldest : (xs : List Order) (k i : ℕ) (a o : Order) (w : Option ℕ) (b : Lit) → Matched xs k i a o
+    → slice_get (drop k xs) 0 ≡ Some a
     → b ≡ altered (lists xs k) o.number w → slice_get b.waiting 0 ≡ Some a
 still_oldest xs k i a o w b t e f =
     ap (λ (x : Lit). slice_get x.waiting 0) f
@@ -103,14 +113,17 @@ still_oldest xs k i a o w b t e f =
     ∙ ap (λ (l : List Order). slice_get l 0) (cond-false (eqb a.number o.number) _ _ (ne_eqb _ _ (λ q. t.apart (sym q))))
 
 -- what is left, as the meaning of an engine has it
-remaining_filled : (m : Meaning) (n q : ℕ) (h : Held) → get m.orders n ≡ Some h → remaining m n (left_of q h.quantity) ≡ filled m q (Some n)
+remaining_filled : (m : Meaning) (n q : ℕ) (h : Held) → get m.orders n ≡ Some h → remaining m n (left_of q h.quantity)
+    ≡ filled m q (Some n)
 remaining_filled m n q h e =
     cond_both (ltb q h.quantity) (Some (h.quantity - q)) None (λ (w : Option ℕ). remaining m n w ≡ filled m q (Some n))
     (λ t. resized_is t ∙ sym (left_is (cond-true (ltb q h.quantity) _ _ t)))
     (λ t. sym (left_is (cond-false (ltb q h.quantity) _ _ t)))
   where
-    resized_is : ltb q h.quantity ≡ true → resized m n (h.quantity - q) ≡ with_order m n (Some (record h { quantity = h.quantity - q }))
-    resized_is t = ap (λ (w : Option Held). with_order m n (option_map (λ (x : Held). record x { quantity = h.quantity - q }) w)) e
+    resized_is : ltb q h.quantity ≡ true → resized m n (h.quantity - q)
+        ≡ with_order m n (Some (record h { quantity = h.quantity - q }))
+    resized_is t = ap (λ (w : Option Held). with_order m n
+        (option_map (λ (x : Held). record x { quantity = h.quantity - q }) w)) e
 
     left_is : {w : Option Held} → left q (Some h) ≡ w → filled m q (Some n) ≡ with_order m n w
     left_is f = ap (λ (x : Option Held). with_order m n (left q x)) e ∙ ap (with_order m n) f
@@ -127,10 +140,19 @@ trade_allowed xs k i a o q p t e =
     let x = ap quantity_of t.passive in
     let y = ap quantity_of t.aggressive in
     let f = t.passive_some in
-    let g = t.aggressive_some in
-    (omega arith, (omega arith, omega arith, t.apart, ap instrument_of t.passive ∙ t.instrument ∙ sym (ap instrument_of t.aggressive)))
+    let g = t.aggressive_some in (
+      omega arith,
+      (
+        omega arith,
+        omega arith,
+        t.apart,
+        ap instrument_of t.passive ∙ t.instrument ∙ sym
+            (ap instrument_of t.aggressive),
+      ),
+    )
 
-pub trade_means : (xs : List Order) (k i : ℕ) (a o : Order) (q : ℕ) (w v : Option ℕ) (m m' : Meaning) → Matched xs k i a o → w ≡ left_of q o.quantity
+pub trade_means : (xs : List Order) (k i : ℕ) (a o : Order) (q : ℕ) (w v : Option ℕ) (m m' : Meaning)
+    → Matched xs k i a o → w ≡ left_of q o.quantity
     → v ≡ left_of q a.quantity → m ≡ remaining (lit_up (orders_of xs)) o.number w → m' ≡ remaining m a.number v
     → m' ≡ filled (filled (lit_up (orders_of xs)) q (Some o.number)) q (Some a.number)
 trade_means xs k i a o q w v m m' t e f g h =
@@ -142,12 +164,15 @@ trade_means xs k i a o q w v m m' t e f g h =
     ∙ ap (remaining m a.number) f
     ∙ remaining_filled m a.number q (order_held a) there
     ∙ ap (λ (x : Meaning). filled x q (Some a.number))
-    (g ∙ ap (remaining (lit_up (orders_of xs)) o.number) e ∙ remaining_filled (lit_up (orders_of xs)) o.number q (order_held o) t.passive)
+    (g ∙ ap (remaining (lit_up (orders_of xs)) o.number) e ∙ remaining_filled (lit_up (orders_of xs)) o.number q
+    (order_held o) t.passive)
 
-pub trade_lists : (b b' b'' : Lit) (a o : Order) (q : ℕ) (w v : Option ℕ) → q ≡ size_of a o → w ≡ left_of q o.quantity → v ≡ left_of q a.quantity
+pub trade_lists : (b b' b'' : Lit) (a o : Order) (q : ℕ) (w v : Option ℕ) → q ≡ size_of a o → w ≡ left_of q o.quantity
+    → v ≡ left_of q a.quantity
     → b' ≡ altered b o.number w → b'' ≡ altered b' a.number v → b'' ≡ traded b a o
 trade_lists b b' b'' a o q w v s e f g h =
     h
     ∙ ap (λ (x : Lit). altered x a.number v) g
     ∙ ap (λ (x : Option ℕ). altered (altered b o.number x) a.number v) (e ∙ ap (λ (x : ℕ). left_of x o.quantity) s)
-    ∙ ap (λ (x : Option ℕ). altered (altered b o.number (left_of (size_of a o) o.quantity)) a.number x) (f ∙ ap (λ (x : ℕ). left_of x a.quantity) s)
+    ∙ ap (λ (x : Option ℕ). altered (altered b o.number (left_of (size_of a o) o.quantity)) a.number x)
+    (f ∙ ap (λ (x : ℕ). left_of x a.quantity) s)

@@ -20,17 +20,22 @@ next_idle b e = go b.resting b.waiting e
     go rs [] e = refl
     go rs (w ∷ ws) e = absurd (clash w (sym e))
 
-unrolled : (b : Lit) (a : Order) → slice_get b.waiting 0 ≡ Some a → next b ≡ outcome b a (best a b.resting) (next_of (b.resting ++ a ∷ []) (drop 1 b.waiting))
+unrolled : (b : Lit) (a : Order) → slice_get b.waiting 0 ≡ Some a → next b
+    ≡ outcome b a (best a b.resting) (next_of (b.resting ++ a ∷ []) (drop 1 b.waiting))
 unrolled b a e = go b.resting b.waiting e
   where
-    go : (rs ws : List Order) → slice_get ws 0 ≡ Some a → next_of rs ws ≡ outcome (record { resting = rs; waiting = ws }) a (best a rs) (next_of (rs ++ a ∷ []) (drop 1 ws))
+    go : (rs ws : List Order) → slice_get ws 0 ≡ Some a → next_of rs ws
+        ≡ outcome (record { resting = rs; waiting = ws }) a (best a rs) (next_of (rs ++ a ∷ []) (drop 1 ws))
     go rs [] e = absurd (clash a e)
     go rs (w ∷ ws) e =
         let s : w ≡ a = cc in
-        ap (λ (x : Order). outcome (record { resting = rs; waiting = w ∷ ws }) x (best x rs) (next_of (rs ++ x ∷ []) ws)) s
+        ap (λ (x : Order). outcome (record { resting = rs; waiting = w ∷ ws }) x (best x rs)
+        (next_of (rs ++ x ∷ []) ws)) s
 
-pub next_trade : (b : Lit) (a o : Order) → slice_get b.waiting 0 ≡ Some a → best a b.resting ≡ Some o → next b ≡ (trade_of a o, traded b a o)
-next_trade b a o e f = unrolled b a e ∙ ap (λ (r : Option Order). outcome b a r (next_of (b.resting ++ a ∷ []) (drop 1 b.waiting))) f
+pub next_trade : (b : Lit) (a o : Order) → slice_get b.waiting 0 ≡ Some a → best a b.resting ≡ Some o → next b
+    ≡ (trade_of a o, traded b a o)
+next_trade b a o e f =
+    unrolled b a e ∙ ap (λ (r : Option Order). outcome b a r (next_of (b.resting ++ a ∷ []) (drop 1 b.waiting))) f
 
 next_expire : (b : Lit) (a : Order) → slice_get b.waiting 0 ≡ Some a → best a b.resting ≡ None → rests a ≡ false
     → next b ≡ (Expired a.number, altered b a.number None)
@@ -49,7 +54,8 @@ idle_event rs ws e = ap (λ (x : Event × Lit). x.0) (next_idle (record { restin
 pub idle_lists : (rs ws : List Order) → slice_get ws 0 ≡ None → (next_of rs ws).1 ≡ record { resting = rs; waiting = ws }
 idle_lists rs ws e = ap (λ (x : Event × Lit). x.1) (next_idle (record { resting = rs; waiting = ws }) e)
 
-pub expire_event : (rs ws : List Order) (a : Order) → slice_get ws 0 ≡ Some a → best a rs ≡ None → rests a ≡ false → (next_of rs ws).0 ≡ Expired a.number
+pub expire_event : (rs ws : List Order) (a : Order) → slice_get ws 0 ≡ Some a → best a rs ≡ None → rests a ≡ false
+    → (next_of rs ws).0 ≡ Expired a.number
 expire_event rs ws a e f r = ap (λ (x : Event × Lit). x.0) (next_expire (record { resting = rs; waiting = ws }) a e f r)
 
 pub expire_lists : (rs ws : List Order) (a : Order) → slice_get ws 0 ≡ Some a → best a rs ≡ None → rests a ≡ false
@@ -62,4 +68,5 @@ pub next_rest : (b b' : Lit) (a : Order) → slice_get b.waiting 0 ≡ Some a �
 next_rest b b' a e f r g h =
     ap (λ (x : List Order). next_of x b'.waiting) g
     ∙ ap (next_of (b.resting ++ a ∷ [])) h
-    ∙ sym (unrolled b a e ∙ ap (λ (x : Option Order). outcome b a x (next_of (b.resting ++ a ∷ []) (drop 1 b.waiting))) f ∙ cond-true (rests a) _ _ r)
+    ∙ sym (unrolled b a e ∙ ap (λ (x : Option Order). outcome b a x (next_of (b.resting ++ a ∷ []) (drop 1 b.waiting)))
+    f ∙ cond-true (rests a) _ _ r)

@@ -15,14 +15,17 @@ compared : (a x : Order) (os : List Order) (k : ℕ) (r : Option (ℕ × Price))
 compared a x os k None e = ap (improves a x) e
 compared a x os k (Some (i, p)) (lt, is) = ap (improves a x) (is x).0 ∙ ap (prefers a.side (price x)) (is x).1
 
-step : (a x : Order) (os : List Order) (k : ℕ) (r : Option (ℕ × Price)) (b : Bool) → BestSoFar a os k r → k < length os → x ≡ slice_index_or os k x
+step : (a x : Order) (os : List Order) (k : ℕ) (r : Option (ℕ × Price)) (b : Bool) → BestSoFar a os k r → k < length os
+    → x ≡ slice_index_or os k x
     → (crosses a x && betters a.side (price x) r) ≡ b → best a (take (k + 1) os) ≡ cond b (Some x) (best a (take k os))
 step a x os k r b so_far lt read e =
     fold_more (better_of a) None os k x lt
     ∙ ap (better_of a (best a (take k os))) (sym read)
-    ∙ ap (λ (t : Bool). cond t (Some x) (best a (take k os))) (ap (λ (t : Bool). crosses a x && t) (compared a x os k r so_far) ∙ e)
+    ∙ ap (λ (t : Bool). cond t (Some x) (best a (take k os)))
+    (ap (λ (t : Bool). crosses a x && t) (compared a x os k r so_far) ∙ e)
 
-looked : (a x : Order) (os : List Order) (k : ℕ) (r : Option (ℕ × Price)) (b : Bool) → BestSoFar a os k r → k < length os → x ≡ slice_index_or os k x
+looked : (a x : Order) (os : List Order) (k : ℕ) (r : Option (ℕ × Price)) (b : Bool) → BestSoFar a os k r
+    → k < length os → x ≡ slice_index_or os k x
     → (crosses a x && betters a.side (price x) r) ≡ b → BestSoFar a os (k + 1) (cond b (Some (k, price x)) r)
 looked a x os k r true so_far lt read e =
     (omega arith, λ d. (step a x os k r true so_far lt read e ∙ ap Some (is d), ap price (sym (is d))))
@@ -40,7 +43,8 @@ looked_at a e os k r so_far lt =
     let x = slice_index_or os k e in
     looked a x os k r (crosses a x && betters a.side (price x) r) so_far lt (get_or_default os k e x lt) refl
 
-pub best_at : (a : Order) (os : List Order) (k : ℕ) (r : Option (ℕ × Price)) → BestSoFar a os k r → length os ≤ k → k ≤ length os
+pub best_at : (a : Order) (os : List Order) (k : ℕ) (r : Option (ℕ × Price)) → BestSoFar a os k r → length os ≤ k
+    → k ≤ length os
     → BestAt a os (option_map (λ (x : ℕ × Price). x.0) r)
 best_at a os k None so_far le ge = ap (best a) (sym (take_all k os le)) ∙ so_far
 best_at a os k (Some (i, p)) so_far le ge =

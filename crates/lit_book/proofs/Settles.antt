@@ -6,13 +6,15 @@ use Rattle.lit_book.specs.Orders.{crosses, rests}
 use Rattle.lit_book.specs.Lists.{best, best_from, better_of, changed, clear_of, improves, remains, settled}
 
 -- a change of one order
-clear_changed : (o : Order) (n : ℕ) (w : Option ℕ) (xs : List Order) → clear_of o xs ≡ true → clear_of o (changed n w xs) ≡ true
+clear_changed : (o : Order) (n : ℕ) (w : Option ℕ) (xs : List Order) → clear_of o xs ≡ true
+    → clear_of o (changed n w xs) ≡ true
 clear_changed o n w [] h = refl
 clear_changed o n w (x ∷ xs) h =
     let p = and_parts (not (crosses x o)) (clear_of o xs) h in
     go (eqb x.number n) w p.0 p.1 (clear_changed o n w xs p.1)
   where
-    go : (b : Bool) (v : Option ℕ) → not (crosses x o) ≡ true → clear_of o xs ≡ true → clear_of o (changed n w xs) ≡ true → clear_of o (cond b (remains x v ++ xs) (x ∷ changed n w xs)) ≡ true
+    go : (b : Bool) (v : Option ℕ) → not (crosses x o) ≡ true → clear_of o xs ≡ true → clear_of o (changed n w xs)
+        ≡ true → clear_of o (cond b (remains x v ++ xs) (x ∷ changed n w xs)) ≡ true
     go true None f g ih = g
     go true (Some q) f g ih = and_from _ _ f g
     go false v f g ih = and_from _ _ f ih
@@ -24,14 +26,16 @@ settled_changed n w (x ∷ xs) h =
     let s = and_parts (clear_of x xs) (settled xs) p.1 in
     go (eqb x.number n) w p.0 s.0 s.1 (clear_changed x n w xs s.0) (settled_changed n w xs s.1)
   where
-    go : (b : Bool) (v : Option ℕ) → rests x ≡ true → clear_of x xs ≡ true → settled xs ≡ true → clear_of x (changed n w xs) ≡ true → settled (changed n w xs) ≡ true
+    go : (b : Bool) (v : Option ℕ) → rests x ≡ true → clear_of x xs ≡ true → settled xs ≡ true
+        → clear_of x (changed n w xs) ≡ true → settled (changed n w xs) ≡ true
         → settled (cond b (remains x v ++ xs) (x ∷ changed n w xs)) ≡ true
     go true None r c s f ih = s
     go true (Some q) r c s f ih = and_from _ _ r (and_from _ _ c s)
     go false v r c s f ih = and_from _ _ r (and_from _ _ f ih)
 
 -- one more that crosses none
-clear_push : (o a : Order) (xs : List Order) → clear_of o xs ≡ true → crosses a o ≡ false → clear_of o (xs ++ a ∷ []) ≡ true
+clear_push : (o a : Order) (xs : List Order) → clear_of o xs ≡ true → crosses a o ≡ false → clear_of o (xs ++ a ∷ [])
+    ≡ true
 clear_push o a [] h e = and_from _ _ (ap not e) refl
 clear_push o a (x ∷ xs) h e =
     let p = and_parts (not (crosses x o)) (clear_of o xs) h in
@@ -42,7 +46,8 @@ abbrev pub Misses : Order → List Order → Type 0
 Misses a [] = Unit {0}
 Misses a (o ∷ os) = (crosses a o ≡ false) × Misses a os
 
-pub settled_push : (a : Order) (xs : List Order) → settled xs ≡ true → rests a ≡ true → Misses a xs → settled (xs ++ a ∷ []) ≡ true
+pub settled_push : (a : Order) (xs : List Order) → settled xs ≡ true → rests a ≡ true → Misses a xs
+    → settled (xs ++ a ∷ []) ≡ true
 settled_push a [] h r m = and_from _ _ r refl
 settled_push a (x ∷ xs) h r m =
     let p = and_parts (rests x) (clear_of x xs && settled xs) h in

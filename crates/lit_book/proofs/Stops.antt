@@ -28,15 +28,48 @@ pub record Stop (rs ws : List Order) (p : Event × Lit) : Type 0 where
   pub ends : Ends at_rest in_wait p
 
 pub stop : (rs ws : List Order) → Stop rs ws (next_of rs ws)
-stop rs [] = record { at_rest = rs; in_wait = []; came = []; rested = sym (append-nil rs); waited = refl; quiet = λ s. s; ends = refl }
+stop rs [] =
+    record {
+      at_rest = rs;
+      in_wait = [];
+      came = [];
+      rested = sym
+          (append-nil rs);
+      waited = refl;
+      quiet = λ s. s;
+      ends = refl;
+    }
 stop rs (a ∷ ws) = go (best a rs) refl (cases_Bool (rests a)) (stop (rs ++ a ∷ []) ws)
   where
-    now_is : (w : Option Order) → best a rs ≡ w → next_of rs (a ∷ ws) ≡ outcome (record { resting = rs; waiting = a ∷ ws }) a w (next_of (rs ++ a ∷ []) ws)
-    now_is w e = ap (λ (x : Option Order). outcome (record { resting = rs; waiting = a ∷ ws }) a x (next_of (rs ++ a ∷ []) ws)) e
+    now_is : (w : Option Order) → best a rs ≡ w → next_of rs (a ∷ ws)
+        ≡ outcome (record { resting = rs; waiting = a ∷ ws }) a w (next_of (rs ++ a ∷ []) ws)
+    now_is w e =
+        ap (λ (x : Option Order). outcome (record { resting = rs; waiting = a ∷ ws }) a x (next_of (rs ++ a ∷ []) ws)) e
 
-    go : (w : Option Order) → best a rs ≡ w → (rests a ≡ true) ⊎ (rests a ≡ false) → Stop (rs ++ a ∷ []) ws (next_of (rs ++ a ∷ []) ws) → Stop rs (a ∷ ws) (next_of rs (a ∷ ws))
-    go (Some o) e r later = record { at_rest = rs; in_wait = a ∷ ws; came = []; rested = sym (append-nil rs); waited = refl; quiet = λ s. s; ends = inl (o, e, now_is (Some o) e) }
-    go None e (inr f) later = record { at_rest = rs; in_wait = a ∷ ws; came = []; rested = sym (append-nil rs); waited = refl; quiet = λ s. s; ends = inr (now_is None e ∙ cond-false (rests a) _ _ f) }
+    go : (w : Option Order) → best a rs ≡ w → (rests a ≡ true) ⊎ (rests a ≡ false)
+        → Stop (rs ++ a ∷ []) ws (next_of (rs ++ a ∷ []) ws) → Stop rs (a ∷ ws) (next_of rs (a ∷ ws))
+    go (Some o) e r later =
+        record {
+          at_rest = rs;
+          in_wait = a ∷ ws;
+          came = [];
+          rested = sym
+              (append-nil rs);
+          waited = refl;
+          quiet = λ s. s;
+          ends = inl (o, e, now_is (Some o) e);
+        }
+    go None e (inr f) later =
+        record {
+          at_rest = rs;
+          in_wait = a ∷ ws;
+          came = [];
+          rested = sym
+              (append-nil rs);
+          waited = refl;
+          quiet = λ s. s;
+          ends = inr (now_is None e ∙ cond-false (rests a) _ _ f);
+        }
     go None e (inl t) later = record {
       at_rest = later.at_rest;
       in_wait = later.in_wait;
@@ -50,4 +83,5 @@ stop rs (a ∷ ws) = go (best a rs) refl (cases_Bool (rests a)) (stop (rs ++ a �
 -- the orders are the same before and after the search
 pub all_same : (rs ws : List Order) (s : Stop rs ws (next_of rs ws)) → s.at_rest ++ s.in_wait ≡ rs ++ ws
 all_same rs ws s =
-    ap (λ (l : List Order). l ++ s.in_wait) s.rested ∙ append_assoc rs s.came s.in_wait ∙ ap (λ (l : List Order). rs ++ l) (sym s.waited)
+    ap (λ (l : List Order). l ++ s.in_wait) s.rested ∙ append_assoc rs s.came s.in_wait ∙ ap
+    (λ (l : List Order). rs ++ l) (sym s.waited)

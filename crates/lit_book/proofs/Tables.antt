@@ -35,11 +35,14 @@ count xs u = tables.count order_number order_held xs u
 pub found : (xs : List Order) (n : ℕ) (r : Option ℕ) → r ≡ position (λ o. nat_eq o.number n) xs → FoundOrder xs n r
 found xs n r e = position-found order_number order_held xs n r e
 
-pub found_known : (xs : List Order) (n : ℕ) (r : Option ℕ) → r ≡ position (λ o. nat_eq o.number n) xs → is_some r ≡ is_some (get (orders_of xs) n)
+pub found_known : (xs : List Order) (n : ℕ) (r : Option ℕ) → r ≡ position (λ o. nat_eq o.number n) xs → is_some r
+    ≡ is_some (get (orders_of xs) n)
 found_known xs n r e = tables.known order_number order_held xs n r (found xs n r e)
 
-pub held : (xs : List Order) (i n : ℕ) (o : Order) → FoundOrder xs n (Some i) → o ≡ slice_index_or xs i o → get (orders_of xs) n ≡ Some (order_held o)
-held xs i n o f read = tables.stands_at order_number order_held xs i n o f ∙ ap (λ (x : Order). Some (order_held x)) (sym read)
+pub held : (xs : List Order) (i n : ℕ) (o : Order) → FoundOrder xs n (Some i) → o ≡ slice_index_or xs i o
+    → get (orders_of xs) n ≡ Some (order_held o)
+held xs i n o f read =
+    tables.stands_at order_number order_held xs i n o f ∙ ap (λ (x : Order). Some (order_held x)) (sym read)
 
 -- ---- one more at the end
 
@@ -47,13 +50,15 @@ pub add_means : (xs : List Order) (o : Order) → get (orders_of xs) o.number �
     → lit_up (orders_of (xs ++ o ∷ [])) ≡ opened (lit_up (orders_of xs)) o.number (order_held o)
 add_means xs o new = ap lit_up (tables.pushed order_number order_held xs o new)
 
-pub add_apart : (xs : List Order) (o : Order) → all_apart xs ≡ true → get (orders_of xs) o.number ≡ None → all_apart (xs ++ o ∷ []) ≡ true
+pub add_apart : (xs : List Order) (o : Order) → all_apart xs ≡ true → get (orders_of xs) o.number ≡ None
+    → all_apart (xs ++ o ∷ []) ≡ true
 add_apart xs o u new = tables.pushed_apart order_number order_held xs o u new
 
 pub add_open : (xs : List Order) (o : Order) → All Open xs → 0 < o.quantity → All Open (xs ++ o ∷ [])
 add_open xs o h lt = All-push Open xs o h lt
 
-pub add_turn : (xs : List Order) (k : ℕ) (ns : List ℕ) (o : Order) → ns ≡ map order_number (drop k xs) → k ≤ length xs → length xs < CAPACITY
+pub add_turn : (xs : List Order) (k : ℕ) (ns : List ℕ) (o : Order) → ns ≡ map order_number (drop k xs) → k ≤ length xs
+    → length xs < CAPACITY
     → cond (nat_lt (length ns) CAPACITY) (ns ++ o.number ∷ []) ns ≡ map order_number (drop k (xs ++ o ∷ []))
 add_turn xs k ns o t le room =
     let e = ap length t ∙ length-map (drop k xs) order_number in
@@ -63,7 +68,8 @@ add_turn xs k ns o t le room =
     ∙ sym (map_push order_number (drop k xs) o)
     ∙ ap (map order_number) (sym (drop-append-le k xs (o ∷ []) le))
 
-pub add_settled : (xs : List Order) (k : ℕ) (o : Order) → k ≤ length xs → settled (take k xs) ≡ true → settled (take k (xs ++ o ∷ [])) ≡ true
+pub add_settled : (xs : List Order) (k : ℕ) (o : Order) → k ≤ length xs → settled (take k xs) ≡ true
+    → settled (take k (xs ++ o ∷ [])) ≡ true
 add_settled xs k o le s = ap settled (take-append-le k xs (o ∷ []) le) ∙ s
 
 -- ---- one order changed
@@ -73,14 +79,16 @@ pub record Parts (xs ys : List Order) (k k' n : ℕ) (w : Option ℕ) : Type 0 w
   pub front : take k' ys ≡ changed n w (take k xs)
   pub back : drop k' ys ≡ changed n w (drop k xs)
 
-cut : (xs ys f g : List Order) (k k' n : ℕ) (w : Option ℕ) → ys ≡ f ++ g → length f ≡ k' → f ≡ changed n w (take k xs) → g ≡ changed n w (drop k xs)
+cut : (xs ys f g : List Order) (k k' n : ℕ) (w : Option ℕ) → ys ≡ f ++ g → length f ≡ k' → f ≡ changed n w (take k xs)
+    → g ≡ changed n w (drop k xs)
     → Parts xs ys k k' n w
 cut xs ys f g k k' n w e long p q = record {
   front = ap (take k') e ∙ take_at f g k' long ∙ p;
   back = ap (drop k') e ∙ drop_at f g k' long ∙ q;
 }
 
-removed_front : (xs : List Order) (i k n : ℕ) → all_apart xs ≡ true → FoundOrder xs n (Some i) → i < k → k ≤ length xs → Parts xs (remove xs i) k (k - 1) n None
+removed_front : (xs : List Order) (i k n : ℕ) → all_apart xs ≡ true → FoundOrder xs n (Some i) → i < k → k ≤ length xs
+    → Parts xs (remove xs i) k (k - 1) n None
 removed_front xs i k n u f lt le =
     let e = shorter xs i k n f lt in
     let t = length-take-le k xs le in
@@ -88,19 +96,22 @@ removed_front xs i k n u f lt le =
     (removed_is xs i n f ∙ sym (in_front None xs i k n f lt)) (omega arith) refl
     (sym (absent n None (drop k xs) (rest_absent xs i k n (distinct_from order_number order_held xs u) f lt)))
 
-removed_back : (xs : List Order) (i k n : ℕ) → FoundOrder xs n (Some i) → k ≤ i → k ≤ length xs → Parts xs (remove xs i) k k n None
+removed_back : (xs : List Order) (i k n : ℕ) → FoundOrder xs n (Some i) → k ≤ i → k ≤ length xs
+    → Parts xs (remove xs i) k k n None
 removed_back xs i k n f ge le =
     cut xs (remove xs i) (take k xs) (changed n None (drop k xs)) k k n None
     (removed_is xs i n f ∙ sym (behind None xs i k n f ge)) (length-take-le k xs le)
     (sym (absent n None (take k xs) (front_absent xs i k n f ge))) refl
 
-set_parts : (xs : List Order) (i k n q : ℕ) (x : Order) → all_apart xs ≡ true → FoundOrder xs n (Some i) → x ≡ get_or xs i x → k ≤ length xs
+set_parts : (xs : List Order) (i k n q : ℕ) (x : Order) → all_apart xs ≡ true → FoundOrder xs n (Some i) → x
+    ≡ get_or xs i x → k ≤ length xs
     → Parts xs (slice_set xs i (with_quantity x q)) k k n (Some q)
 set_parts xs i k n q x u f read le =
     elim (cases_lt i k) [
       | inl lt ↦
           cut xs (slice_set xs i (with_quantity x q)) (changed n (Some q) (take k xs)) (drop k xs) k k n (Some q)
-          (set_is xs i n q x f read ∙ sym (in_front (Some q) xs i k n f lt)) (as_long n q (take k xs) ∙ length-take-le k xs le) refl
+          (set_is xs i n q x f read ∙ sym (in_front (Some q) xs i k n f lt))
+          (as_long n q (take k xs) ∙ length-take-le k xs le) refl
           (sym (absent n (Some q) (drop k xs) (rest_absent xs i k n (distinct_from order_number order_held xs u) f lt)))
       | inr ge ↦
           cut xs (slice_set xs i (with_quantity x q)) (take k xs) (changed n (Some q) (drop k xs)) k k n (Some q)
@@ -108,10 +119,12 @@ set_parts xs i k n q x u f read le =
           (sym (absent n (Some q) (take k xs) (front_absent xs i k n f ge))) refl
     ]
 
-parts_settled : (xs ys : List Order) (k k' n : ℕ) (w : Option ℕ) → Parts xs ys k k' n w → settled (take k xs) ≡ true → settled (take k' ys) ≡ true
+parts_settled : (xs ys : List Order) (k k' n : ℕ) (w : Option ℕ) → Parts xs ys k k' n w → settled (take k xs) ≡ true
+    → settled (take k' ys) ≡ true
 parts_settled xs ys k k' n w p s = ap settled p.front ∙ settled_changed n w (take k xs) s
 
-parts_lit : (xs ys : List Order) (k k' n : ℕ) (w : Option ℕ) → Parts xs ys k k' n w → lists ys k' ≡ altered (lists xs k) n w
+parts_lit : (xs ys : List Order) (k k' n : ℕ) (w : Option ℕ) → Parts xs ys k k' n w → lists ys k'
+    ≡ altered (lists xs k) n w
 parts_lit xs ys k k' n w p = let e = p.front in let f = p.back in cc
 
 -- an order gone
@@ -134,28 +147,35 @@ pub front_lit : (xs : List Order) (i k n : ℕ) → all_apart xs ≡ true → Fo
     → lists (remove xs i) (k - 1) ≡ altered (lists xs k) n None
 front_lit xs i k n u f lt le = parts_lit xs (remove xs i) k (k - 1) n None (removed_front xs i k n u f lt le)
 
-pub front_settled : (xs : List Order) (i k n : ℕ) → all_apart xs ≡ true → FoundOrder xs n (Some i) → i < k → k ≤ length xs → settled (take k xs) ≡ true
+pub front_settled : (xs : List Order) (i k n : ℕ) → all_apart xs ≡ true → FoundOrder xs n (Some i) → i < k
+    → k ≤ length xs → settled (take k xs) ≡ true
     → settled (take (k - 1) (remove xs i)) ≡ true
 front_settled xs i k n u f lt le s = parts_settled xs (remove xs i) k (k - 1) n None (removed_front xs i k n u f lt le) s
 
-pub front_turn : (xs : List Order) (i k n : ℕ) (ns : List ℕ) → all_apart xs ≡ true → FoundOrder xs n (Some i) → i < k → k ≤ length xs
+pub front_turn : (xs : List Order) (i k n : ℕ) (ns : List ℕ) → all_apart xs ≡ true → FoundOrder xs n (Some i) → i < k
+    → k ≤ length xs
     → ns ≡ map order_number (drop k xs) → ns ≡ map order_number (drop (k - 1) (remove xs i))
 front_turn xs i k n ns u f lt le t =
     t
     ∙ ap (map order_number)
-    (sym ((removed_front xs i k n u f lt le).back ∙ absent n None (drop k xs) (rest_absent xs i k n (distinct_from order_number order_held xs u) f lt)))
+    (sym ((removed_front xs i k n u f lt le).back ∙ absent n None (drop k xs)
+    (rest_absent xs i k n (distinct_from order_number order_held xs u) f lt)))
 
-pub back_lit : (xs : List Order) (i k n : ℕ) → FoundOrder xs n (Some i) → k ≤ i → k ≤ length xs → lists (remove xs i) k ≡ altered (lists xs k) n None
+pub back_lit : (xs : List Order) (i k n : ℕ) → FoundOrder xs n (Some i) → k ≤ i → k ≤ length xs → lists (remove xs i) k
+    ≡ altered (lists xs k) n None
 back_lit xs i k n f ge le = parts_lit xs (remove xs i) k k n None (removed_back xs i k n f ge le)
 
-pub back_settled : (xs : List Order) (i k n : ℕ) → FoundOrder xs n (Some i) → k ≤ i → k ≤ length xs → settled (take k xs) ≡ true
+pub back_settled : (xs : List Order) (i k n : ℕ) → FoundOrder xs n (Some i) → k ≤ i → k ≤ length xs
+    → settled (take k xs) ≡ true
     → settled (take k (remove xs i)) ≡ true
 back_settled xs i k n f ge le s = parts_settled xs (remove xs i) k k n None (removed_back xs i k n f ge le) s
 
-pub back_turn : (xs : List Order) (i k n : ℕ) (ns : List ℕ) → FoundOrder xs n (Some i) → k ≤ i → k ≤ length xs → ns ≡ map order_number (drop k xs)
+pub back_turn : (xs : List Order) (i k n : ℕ) (ns : List ℕ) → FoundOrder xs n (Some i) → k ≤ i → k ≤ length xs → ns
+    ≡ map order_number (drop k xs)
     → remove ns (i - k) ≡ map order_number (drop k (remove xs i))
 back_turn xs i k n ns f ge le t =
-    ap (λ (l : List ℕ). remove l (i - k)) t ∙ fewer_numbers xs i k n f ge ∙ ap (map order_number) (sym (removed_back xs i k n f ge le).back)
+    ap (λ (l : List ℕ). remove l (i - k)) t ∙ fewer_numbers xs i k n f ge ∙ ap (map order_number)
+    (sym (removed_back xs i k n f ge le).back)
 
 -- an order with another quantity
 
@@ -167,26 +187,35 @@ pub set_means : (xs : List Order) (i n q : ℕ) (x : Order) → FoundOrder xs n 
 set_means xs i n q x f read =
     ap lit_up
     (tables.rewritten order_number order_held xs i n (with_quantity x q) f (own xs i n x f read)
-    ∙ ap (λ (w : Option Held). put (orders_of xs) n (option_map (λ (h : Held). record h { quantity = q }) w)) (sym (held xs i n x f read)))
+    ∙ ap (λ (w : Option Held). put (orders_of xs) n (option_map (λ (h : Held). record h { quantity = q }) w))
+    (sym (held xs i n x f read)))
 
-pub set_apart : (xs : List Order) (i n q : ℕ) (x : Order) → all_apart xs ≡ true → FoundOrder xs n (Some i) → x ≡ slice_index_or xs i x
+pub set_apart : (xs : List Order) (i n q : ℕ) (x : Order) → all_apart xs ≡ true → FoundOrder xs n (Some i) → x
+    ≡ slice_index_or xs i x
     → all_apart (slice_set xs i (with_quantity x q)) ≡ true
-set_apart xs i n q x u f read = tables.rewritten_apart order_number order_held xs i n (with_quantity x q) u f (own xs i n x f read)
+set_apart xs i n q x u f read =
+    tables.rewritten_apart order_number order_held xs i n (with_quantity x q) u f (own xs i n x f read)
 
-pub set_open : (xs : List Order) (i q : ℕ) (x : Order) → All Open xs → 0 < q → All Open (slice_set xs i (with_quantity x q))
+pub set_open : (xs : List Order) (i q : ℕ) (x : Order) → All Open xs → 0 < q
+    → All Open (slice_set xs i (with_quantity x q))
 set_open xs i q x h lt = All-set Open xs i (with_quantity x q) lt h
 
-pub set_lit : (xs : List Order) (i k n q : ℕ) (x : Order) → all_apart xs ≡ true → FoundOrder xs n (Some i) → x ≡ slice_index_or xs i x → k ≤ length xs
+pub set_lit : (xs : List Order) (i k n q : ℕ) (x : Order) → all_apart xs ≡ true → FoundOrder xs n (Some i) → x
+    ≡ slice_index_or xs i x → k ≤ length xs
     → lists (slice_set xs i (with_quantity x q)) k ≡ altered (lists xs k) n (Some q)
-set_lit xs i k n q x u f read le = parts_lit xs (slice_set xs i (with_quantity x q)) k k n (Some q) (set_parts xs i k n q x u f read le)
+set_lit xs i k n q x u f read le =
+    parts_lit xs (slice_set xs i (with_quantity x q)) k k n (Some q) (set_parts xs i k n q x u f read le)
 
-pub set_settled : (xs : List Order) (i k n q : ℕ) (x : Order) → all_apart xs ≡ true → FoundOrder xs n (Some i) → x ≡ slice_index_or xs i x → k ≤ length xs
+pub set_settled : (xs : List Order) (i k n q : ℕ) (x : Order) → all_apart xs ≡ true → FoundOrder xs n (Some i) → x
+    ≡ slice_index_or xs i x → k ≤ length xs
     → settled (take k xs) ≡ true → settled (take k (slice_set xs i (with_quantity x q))) ≡ true
 set_settled xs i k n q x u f read le s =
     parts_settled xs (slice_set xs i (with_quantity x q)) k k n (Some q) (set_parts xs i k n q x u f read le) s
 
-pub set_turn : (xs : List Order) (i k n q : ℕ) (x : Order) (ns : List ℕ) → all_apart xs ≡ true → FoundOrder xs n (Some i) → x ≡ slice_index_or xs i x
-    → k ≤ length xs → ns ≡ map order_number (drop k xs) → ns ≡ map order_number (drop k (slice_set xs i (with_quantity x q)))
+pub set_turn : (xs : List Order) (i k n q : ℕ) (x : Order) (ns : List ℕ) → all_apart xs ≡ true
+    → FoundOrder xs n (Some i) → x ≡ slice_index_or xs i x
+    → k ≤ length xs → ns ≡ map order_number (drop k xs) → ns
+    ≡ map order_number (drop k (slice_set xs i (with_quantity x q)))
 set_turn xs i k n q x ns u f read le t =
     t ∙ sym (ap (map order_number) (set_parts xs i k n q x u f read le).back ∙ same_numbers n q (drop k xs))
 
@@ -205,7 +234,8 @@ rest_less xs k o e =
 pub rest_back : (xs : List Order) (k : ℕ) → drop (k + 1) xs ≡ drop 1 (drop k xs)
 rest_back xs k = sym (drop-drop 1 k xs)
 
-pub rest_front : (xs : List Order) (k : ℕ) (o : Order) → slice_get (drop k xs) 0 ≡ Some o → take (k + 1) xs ≡ take k xs ++ o ∷ []
+pub rest_front : (xs : List Order) (k : ℕ) (o : Order) → slice_get (drop k xs) 0 ≡ Some o → take (k + 1) xs ≡ take k xs
+    ++ o ∷ []
 rest_front xs k o e =
     let l = rest_less xs k o e in
     let lt : k < length xs = omega arith in
@@ -214,9 +244,12 @@ rest_front xs k o e =
     let s : get_or xs k o ≡ o = cc in
     take_more xs k o lt ∙ ap (λ (y : Order). take k xs ++ y ∷ []) s
 
-pub rest_turn : (xs : List Order) (k : ℕ) (ns : List ℕ) → ns ≡ map order_number (drop k xs) → drop 1 ns ≡ map order_number (drop (k + 1) xs)
+pub rest_turn : (xs : List Order) (k : ℕ) (ns : List ℕ) → ns ≡ map order_number (drop k xs) → drop 1 ns
+    ≡ map order_number (drop (k + 1) xs)
 rest_turn xs k ns t = ap (drop 1) t ∙ drop-map order_number 1 (drop k xs) ∙ ap (map order_number) (sym (rest_back xs k))
 
-pub rest_settled : (xs : List Order) (k : ℕ) (o : Order) → slice_get (drop k xs) 0 ≡ Some o → rests o ≡ true → best o (take k xs) ≡ None
+pub rest_settled : (xs : List Order) (k : ℕ) (o : Order) → slice_get (drop k xs) 0 ≡ Some o → rests o ≡ true
+    → best o (take k xs) ≡ None
     → settled (take k xs) ≡ true → settled (take (k + 1) xs) ≡ true
-rest_settled xs k o e r b s = ap settled (rest_front xs k o e) ∙ settled_push o (take k xs) s r (best_none o (take k xs) b)
+rest_settled xs k o e r b s =
+    ap settled (rest_front xs k o e) ∙ settled_push o (take k xs) s r (best_none o (take k xs) b)

@@ -16,10 +16,12 @@ none_left : (os : Orders) (ls : List Line) → (played os ls).0 ≡ Nothing → 
 none_left os [] h = refl
 none_left os (l ∷ ls) h = go (fits os l) (none_left os ls) h
   where
-    go : (b : Bool) → ((played os ls).0 ≡ Nothing → (played os ls).1 ≡ []) → (cond b (trade l, ls) (played os ls)).0 ≡ Nothing → (cond b (trade l, ls) (played os ls)).1 ≡ []
+    go : (b : Bool) → ((played os ls).0 ≡ Nothing → (played os ls).1 ≡ []) → (cond b (trade l, ls) (played os ls)).0
+        ≡ Nothing → (cond b (trade l, ls) (played os ls)).1 ≡ []
     go true rest h = absurd (cc)
     go false rest h = rest h
 
 -- and none is played after that
-pub none_after : (m m' : Meaning) (ls ls' : List Line) → (played m.orders ls).0 ≡ Nothing → ls' ≡ (played m.orders ls).1 → (played m'.orders ls').0 ≡ Nothing
+pub none_after : (m m' : Meaning) (ls ls' : List Line) → (played m.orders ls).0 ≡ Nothing → ls'
+    ≡ (played m.orders ls).1 → (played m'.orders ls').0 ≡ Nothing
 none_after m m' ls ls' h e = ap (λ x. (played m'.orders x).0) (e ∙ none_left m.orders ls h)

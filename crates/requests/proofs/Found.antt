@@ -41,15 +41,20 @@ At n rs r = (i : ℕ) × (slice_get rs i ≡ Some r) × (r.number ≡ i + n)
 later : (n : ℕ) (x : Row) (rs : List Row) (r : Row) → At (suc n) rs r → At n (x ∷ rs) r
 later n x rs r (i, e, k) = (suc i, e, omega arith)
 
-from_back : (p : Row → Bool) (n : ℕ) (rs : List Row) (r : Row) → kept_from n rs ≡ true → find p (reverse rs) ≡ Some r → At n rs r
+from_back : (p : Row → Bool) (n : ℕ) (rs : List Row) (r : Row) → kept_from n rs ≡ true → find p (reverse rs) ≡ Some r
+    → At n rs r
 from_back p n [] r h e = none-some r e
 from_back p n (x ∷ rs) r h e =
     let q = parts n x rs h in
-    here-or-behind (find p (reverse rs)) (p x) (λ f. later n x rs r (from_back p (suc n) rs r q.1 f)) q.0 (sym (ap (find p) (reverse-append (x ∷ []) rs) ∙ find-append p (reverse rs) (x ∷ [])) ∙ e)
+    here-or-behind (find p (reverse rs)) (p x) (λ f. later n x rs r (from_back p (suc n) rs r q.1 f)) q.0
+    (sym (ap (find p) (reverse-append (x ∷ []) rs) ∙ find-append p (reverse rs) (x ∷ [])) ∙ e)
   where
-    here-or-behind : (o : Option Row) (b : Bool) → (o ≡ Some r → At n (x ∷ rs) r) → x.number ≡ n → option_or o (cond b (Some x) None) ≡ Some r → At n (x ∷ rs) r
+    here-or-behind : (o : Option Row) (b : Bool) → (o ≡ Some r → At n (x ∷ rs) r) → x.number ≡ n
+        → option_or o (cond b (Some x) None) ≡ Some r → At n (x ∷ rs) r
     here-or-behind (Some y) b behind here same = behind same
-    here-or-behind None true behind here same = let is : x ≡ r = cc in let k : r.number ≡ n = sym (ap (λ (y : Row). y.number) is) ∙ here in (0, same, omega arith)
+    here-or-behind None true behind here same =
+        let is : x ≡ r = cc in let k : r.number
+        ≡ n = sym (ap (λ (y : Row). y.number) is) ∙ here in (0, same, omega arith)
     here-or-behind None false behind here same = none-some r same
 
 under_number : (rs : List Row) (r : Row) → At 1 rs r → under rs r.number ≡ Some r
@@ -63,13 +68,15 @@ own line (Some x) r e = mine (eqb x.terms.owner line) e
     mine true f = f
     mine false f = none-some r f
 
-rows_found : (rs : List Row) (line : ℕ) (i : Option OrderId) (original : FixedText 20) (r : Row) → kept_from 1 rs ≡ true → found line i original rs ≡ Some r → under rs r.number ≡ Some r
+rows_found : (rs : List Row) (line : ℕ) (i : Option OrderId) (original : FixedText 20) (r : Row) → kept_from 1 rs
+    ≡ true → found line i original rs ≡ Some r → under rs r.number ≡ Some r
 rows_found rs line (Some i) original r h e =
     let f = own line (under rs i.number) r e in
     ap (under rs) (kept_at rs i.number r h f).0 ∙ f
 rows_found rs line None original r h e = under_number rs r (from_back (goes_by line (said original.bytes)) 1 rs r h e)
 
-pub named_there : (v : View) (line : ℕ) (i : Option OrderId) (original : FixedText 20) (r : Row) → Sound v → Some r ≡ found line i original v.rows → under v.rows r.number ≡ Some r
+pub named_there : (v : View) (line : ℕ) (i : Option OrderId) (original : FixedText 20) (r : Row) → Sound v → Some r
+    ≡ found line i original v.rows → under v.rows r.number ≡ Some r
 named_there v line i original r s e = rows_found v.rows line i original r s.recorded.numbered (sym e)
 
 -- it is open
@@ -79,14 +86,19 @@ opened v r e l =
     ap (λ o. is_some (open_of o)) e ∙ ap (λ b. is_some (cond {A = Option Held} b (Some held) None)) (lt-ltb _ _ l)
 
 -- and may be replaced
-allowed : (r : Row) (a : Ask) → 0 < r.leaves → orderable a.quantity ≡ true → r.executed < a.quantity → is_none (replace_fault a.quantity r) ≡ true
+allowed : (r : Row) (a : Ask) → 0 < r.leaves → orderable a.quantity ≡ true → r.executed < a.quantity
+    → is_none (replace_fault a.quantity r) ≡ true
 allowed r a l o x =
     let open_ : eqb r.leaves 0 ≡ false = Prim.grind arith in
     let more : leb a.quantity r.executed ≡ false = Prim.grind arith in
-    ap (λ b. is_none (cond b (Some NotOpen) (cond (not (orderable a.quantity)) (Some BadQuantity) (cond (leb a.quantity r.executed) (Some NotAboveExecuted) None)))) open_
-    ∙ ap (λ b. is_none (cond (not b) (Some BadQuantity) (cond (leb a.quantity r.executed) (Some NotAboveExecuted) None))) o
+    ap (λ b. is_none (cond b (Some NotOpen) (cond (not (orderable a.quantity)) (Some BadQuantity)
+    (cond (leb a.quantity r.executed) (Some NotAboveExecuted) None)))) open_
+    ∙ ap (λ b. is_none (cond (not b) (Some BadQuantity)
+    (cond (leb a.quantity r.executed) (Some NotAboveExecuted) None))) o
     ∙ ap (λ b. is_none (cond b (Some NotAboveExecuted) None)) more
 
-pub replaceable : (v : View) (r : Row) (a : Ask) → under v.rows r.number ≡ Some r → 0 < r.leaves → orderable a.quantity ≡ true → r.executed < a.quantity → Replaceable v r.number a
+pub replaceable : (v : View) (r : Row) (a : Ask) → under v.rows r.number ≡ Some r → 0 < r.leaves → orderable a.quantity
+    ≡ true → r.executed < a.quantity → Replaceable v r.number a
 replaceable v r a e l o x =
-    ap (λ b. is_some (after r.number (Replace a) b)) e ∙ ap (λ b. is_some (where_allowed b (replaced a r))) (allowed r a l o x)
+    ap (λ b. is_some (after r.number (Replace a) b)) e ∙ ap (λ b. is_some (where_allowed b (replaced a r)))
+    (allowed r a l o x)

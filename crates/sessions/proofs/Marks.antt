@@ -33,7 +33,8 @@ only l o a (Some n) (Some m) h h' = go (cases_order n m)
     go (inr (inr b)) = clash (hers o l m) h'.1 (h.2 m h'.0 b)
 
 -- a lowest number above b is the lowest above a, where none between is the owner's
-widen : (l : List Entry) (o a b : ℕ) (r : Option ℕ) → a ≤ b → ((k : ℕ) → a < k → k ≤ b → hers o l k ≡ false) → Lowest l o b r → Lowest l o a r
+widen : (l : List Entry) (o a b : ℕ) (r : Option ℕ) → a ≤ b → ((k : ℕ) → a < k → k ≤ b → hers o l k ≡ false)
+    → Lowest l o b r → Lowest l o a r
 widen l o a b None le h w = λ k lt. by k lt (cases_lt b k)
   where
     by : (k : ℕ) → a < k → (b < k) ⊎ (k ≤ b) → hers o l k ≡ false
@@ -46,7 +47,8 @@ widen l o a b (Some n) le h w = (omega (arith, w.0), w.1, λ k lt q. by k lt q (
     by k lt q (inr p) = h k lt p
 
 -- a mark that moves to the last of the numbers that were passed over finds the same, however many reports come
-moved : (o a : ℕ) (l l' : List Entry) → Grown l l' → next_after l o a ≡ None → next_after l' o (max a (length l)) ≡ next_after l' o a
+moved : (o a : ℕ) (l l' : List Entry) → Grown l l' → next_after l o a ≡ None → next_after l' o (max a (length l))
+    ≡ next_after l' o a
 moved o a l l' (more, g) e =
     let w = subst (λ r. Lowest l o a r) e (next-lowest l o a) in
     only l' o a _ _ (widen l' o a (max a (length l)) (next_after l' o (max a (length l))) (omega arith)
@@ -67,35 +69,42 @@ after r1 r2 r3 k s =
 
 abbrev pub first : Option ℕ → Option ℕ → Option ℕ → Option (Partition × ℕ)
 first r1 r2 r3 =
-    option_or (option_map (λ n. (One, n)) r1) (option_or (option_map (λ n. (Two, n)) r2) (option_map (λ n. (Three, n)) r3))
+    option_or (option_map (λ n. (One, n)) r1)
+    (option_or (option_map (λ n. (Two, n)) r2) (option_map (λ n. (Three, n)) r3))
 
 abbrev Moved : ℕ → Kept → PerPartition ℕ → Partition → Type 0
-Moved o k s p = (l : List Entry) → Grown (at k p) l → next_after l o (max (at s p) (length (at k p))) ≡ next_after l o (at s p)
+Moved o k s p =
+    (l : List Entry) → Grown (at k p) l → next_after l o (max (at s p) (length (at k p))) ≡ next_after l o (at s p)
 
 same_after : (o : ℕ) (k : Kept) (s s' : PerPartition ℕ) (r1 r2 r3 : Option ℕ) → Same o k s s'
     → (r1 ≡ None → Moved o k s One) → (r2 ≡ None → Moved o k s Two) → (r3 ≡ None → Moved o k s Three)
     → Same o k (after r1 r2 r3 k s) (noted (first r1 r2 r3) s')
 same_after o k s s' (Some n) r2 r3 h m1 m2 m3 = by
   where
-    by : (p : Partition) (l : List Entry) → Grown (at k p) l → next_after l o (at (with_at s One n) p) ≡ next_after l o (at (with_at s' One n) p)
+    by : (p : Partition) (l : List Entry) → Grown (at k p) l → next_after l o (at (with_at s One n) p)
+        ≡ next_after l o (at (with_at s' One n) p)
     by One l g = refl
     by Two l g = h Two l g
     by Three l g = h Three l g
 same_after o k s s' None (Some n) r3 h m1 m2 m3 = by
   where
-    by : (p : Partition) (l : List Entry) → Grown (at k p) l → next_after l o (at (with_at (with_at s One (max s.one (length k.one))) Two n) p) ≡ next_after l o (at (with_at s' Two n) p)
+    by : (p : Partition) (l : List Entry) → Grown (at k p) l
+        → next_after l o (at (with_at (with_at s One (max s.one (length k.one))) Two n) p)
+        ≡ next_after l o (at (with_at s' Two n) p)
     by One l g = m1 refl l g ∙ h One l g
     by Two l g = refl
     by Three l g = h Three l g
 same_after o k s s' None None (Some n) h m1 m2 m3 = by
   where
-    by : (p : Partition) (l : List Entry) → Grown (at k p) l → next_after l o (at (after None None (Some n) k s) p) ≡ next_after l o (at (with_at s' Three n) p)
+    by : (p : Partition) (l : List Entry) → Grown (at k p) l → next_after l o (at (after None None (Some n) k s) p)
+        ≡ next_after l o (at (with_at s' Three n) p)
     by One l g = m1 refl l g ∙ h One l g
     by Two l g = m2 refl l g ∙ h Two l g
     by Three l g = refl
 same_after o k s s' None None None h m1 m2 m3 = by
   where
-    by : (p : Partition) (l : List Entry) → Grown (at k p) l → next_after l o (at (after None None None k s) p) ≡ next_after l o (at s' p)
+    by : (p : Partition) (l : List Entry) → Grown (at k p) l → next_after l o (at (after None None None k s) p)
+        ≡ next_after l o (at s' p)
     by One l g = m1 refl l g ∙ h One l g
     by Two l g = m2 refl l g ∙ h Two l g
     by Three l g = m3 refl l g ∙ h Three l g
@@ -114,7 +123,8 @@ same_next o k s s' h =
     ∙ ap (λ r. first (found k o s' One) (found k o s' Two) r) three
 
 -- and stays the same
-same_on : (o : ℕ) (k : Kept) (s s' : PerPartition ℕ) → Same o k s s' → Same o k (sent_after k o s) (noted (next_to_send k o s') s')
+same_on : (o : ℕ) (k : Kept) (s s' : PerPartition ℕ) → Same o k s s'
+    → Same o k (sent_after k o s) (noted (next_to_send k o s') s')
 same_on o k s s' h =
     subst (λ r. Same o k (sent_after k o s) (noted r s')) (same_next o k s s' h)
     (same_after o k s s' (found k o s One) (found k o s Two) (found k o s Three) h
@@ -123,12 +133,14 @@ same_on o k s s' h =
 pub grown_on : (a b c : List Entry) → Grown a b → Grown b c → Grown a c
 grown_on a b c (m, e) (n, f) = (m ++ n, f ∙ ap (λ ys. ys ++ n) e ∙ append_assoc a m n)
 
-sent_same : (o : ℕ) (k : Kept) (ks : List Kept) (s s' : PerPartition ℕ) → Same o k s s' → Growing k ks → sends o (k ∷ ks) s ≡ sends_noted o (k ∷ ks) s'
+sent_same : (o : ℕ) (k : Kept) (ks : List Kept) (s s' : PerPartition ℕ) → Same o k s s' → Growing k ks
+    → sends o (k ∷ ks) s ≡ sends_noted o (k ∷ ks) s'
 sent_same o k [] s s' h g = ap (λ r. r ∷ []) (same_next o k s s' h)
 sent_same o k (k' ∷ ks) s s' h (g, gs) =
     let on = same_on o k s s' h in
     ap (λ r. r ∷ sends o (k' ∷ ks) (sent_after k o s)) (same_next o k s s' h)
-    ∙ ap (λ rs. next_to_send k o s' ∷ rs) (sent_same o k' ks (sent_after k o s) (noted (next_to_send k o s') s') (λ p l g'. on p l (grown_on (at k p) (at k' p) l (g p) g')) gs)
+    ∙ ap (λ rs. next_to_send k o s' ∷ rs) (sent_same o k' ks (sent_after k o s) (noted (next_to_send k o s') s')
+    (λ p l g'. on p l (grown_on (at k p) (at k' p) l (g p) g')) gs)
 
 pub marks_lose_nothing : MarksLoseNothing
 marks_lose_nothing o k ks sent g = sent_same o k ks sent sent (λ p l e. refl) g

@@ -27,27 +27,35 @@ under_grown (x ∷ l) more (suc (suc n)) h = under_grown l more (suc n) (omega a
 abbrev pub hers_from : ℕ → List Entry → ℕ → ℕ → List ℕ
 hers_from o l a c = filter (λ n. hers o l n) (range_with_len (a + 1) c)
 
-pub from_grown : (o : ℕ) (l more : List Entry) (c a : ℕ) → (0 < c → a + c ≤ length l) → hers_from o (l ++ more) a c ≡ hers_from o l a c
+pub from_grown : (o : ℕ) (l more : List Entry) (c a : ℕ) → (0 < c → a + c ≤ length l) → hers_from o (l ++ more) a c
+    ≡ hers_from o l a c
 from_grown o l more zero a h = refl
 from_grown o l more (suc c) a h =
     let e = under_grown l more (a + 1) (let b : a + suc c ≤ length l = h (omega arith) in omega arith) in
-    rw e (ap (λ ns. cond (hers o l (a + 1)) ((a + 1) ∷ ns) ns) (from_grown o l more c (a + 1) (λ p. let b : a + suc c ≤ length l = h (omega arith) in omega arith)))
+    rw e (ap (λ ns. cond (hers o l (a + 1)) ((a + 1) ∷ ns) ns)
+    (from_grown o l more c (a + 1) (λ p. let b : a + suc c ≤ length l = h (omega arith) in omega arith)))
 
 pub owned_grown : (o : ℕ) (l more : List Entry) (a t : ℕ) → t ≤ length l → owned (l ++ more) o a t ≡ owned l o a t
 owned_grown o l more a t h = from_grown o l more (t - a) a (λ p. omega arith)
 
 -- none of them is the owner's
-pub from_none : (o : ℕ) (l : List Entry) (c a : ℕ) → ((k : ℕ) → a < k → k ≤ a + c → hers o l k ≡ false) → hers_from o l a c ≡ []
+pub from_none : (o : ℕ) (l : List Entry) (c a : ℕ) → ((k : ℕ) → a < k → k ≤ a + c → hers o l k ≡ false)
+    → hers_from o l a c ≡ []
 from_none o l zero a h = refl
 from_none o l (suc c) a h =
-    cond-false _ _ _ (h (a + 1) (omega arith) (omega arith)) ∙ from_none o l c (a + 1) (λ k lt le. h k (omega arith) (omega arith))
+    cond-false _ _ _ (h (a + 1) (omega arith) (omega arith)) ∙ from_none o l c (a + 1)
+    (λ k lt le. h k (omega arith) (omega arith))
 
 -- the lowest comes first
-pub from_some : (o : ℕ) (l : List Entry) (n c a : ℕ) → a < n → n ≤ a + c → hers o l n ≡ true → ((k : ℕ) → a < k → k < n → hers o l k ≡ false) → hers_from o l a c ≡ n ∷ hers_from o l n (a + c - n)
+pub from_some : (o : ℕ) (l : List Entry) (n c a : ℕ) → a < n → n ≤ a + c → hers o l n ≡ true
+    → ((k : ℕ) → a < k → k < n → hers o l k ≡ false) → hers_from o l a c ≡ n ∷ hers_from o l n (a + c - n)
 from_some o l n zero a lt le t h = absurd (omega arith)
-from_some o l n (suc c) a lt le t h = go (cases_order (a + 1) n) (λ b. from_some o l n c (a + 1) b (omega arith) t (λ k p q. h k (omega arith) q))
+from_some o l n (suc c) a lt le t h =
+    go (cases_order (a + 1) n) (λ b. from_some o l n c (a + 1) b (omega arith) t (λ k p q. h k (omega arith) q))
   where
-    go : (a + 1 ≡ n) ⊎ ((a + 1 < n) ⊎ (n < a + 1)) → (a + 1 < n → hers_from o l (a + 1) c ≡ n ∷ hers_from o l n (a + 1 + c - n)) → hers_from o l a (suc c) ≡ n ∷ hers_from o l n (a + suc c - n)
+    go : (a + 1 ≡ n) ⊎ ((a + 1 < n) ⊎ (n < a + 1))
+        → (a + 1 < n → hers_from o l (a + 1) c ≡ n ∷ hers_from o l n (a + 1 + c - n)) → hers_from o l a (suc c) ≡ n
+        ∷ hers_from o l n (a + suc c - n)
     go (inl e) next =
         let s : hers o l (a + 1) ≡ true = rw e t in
         let m : a + suc c - n ≡ c = omega arith in
@@ -62,7 +70,8 @@ abbrev pub Next : ℕ → List Entry → ℕ → ℕ → Option ℕ → Type 0
 Next o l a t None = owned l o a t ≡ []
 Next o l a t (Some n) = owned l o a t ≡ n ∷ owned l o n t
 
-next_by : (o : ℕ) (l : List Entry) (a t n : ℕ) (b : Bool) → leb n t ≡ b → Lowest l o a (Some n) → Next o l a t (cond b (Some n) None)
+next_by : (o : ℕ) (l : List Entry) (a t n : ℕ) (b : Bool) → leb n t ≡ b → Lowest l o a (Some n)
+    → Next o l a t (cond b (Some n) None)
 next_by o l a t n true e h =
     let le : n ≤ t = leb-true n t e in
     let lt : a < n = h.0 in

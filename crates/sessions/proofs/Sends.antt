@@ -22,25 +22,32 @@ clash : {X : Type 0} (b : Bool) → b ≡ true → b ≡ false → X
 clash b t f = cc
 
 -- numbers that are not the owner's are passed over
-skip : (o : ℕ) (l : List Entry) (d a c : ℕ) → ((k : ℕ) → a < k → k ≤ a + d → hers o l k ≡ false) → hers_from o l a (d + c) ≡ hers_from o l (a + d) c
+skip : (o : ℕ) (l : List Entry) (d a c : ℕ) → ((k : ℕ) → a < k → k ≤ a + d → hers o l k ≡ false)
+    → hers_from o l a (d + c) ≡ hers_from o l (a + d) c
 skip o l zero a c h = let e : a + 0 ≡ a = omega arith in let f : 0 + c ≡ c = omega arith in rw (e, f)
 skip o l (suc d) a c h =
     let f : suc d + c ≡ suc (d + c) = omega arith in
     let e : a + 1 + d ≡ a + suc d = omega arith in
-    rw f (cond-false _ _ _ (h (a + 1) (omega arith) (omega arith)) ∙ skip o l d (a + 1) c (λ k p q. h k (omega arith) (omega arith)) ∙ ap (λ n. hers_from o l n c) e)
+    rw f (cond-false _ _ _ (h (a + 1) (omega arith) (omega arith)) ∙ skip o l d (a + 1) c
+    (λ k p q. h k (omega arith) (omega arith)) ∙ ap (λ n. hers_from o l n c) e)
 
-passed : (o : ℕ) (l : List Entry) (a b t : ℕ) → a ≤ b → ((k : ℕ) → a < k → k ≤ b → hers o l k ≡ false) → owned l o b t ≡ owned l o a t
+passed : (o : ℕ) (l : List Entry) (a b t : ℕ) → a ≤ b → ((k : ℕ) → a < k → k ≤ b → hers o l k ≡ false) → owned l o b t
+    ≡ owned l o a t
 passed o l a b t le h = by (cases_lt t b)
   where
     by : (t < b) ⊎ (b ≤ t) → owned l o b t ≡ owned l o a t
-    by (inl q) = from_none o l (t - b) b (λ k p r. absurd (omega arith)) ∙ sym (from_none o l (t - a) a (λ k p r. h k p (omega arith)))
+    by (inl q) =
+        from_none o l (t - b) b (λ k p r. absurd (omega arith)) ∙ sym
+        (from_none o l (t - a) a (λ k p r. h k p (omega arith)))
     by (inr q) =
         let e : t - a ≡ (b - a) + (t - b) = omega arith in
         let f : a + (b - a) ≡ b = omega arith in
-        sym (ap (λ c. hers_from o l a c) e ∙ skip o l (b - a) a (t - b) (λ k p r. h k p (omega arith)) ∙ ap (λ n. hers_from o l n (t - b)) f)
+        sym (ap (λ c. hers_from o l a c) e ∙ skip o l (b - a) a (t - b) (λ k p r. h k p (omega arith)) ∙ ap
+        (λ n. hers_from o l n (t - b)) f)
 
 -- where none was found, the mark moves past numbers that are not the owner's
-step_none : (o a : ℕ) (l l' : List Entry) → Grown l l' → next_after l o a ≡ None → owned l' o (max a (length l)) (length l') ≡ owned l' o a (length l')
+step_none : (o a : ℕ) (l l' : List Entry) → Grown l l' → next_after l o a ≡ None
+    → owned l' o (max a (length l)) (length l') ≡ owned l' o a (length l')
 step_none o a l l' (more, g) e =
     let w = subst (λ r. Lowest l o a r) e (next-lowest l o a) in
     passed o l' a (max a (length l)) (length l') (omega arith)
@@ -61,14 +68,16 @@ stands o l n t = by (cases_lt (length l) n)
     by (inr q) = q
 
 -- one that was found is still the lowest when more reports come
-step_some : (o a n : ℕ) (l l' : List Entry) → Grown l l' → next_after l o a ≡ Some n → owned l' o a (length l') ≡ n ∷ owned l' o n (length l')
+step_some : (o a n : ℕ) (l l' : List Entry) → Grown l l' → next_after l o a ≡ Some n → owned l' o a (length l') ≡ n
+    ∷ owned l' o n (length l')
 step_some o a n l l' (more, g) e =
     let w = subst (λ r. Lowest l o a r) e (next-lowest l o a) in
     let s = stands o l n w.1 in
     let t = length-append l more in
     let u = ap length g in
     let on = λ (k : ℕ) (q : k ≤ length l). ap (λ ys. hers o ys k) g ∙ ap (is_of o) (under_grown l more k q) in
-    let f : next_after l' o a ≡ Some n = only l' o a _ (Some n) (next-lowest l' o a) (w.0, on n s ∙ w.1, λ k p q. on k (omega arith) ∙ w.2 k p q) in
+    let f : next_after l' o a ≡ Some n = only l' o a _ (Some n) (next-lowest l' o a)
+    (w.0, on n s ∙ w.1, λ k p q. on k (omega arith) ∙ w.2 k p q) in
     let le : leb n (length l') ≡ true = le-leb n (length l') (omega arith) in
     let m : up_to (length l') (next_after l' o a) ≡ Some n = ap (up_to (length l')) f ∙ rw le in
     subst (λ r. Next o l' a (length l') r) m (next_owned o l' a (length l'))
@@ -120,4 +129,5 @@ sends_each o p k (k' ∷ ks) s (g, gs) =
     let r = in_partition p (next_to_send k o s) in
     behind r (filter_map (in_partition p) (sends o (k' ∷ ks) s')) (owned l o (at (sent_by o (k' ∷ ks) s') p) (length l))
     ∙ ap (λ ns. cons_option r ns) (sends_each o p k' ks s' gs)
-    ∙ turn o p k s l (found k o s One) (found k o s Two) (found k o s Three) (grown_to_last p k (k' ∷ ks) (g, gs)) refl refl refl
+    ∙ turn o p k s l (found k o s One) (found k o s Two) (found k o s Three)
+    (grown_to_last p k (k' ∷ ks) (g, gs)) refl refl refl

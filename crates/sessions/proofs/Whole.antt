@@ -36,7 +36,8 @@ whole_none p m n = rw (no_number m, leb-zero m, take_none n)
 whole_full : (p : Partition) (x : ℕ) (ns : List ℕ) (n : ℕ) → take (suc n) (whole p 0 (x ∷ ns)) ≡ Ended MessageLimit ∷ []
 whole_full p x ns n = rw (leb-suc-zero (length ns), take_none n)
 
-whole_some : (p : Partition) (m x : ℕ) (ns : List ℕ) (n : ℕ) → take (suc n) (whole p (suc m) (x ∷ ns)) ≡ Report p x ∷ take n (whole p m ns)
+whole_some : (p : Partition) (m x : ℕ) (ns : List ℕ) (n : ℕ) → take (suc n) (whole p (suc m) (x ∷ ns)) ≡ Report p x
+    ∷ take n (whole p m ns)
 whole_some p m x ns n = rw (leb-suc-suc (length ns) m)
 
 abbrev running : Partition → ℕ → ℕ → ℕ → Download
@@ -45,22 +46,27 @@ running p a t h = record { partition = p; last = a; target = t; handed = h }
 -- one call
 turn : (o : ℕ) (ks : List Kept) (l : List Entry) (p : Partition) (a t h m : ℕ) (r : Option ℕ)
     → h + m ≡ DOWNLOADED → Next o l a t r
-    → ((n m' : ℕ) → h + 1 + m' ≡ DOWNLOADED → hands_out o ks (Some (running p n t (h + 1))) ≡ take (length ks) (whole p m' (owned l o n t)))
-    → cons_option (answered (handed_out (running p a t h) r)).0 (hands_out o ks (answered (handed_out (running p a t h) r)).1) ≡ take (suc (length ks)) (whole p m (owned l o a t))
+    → ((n m' : ℕ) → h + 1 + m' ≡ DOWNLOADED → hands_out o ks (Some (running p n t (h + 1)))
+    ≡ take (length ks) (whole p m' (owned l o n t)))
+    → cons_option (answered (handed_out (running p a t h) r)).0
+    (hands_out o ks (answered (handed_out (running p a t h) r)).1) ≡ take (suc (length ks)) (whole p m (owned l o a t))
 turn o ks l p a t h m None e n next =
     ap (λ (rs : List Recovered). Ended Complete ∷ rs) (nothing_more o ks) ∙ sym (whole_none p m (length ks))
     ∙ ap (λ ns. take (suc (length ks)) (whole p m ns)) (sym n)
 turn o ks l p a t h zero (Some x) e n next =
     let b : leb DOWNLOADED h ≡ true = le-leb DOWNLOADED h (omega arith) in
-    rw b (ap (λ (rs : List Recovered). Ended MessageLimit ∷ rs) (nothing_more o ks) ∙ sym (whole_full p x (owned l o x t) (length ks))
+    rw b (ap (λ (rs : List Recovered). Ended MessageLimit ∷ rs) (nothing_more o ks) ∙ sym
+    (whole_full p x (owned l o x t) (length ks))
     ∙ ap (λ ns. take (suc (length ks)) (whole p 0 ns)) (sym n))
 turn o ks l p a t h (suc m) (Some x) e n next =
     let b : leb DOWNLOADED h ≡ false = lt-leb DOWNLOADED h (omega arith) in
-    rw b (ap (λ (rs : List Recovered). Report p x ∷ rs) (next x m (omega arith)) ∙ sym (whole_some p m x (owned l o x t) (length ks))
+    rw b (ap (λ (rs : List Recovered). Report p x ∷ rs) (next x m (omega arith)) ∙ sym
+    (whole_some p m x (owned l o x t) (length ks))
     ∙ ap (λ ns. take (suc (length ks)) (whole p (suc m) ns)) (sym n))
 
 -- reports that stand stay when the store grows
-kept_on : (l l' : List Entry) → Grown l l' → (o a t : ℕ) → t ≤ length l → (t ≤ length l') × (owned l' o a t ≡ owned l o a t)
+kept_on : (l l' : List Entry) → Grown l l' → (o a t : ℕ) → t ≤ length l → (t ≤ length l')
+    × (owned l' o a t ≡ owned l o a t)
 kept_on l l' (more, e) o a t le =
     let n = length-append l more in
     let m = ap length e in

@@ -16,14 +16,18 @@ use Rattle.store.specs.Kept.{Kept, next_after}
 use Rattle.store.proofs.Nexts.{next-shift}
 use Rattle.store_bench.specs.Counts.{turn, owners, filled, seconds_of, seconds_in, owned, owned_in, owned_below, Counts}
 
-owned-cons : (o : ℕ) (x : Entry) (l : List Entry) (b : Bool) → b ≡ eqb x.owner o → owned o (x ∷ l) ≡ cond b 1 0 + owned o l
-owned-cons o x l b e = sum_by-cons (λ (y : Entry). cond (eqb y.owner o) 1 0) x l ∙ ap (λ (t : Bool). cond t 1 0 + owned o l) (sym e)
+owned-cons : (o : ℕ) (x : Entry) (l : List Entry) (b : Bool) → b ≡ eqb x.owner o → owned o (x ∷ l)
+    ≡ cond b 1 0 + owned o l
+owned-cons o x l b e =
+    sum_by-cons (λ (y : Entry). cond (eqb y.owner o) 1 0) x l ∙ ap (λ (t : Bool). cond t 1 0 + owned o l) (sym e)
 
-lift : (x : Entry) (l : List Entry) (o above : ℕ) (r : Option ℕ) → Counts l o above r → Counts (x ∷ l) o (suc above) (option_map suc r)
+lift : (x : Entry) (l : List Entry) (o above : ℕ) (r : Option ℕ) → Counts l o above r
+    → Counts (x ∷ l) o (suc above) (option_map suc r)
 lift x l o above None h = h
 lift x l o above (Some n) h = (omega (arith, h.0), omega (arith, h.1), h.2)
 
-front : (x : Entry) (l : List Entry) (o : ℕ) (b : Bool) (r : Option ℕ) → b ≡ eqb x.owner o → Counts l o 0 r → Counts (x ∷ l) o 0 (cond b (Some 1) (option_map suc r))
+front : (x : Entry) (l : List Entry) (o : ℕ) (b : Bool) (r : Option ℕ) → b ≡ eqb x.owner o → Counts l o 0 r
+    → Counts (x ∷ l) o 0 (cond b (Some 1) (option_map suc r))
 front x l o true r e h = (omega arith, omega arith, owned-cons o x l true e)
 front x l o false None e h = owned-cons o x l false e ∙ omega (arith, h)
 front x l o false (Some n) e h = (omega arith, omega (arith, h.1), owned-cons o x l false e ∙ omega (arith, h.2))
@@ -36,25 +40,31 @@ counts-in : (l : List Entry) (o above : ℕ) → Counts l o above (next-in l o a
 counts-in [] o zero = refl
 counts-in [] o (suc above) = refl
 counts-in (x ∷ l) o zero =
-    subst (λ r. Counts (x ∷ l) o 0 (cond (eqb x.owner o) (Some 1) r)) (sym (next-shift o 1 l)) (front x l o (eqb x.owner o) (next-in l o 0) refl (counts-in l o 0))
+    subst (λ r. Counts (x ∷ l) o 0 (cond (eqb x.owner o) (Some 1) r)) (sym (next-shift o 1 l))
+    (front x l o (eqb x.owner o) (next-in l o 0) refl (counts-in l o 0))
 counts-in (x ∷ l) o (suc above) =
     let same : suc above + 1 ≡ above + 1 + 1 = omega arith in
-    subst (λ r. Counts (x ∷ l) o (suc above) r) (sym (ap (λ j. position_from (λ (e : Entry). eqb e.owner o) j (drop above l)) same ∙ next-shift o (above + 1) (drop above l))) (lift x l o above (next-in l o above) (counts-in l o above))
+    subst (λ r. Counts (x ∷ l) o (suc above) r)
+    (sym (ap (λ j. position_from (λ (e : Entry). eqb e.owner o) j (drop above l)) same ∙ next-shift o (above + 1)
+    (drop above l))) (lift x l o above (next-in l o above) (counts-in l o above))
 
 pub next_counts : (l : List Entry) (o above : ℕ) (r : Option ℕ) → r ≡ next_after l o above → Counts l o above r
-next_counts l o above r e = subst (Counts l o above) (sym (e ∙ next-from (λ (x : Entry). x.owner) l o above)) (counts-in l o above)
+next_counts l o above r e =
+    subst (Counts l o above) (sym (e ∙ next-from (λ (x : Entry). x.owner) l o above)) (counts-in l o above)
 
 -- one report more is read
 pub seconds_none : (l : List Entry) → 0 ≡ seconds_in (take 0 l)
 seconds_none l = refl
 
-pub seconds_more : (l : List Entry) (n s : ℕ) (e : Entry) → Some e ≡ under l (n + 1) → s ≡ seconds_in (take n l) → s + seconds_of e.report ≡ seconds_in (take (n + 1) l)
+pub seconds_more : (l : List Entry) (n s : ℕ) (e : Entry) → Some e ≡ under l (n + 1) → s ≡ seconds_in (take n l)
+    → s + seconds_of e.report ≡ seconds_in (take (n + 1) l)
 seconds_more l n s e u h =
     let same : n + 1 ≡ suc n = omega arith in
     let there : slice_get l n ≡ Some e = ap (under l) (sym same) ∙ sym u in
     let within = slice_get_within l n e there in
     let taken = sum_by_more (λ (x : Entry). seconds_of x.report) l n e within in
-    ap (λ t. t + seconds_of e.report) h ∙ ap (λ x. seconds_in (take n l) + seconds_of x.report) (sym (get_or_from_slice_get l n e e there)) ∙ sym taken
+    ap (λ t. t + seconds_of e.report) h ∙ ap (λ x. seconds_in (take n l) + seconds_of x.report)
+    (sym (get_or_from_slice_get l n e e there)) ∙ sym taken
 
 -- a number within the list has an entry
 pub entry-there : (l : List Entry) (n : ℕ) → 0 < n → n ≤ length l → under l n ≡ None → ⊥
@@ -78,18 +88,37 @@ below_none k = refl
 
 -- one owner more
 pub below_owner : (o f a : ℕ) (k : Kept) → f ≡ owned_below o k → a ≡ owned_in o k → f + a ≡ owned_below (o + 1) k
-below_owner o f a k h x = let more = below_more o k in let same : o + 1 ≡ suc o = omega arith in omega arith ∙ sym (ap (λ n. owned_below n k) same ∙ more)
+below_owner o f a k h x =
+    let more = below_more o k in let same : o + 1
+    ≡ suc o = omega arith in omega arith ∙ sym (ap (λ n. owned_below n k) same ∙ more)
 
 pub filled_none : (os : PerPartition (List ℕ)) → os ≡ filled 0 os
 unfolding filled
 filled_none os = refl
 
-pub filled_more : (i : ℕ) (os now after : PerPartition (List ℕ)) → now ≡ filled i os → after ≡ grown now (turn (i % 3)) (i % 8) → after ≡ filled (i + 1) os
+pub filled_more : (i : ℕ) (os now after : PerPartition (List ℕ)) → now ≡ filled i os → after
+    ≡ grown now (turn (i % 3)) (i % 8) → after ≡ filled (i + 1) os
 unfolding filled
-filled_more i os now after h e = let same : i + 1 ≡ suc i = omega arith in e ∙ ap (λ t. grown t (turn (i % 3)) (i % 8)) h ∙ sym (ap (λ n. filled n os) same)
+filled_more i os now after h e =
+    let same : i + 1 ≡ suc i = omega arith in e ∙ ap (λ t. grown t (turn (i % 3)) (i % 8)) h ∙ sym
+    (ap (λ n. filled n os) same)
 
 -- one report more, by its owner
 pub owners_grown : (k : Kept) (p : Partition) (e : Entry) → owners (grown k p e) ≡ grown (owners k) p e.owner
-owners_grown k One e = ap (λ l. record { one = l; two = map (λ (x : Entry). x.owner) k.two; three = map (λ (x : Entry). x.owner) k.three }) (map_push (λ (x : Entry). x.owner) k.one e)
-owners_grown k Two e = ap (λ l. record { one = map (λ (x : Entry). x.owner) k.one; two = l; three = map (λ (x : Entry). x.owner) k.three }) (map_push (λ (x : Entry). x.owner) k.two e)
-owners_grown k Three e = ap (λ l. record { one = map (λ (x : Entry). x.owner) k.one; two = map (λ (x : Entry). x.owner) k.two; three = l }) (map_push (λ (x : Entry). x.owner) k.three e)
+owners_grown k One e =
+    ap (λ l. record {
+      one = l;
+      two = map (λ (x : Entry). x.owner) k.two;
+      three = map
+          (λ (x : Entry). x.owner) k.three;
+    }) (map_push (λ (x : Entry). x.owner) k.one e)
+owners_grown k Two e =
+    ap (λ l. record {
+      one = map (λ (x : Entry). x.owner) k.one;
+      two = l;
+      three = map
+          (λ (x : Entry). x.owner) k.three;
+    }) (map_push (λ (x : Entry). x.owner) k.two e)
+owners_grown k Three e =
+    ap (λ l. record { one = map (λ (x : Entry). x.owner) k.one; two = map (λ (x : Entry). x.owner) k.two; three = l })
+    (map_push (λ (x : Entry). x.owner) k.three e)

@@ -11,7 +11,9 @@ use Rattle.texts.specs.Identifiers.{digit, worth, base62, id_of, after, number_o
 abbrev pub next : ℕ → ℕ → Option ℕ
 next n c = cond (ltb (worth c) 62 && ltb (n * 62 + worth c) (2 ^ 64)) (Some (n * 62 + worth c)) None
 
-pub after-drop : (n : ℕ) (ds : List ℕ) (i : ℕ) → i < length ds → after n (drop i ds) ≡ cond (ltb (worth (get_or ds i 0)) 62 && ltb (n * 62 + worth (get_or ds i 0)) (2 ^ 64)) (after (n * 62 + worth (get_or ds i 0)) (drop (i + 1) ds)) None
+pub after-drop : (n : ℕ) (ds : List ℕ) (i : ℕ) → i < length ds → after n (drop i ds)
+    ≡ cond (ltb (worth (get_or ds i 0)) 62 && ltb (n * 62 + worth (get_or ds i 0)) (2 ^ 64))
+    (after (n * 62 + worth (get_or ds i 0)) (drop (i + 1) ds)) None
 after-drop n ds i h = rw (add-one, drop-cons ds i 0 h)
 
 by-test : (p : Bool) (r s t : Option ℕ) (m : ℕ) → (r ≡ Some m → s ≡ t) → cond p r None ≡ Some m → cond p s None ≡ t
@@ -21,7 +23,8 @@ by-test false r s t m f e = cc
 after_push : (xs : List ℕ) (a m c : ℕ) → after a xs ≡ Some m → after a (xs ++ (c ∷ [])) ≡ next m c
 after_push [] a m c e = let k : a ≡ m = cc in rw k
 after_push (x ∷ xs) a m c e =
-    by-test (ltb (worth x) 62 && ltb (a * 62 + worth x) (2 ^ 64)) (after (a * 62 + worth x) xs) (after (a * 62 + worth x) (xs ++ (c ∷ []))) (next m c) m
+    by-test (ltb (worth x) 62 && ltb (a * 62 + worth x) (2 ^ 64)) (after (a * 62 + worth x) xs)
+    (after (a * 62 + worth x) (xs ++ (c ∷ []))) (next m c) m
     (λ d. after_push xs (a * 62 + worth x) m c d) e
 
 worth-digit : (d : ℕ) → d < 62 → worth (digit d) ≡ d
@@ -44,7 +47,8 @@ after-base62 (suc k) n h l =
 length-base62 : (k n : ℕ) → length (base62 k n) ≡ k
 unfolding base62
 length-base62 zero n = refl
-length-base62 (suc k) n = length-append (base62 k (n / 62)) (digit (n % 62) ∷ []) ∙ rw (length-base62 k (n / 62)) (omega arith)
+length-base62 (suc k) n =
+    length-append (base62 k (n / 62)) (digit (n % 62) ∷ []) ∙ rw (length-base62 k (n / 62)) (omega arith)
 
 pub length-id_of : (letter n : ℕ) → length (id_of letter n) ≡ 12
 length-id_of letter n = ap suc (length-base62 11 n)
@@ -52,7 +56,8 @@ length-id_of letter n = ap suc (length-base62 11 n)
 printable-digit : (d : ℕ) → d < 62 → printable (digit d) ≡ true
 printable-digit d h = grind arith
 
-printable-push : (xs : List ℕ) (c : ℕ) → all_printable xs ≡ true → printable c ≡ true → all_printable (xs ++ (c ∷ [])) ≡ true
+printable-push : (xs : List ℕ) (c : ℕ) → all_printable xs ≡ true → printable c ≡ true → all_printable (xs ++ (c ∷ []))
+    ≡ true
 printable-push [] c h k = rw k
 printable-push (x ∷ xs) c h k = let q = both_true (printable x) (all_printable xs) h in rw q.0 (printable-push xs c q.1 k)
 
@@ -61,7 +66,8 @@ unfolding base62
 printable-base62 zero n = refl
 printable-base62 (suc k) n =
     let p : 0 < 62 = omega arith in
-    printable-push (base62 k (n / 62)) (digit (n % 62)) (printable-base62 k (n / 62)) (printable-digit (n % 62) (mod_below n 62 p))
+    printable-push (base62 k (n / 62)) (digit (n % 62)) (printable-base62 k (n / 62))
+    (printable-digit (n % 62) (mod_below n 62 p))
 
 pub printable-id_of : (letter n : ℕ) → 65 ≤ letter → letter ≤ 90 → all_printable (id_of letter n) ≡ true
 printable-id_of letter n a b = let q : printable letter ≡ true = grind arith in rw q (printable-base62 11 n)
@@ -78,11 +84,15 @@ some_same : (o : Option ℕ) (m n : ℕ) → o ≡ Some m → o ≡ Some n → m
 some_same o m n p q = cc
 
 pub returns_of : (letter n : ℕ) → n < 2 ^ 64 → Returns letter n
-returns_of letter n h =
-    (returned letter n h, λ m l e. some_same (number_of letter (id_of letter n)) m n (sym (ap (number_of letter) e) ∙ returned letter m l) (returned letter n h))
+returns_of letter n h = (
+  returned letter n h,
+  λ m l e. some_same (number_of letter (id_of letter n)) m n
+      (sym (ap (number_of letter) e) ∙ returned letter m l) (returned letter n h),
+)
 
 -- a turn of the writing: the digit at k
-pub write-turn : (k n : ℕ) (out : List ℕ) → 0 < k → k < length out → base62 k n ++ drop (k + 1) out ≡ base62 (k - 1) (n / 62) ++ drop (k - 1 + 1) (set out k (digit (n % 62)))
+pub write-turn : (k n : ℕ) (out : List ℕ) → 0 < k → k < length out → base62 k n ++ drop (k + 1) out
+    ≡ base62 (k - 1) (n / 62) ++ drop (k - 1 + 1) (set out k (digit (n % 62)))
 unfolding base62
 write-turn zero n out p h = absurd (omega arith)
 write-turn (suc j) n out p h =
@@ -91,12 +101,14 @@ write-turn (suc j) n out p h =
     let d = drop-set out (suc j) (digit (n % 62)) h in
     rw (a, b, d, append_assoc)
 
-pub write-end : (letter n m : ℕ) (out : List ℕ) → length out ≡ 12 → get_or out 0 0 ≡ letter → base62 11 n ≡ base62 0 m ++ drop (0 + 1) out → out ≡ id_of letter n
+pub write-end : (letter n m : ℕ) (out : List ℕ) → length out ≡ 12 → get_or out 0 0 ≡ letter → base62 11 n ≡ base62 0 m
+    ++ drop (0 + 1) out → out ≡ id_of letter n
 unfolding base62
 write-end letter n m [] l g e = absurd (omega arith)
 write-end letter n m (x ∷ out) l g e = rw (e, g)
 
-pub number_is : (letter : ℕ) (bs : List ℕ) → length bs ≡ 12 → get_or bs 0 0 ≡ letter → after 0 (take (length bs - 1) (drop 1 bs)) ≡ number_of letter bs
+pub number_is : (letter : ℕ) (bs : List ℕ) → length bs ≡ 12 → get_or bs 0 0 ≡ letter
+    → after 0 (take (length bs - 1) (drop 1 bs)) ≡ number_of letter bs
 number_is letter bs l g =
     let k : length bs ≤ length bs = omega arith in
     rw (between_to_end bs 1 (length bs) k, eq-eqb (length bs) 12 l, eq-eqb (get_or bs 0 0) letter g)

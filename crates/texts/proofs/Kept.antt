@@ -19,9 +19,11 @@ named_says f h =
 
 pub fixed_same : {N : ℕ} (x y : FixedText N) → x.bytes ≡ y.bytes → x ≡ y
 fixed_same {N} x y e =
-    let made : (f : List ℕ) → length f ≡ N → is_text f ≡ true → FixedText N = λ f w t. record { bytes = f; wide = w; text = t } in
+    let made : (f : List ℕ) → length f ≡ N → is_text f ≡ true
+    → FixedText N = λ f w t. record { bytes = f; wide = w; text = t } in
     let P : List ℕ → Type 0 = λ h. (v : length h ≡ N) (u : is_text h ≡ true) → x ≡ made h v u in
-    subst P e (λ v u. ap (λ w. made x.bytes w x.text) (ℕ_set (length x.bytes) N x.wide v) ∙ ap (made x.bytes v) (Bool-set (is_text x.bytes) true x.text u)) y.wide y.text
+    subst P e (λ v u. ap (λ w. made x.bytes w x.text) (ℕ_set (length x.bytes) N x.wide v) ∙ ap (made x.bytes v)
+    (Bool-set (is_text x.bytes) true x.text u)) y.wide y.text
 
 pub kept_same : {N : ℕ} (x : FixedText N) (t : Text N) → x.bytes ≡ t.field.now → x ≡ kept t
 kept_same x t e = fixed_same x (kept t) e

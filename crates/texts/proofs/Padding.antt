@@ -19,7 +19,8 @@ lead-null (suc k) = refl
 
 lead-padded : (t : List ℕ) (k : ℕ) → all_printable t ≡ true → prefix_len printable (t ++ replicate k 0) ≡ length t
 lead-padded [] k h = lead-null k
-lead-padded (b ∷ t) k h = let q = both_true (printable b) (all_printable t) h in rw (q.0, lead-padded t k q.1) (omega arith)
+lead-padded (b ∷ t) k h =
+    let q = both_true (printable b) (all_printable t) h in rw (q.0, lead-padded t k q.1) (omega arith)
 
 lead-front : (p : Bool) (n m : ℕ) → cond p (1 + n) 0 ≡ suc m → (p ≡ true) × (n ≡ m)
 lead-front true n m e = (refl, omega arith)
@@ -27,13 +28,15 @@ lead-front false n m e = absurd (omega arith)
 
 pub printable-all : (t : List ℕ) → prefix_len printable t ≡ length t → all_printable t ≡ true
 printable-all [] e = refl
-printable-all (b ∷ t) e = let q = lead-front (printable b) (prefix_len printable t) (length t) e in rw q.0 (printable-all t q.1)
+printable-all (b ∷ t) e =
+    let q = lead-front (printable b) (prefix_len printable t) (length t) e in rw q.0 (printable-all t q.1)
 
 pub lead-all : (t : List ℕ) → all_printable t ≡ true → prefix_len printable t ≡ length t
 lead-all [] h = refl
 lead-all (b ∷ t) h = let q = both_true (printable b) (all_printable t) h in rw (q.0, lead-all t q.1) (omega arith)
 
-said-by : (p : Bool) (b : ℕ) (f : List ℕ) → printable b ≡ p → all_printable (said f) ≡ true → all_printable (take (cond p (1 + prefix_len printable f) 0) (b ∷ f)) ≡ true
+said-by : (p : Bool) (b : ℕ) (f : List ℕ) → printable b ≡ p → all_printable (said f) ≡ true
+    → all_printable (take (cond p (1 + prefix_len printable f) 0) (b ∷ f)) ≡ true
 said-by true b f e h = let o : 1 + prefix_len printable f ≡ suc (prefix_len printable f) = omega arith in rw (o, e) h
 said-by false b f e h = refl
 
@@ -49,19 +52,23 @@ null-all (suc k) = null-all k
 
 pub null_is : (xs : List ℕ) → all_null xs ≡ true → xs ≡ replicate (length xs) 0
 null_is [] h = refl
-null_is (x ∷ xs) h = let q = both_true (eqb x 0) (all_null xs) h in rw (eqb-true x 0 q.0) (ap (λ (ys : List ℕ). 0 ∷ ys) (null_is xs q.1))
+null_is (x ∷ xs) h =
+    let q = both_true (eqb x 0) (all_null xs) h in rw (eqb-true x 0 q.0) (ap (λ (ys : List ℕ). 0 ∷ ys) (null_is xs q.1))
 
 -- padding
 
 pub length-padded : (w : ℕ) (t : List ℕ) → length t ≤ w → length (padded w t) ≡ w
-length-padded w t h = rw (length-append t (replicate (w - length t) 0), length-replicate {A = ℕ} (w - length t) 0) (omega arith)
+length-padded w t h =
+    rw (length-append t (replicate (w - length t) 0), length-replicate {A = ℕ} (w - length t) 0) (omega arith)
 
 pub said-padded : (w : ℕ) (t : List ℕ) → all_printable t ≡ true → said (padded w t) ≡ t
 said-padded w t h = rw (lead-padded t (w - length t) h) (take_at t (replicate (w - length t) 0) (length t) refl)
 
 pub is_text-padded : (w : ℕ) (t : List ℕ) → all_printable t ≡ true → is_text (padded w t) ≡ true
 unfolding is_text
-is_text-padded w t h = rw (lead-padded t (w - length t) h, drop_at t (replicate (w - length t) 0) (length t) refl) (null-all (w - length t))
+is_text-padded w t h =
+    rw (lead-padded t (w - length t) h, drop_at t (replicate (w - length t) 0) (length t) refl)
+    (null-all (w - length t))
 
 pub named-padded : (w : ℕ) (t : List ℕ) → all_printable t ≡ true → 0 < length t → named (padded w t) ≡ true
 unfolding named

@@ -92,7 +92,8 @@ module _ (p : Partition) (o : ℕ) where
   refused_stays x (e ∷ l) = refused_stays x l
 
   -- reports of another owner
-  others_pass : (q : ℕ) (k : Result Knowledge FoldRefusal) (es : List ExecutionReport) → eqb q o ≡ false → told k (entries_of q es) ≡ k
+  others_pass : (q : ℕ) (k : Result Knowledge FoldRefusal) (es : List ExecutionReport) → eqb q o ≡ false
+      → told k (entries_of q es) ≡ k
   others_pass q k [] h = refl
   others_pass q (Err x) (e ∷ es) h = others_pass q (Err x) es h
   others_pass q (Ok k) (e ∷ es) h =
@@ -103,28 +104,36 @@ module _ (p : Partition) (o : ℕ) where
   own_fold k [] = refl
   own_fold (Err x) (e ∷ es) = refused_stays x (entries_of o es)
   own_fold (Ok k) (e ∷ es) =
-      ap (λ b. told (cond b (fold p (told_of (Execution e)) k) (Ok k)) (entries_of o es)) (eq-eqb o o refl) ∙ own_fold (fold p (told_of (Execution e)) k) es
+      ap (λ b. told (cond b (fold p (told_of (Execution e)) k) (Ok k)) (entries_of o es)) (eq-eqb o o refl) ∙ own_fold
+      (fold p (told_of (Execution e)) k) es
 
   -- where no report is refused, what is folded is the tally
   pub tally-told : (k k' : Knowledge) (l : List Entry) → told (Ok k) l ≡ Ok k' → fold_each (tally_one p o) k l ≡ k'
   tally-told k k' [] h = cc
   tally-told k k' (e ∷ l) h = go (eqb e.owner o) (fold p (told_of e.report) k) (λ j f. tally-told j k' l f) h
     where
-      go : (b : Bool) (f : Result Knowledge FoldRefusal) → ((j : Knowledge) → told (Ok j) l ≡ Ok k' → fold_each (tally_one p o) j l ≡ k') → told (cond b f (Ok k)) l ≡ Ok k' → fold_each (tally_one p o) (cond b (kept_by k f) k) l ≡ k'
+      go : (b : Bool) (f : Result Knowledge FoldRefusal)
+          → ((j : Knowledge) → told (Ok j) l ≡ Ok k' → fold_each (tally_one p o) j l ≡ k') → told (cond b f (Ok k)) l
+          ≡ Ok k' → fold_each (tally_one p o) (cond b (kept_by k f) k) l ≡ k'
       go false f rest h = rest k h
       go true (Ok j) rest h = rest j h
-      go true (Err x) rest h = let no : ◌≡◌ {A = Result Knowledge FoldRefusal} (Err x) (Ok k') = sym (refused_stays x l) ∙ h in absurd (cc)
+      go true (Err x) rest h =
+          let no : ◌≡◌ {A = Result Knowledge FoldRefusal} (Err x) (Ok k') = sym (refused_stays x l) ∙ h in absurd (cc)
 
 -- ---- what an owner is to know of one row
 
 -- of an order that is another's, or is told elsewhere: nothing
-standing-none : (is : List Instrument) (o : ℕ) (p : Partition) (b : Row) (i : Instrument) → slice_get is b.terms.instrument ≡ Some i → (eqb b.terms.owner o && is_at i.partition p) ≡ false → standing is o p (Some b) ≡ None
+standing-none : (is : List Instrument) (o : ℕ) (p : Partition) (b : Row) (i : Instrument)
+    → slice_get is b.terms.instrument ≡ Some i → (eqb b.terms.owner o && is_at i.partition p) ≡ false
+    → standing is o p (Some b) ≡ None
 standing-none is o p b i at_i h = ap (standing_in o p b) at_i ∙ cond-false _ _ _ h
 
-standing-some : (is : List Instrument) (b : Row) (i : Instrument) → slice_get is b.terms.instrument ≡ Some i → standing is b.terms.owner i.partition (Some b) ≡ Some (standing_of i.partition b)
+standing-some : (is : List Instrument) (b : Row) (i : Instrument) → slice_get is b.terms.instrument ≡ Some i
+    → standing is b.terms.owner i.partition (Some b) ≡ Some (standing_of i.partition b)
 standing-some is b i at_i =
     ap (standing_in b.terms.owner i.partition b) at_i
-    ∙ cond-true _ _ _ (ap (λ x. x && is_at i.partition i.partition) (eq-eqb b.terms.owner b.terms.owner refl) ∙ at_self i.partition)
+    ∙ cond-true _ _ _ (ap (λ x. x && is_at i.partition i.partition)
+    (eq-eqb b.terms.owner b.terms.owner refl) ∙ at_self i.partition)
 
 apart-owner : (x y : Bool) → x ≡ false → (x && y) ≡ false
 apart-owner x y h = ap (λ b. b && y) h
@@ -136,7 +145,8 @@ apart-partition false y h = refl
 -- ---- one row changes, or is new, and its owner is told
 
 -- what a change does to the rows: under its number stands the row r, which is told for the instrument i
-pub record Rewrites (is : List Instrument) (n : ℕ) (c : Change) (rows : List Row) (r : Row) (i : Instrument) (rows' : List Row) : Type 0 where
+pub record Rewrites (is : List Instrument) (n : ℕ) (c : Change) (rows : List Row) (r : Row) (i : Instrument)
+    (rows' : List Row) : Type 0 where
   pub here : under rows' n ≡ Some r
   pub apart : (m : ℕ) → (m ≡ n → ⊥) → under rows' m ≡ under rows m
   pub numbered : kept_from 1 rows' ≡ true
@@ -147,7 +157,8 @@ pub record Rewrites (is : List Instrument) (n : ℕ) (c : Change) (rows : List R
   pub longer : length rows ≤ length rows'
   pub new : under rows n ≡ None → (length rows < ORDERS) × (length rows' ≡ length rows + 1)
 
-module _ (is : List Instrument) (n : ℕ) (c : Change) (rows : List Row) (r : Row) (i : Instrument) (rows' : List Row) (kept : Kept) (t : Time)
+module _ (is : List Instrument) (n : ℕ) (c : Change) (rows : List Row) (r : Row) (i : Instrument) (rows' : List Row)
+    (kept : Kept) (t : Time)
     (s : Recorded is rows kept) (w : Rewrites is n c rows r i rows') where
   abbrev o : ℕ
   o = r.terms.owner
@@ -190,31 +201,37 @@ module _ (is : List Instrument) (n : ℕ) (c : Change) (rows : List Row) (r : Ro
   -- the owner's tally in the order's partition
   told_here : all_told p o (at now p) ≡ Ok (insert k n (standing_of p r))
   told_here =
-      ap (all_told p o) (appended-here kept p (entries_of o es)) ∙ fold-append (told_one p o) (Ok nothing_known) (at kept p) (entries_of o es)
+      ap (all_told p o) (appended-here kept p (entries_of o es)) ∙ fold-append (told_one p o) (Ok nothing_known)
+      (at kept p) (entries_of o es)
       ∙ ap (λ x. told p o x (entries_of o es)) (s.unrefused o p) ∙ own_fold p o (Ok k) es ∙ followed
 
   tally_here : tally p o (at now p) ≡ insert k n (standing_of p r)
   tally_here = tally-told p o nothing_known _ (at now p) told_here
 
   -- every other is as it was
-  told_other : (q : ℕ) (u : Partition) → (p ≡ u) ⊎ (is_at p u ≡ false) → (eqb o q && is_at p u) ≡ false → all_told u q (at now u) ≡ all_told u q (at kept u)
+  told_other : (q : ℕ) (u : Partition) → (p ≡ u) ⊎ (is_at p u ≡ false) → (eqb o q && is_at p u) ≡ false
+      → all_told u q (at now u) ≡ all_told u q (at kept u)
   told_other q u (inr away) h = ap (all_told u q) (appended-apart kept p u (entries_of o es) away)
   told_other q u (inl here) h =
       subst (λ x. all_told x q (at now x) ≡ all_told x q (at kept x)) here
-      (ap (all_told p q) (appended-here kept p (entries_of o es)) ∙ fold-append (told_one p q) (Ok nothing_known) (at kept p) (entries_of o es)
-      ∙ others_pass p q o (all_told p q (at kept p)) es (another (eqb o q) (is_at p u) (ap (is_at p) (sym here) ∙ at_self p) h))
+      (ap (all_told p q) (appended-here kept p (entries_of o es)) ∙ fold-append (told_one p q) (Ok nothing_known)
+      (at kept p) (entries_of o es)
+      ∙ others_pass p q o (all_told p q (at kept p)) es
+      (another (eqb o q) (is_at p u) (ap (is_at p) (sym here) ∙ at_self p) h))
     where
       another : (x y : Bool) → y ≡ true → (x && y) ≡ false → x ≡ false
       another true y e h = absurd (cc)
       another false y e h = refl
 
-  stood_none : (q : ℕ) (u : Partition) (b : Option Row) → under rows n ≡ b → (eqb o q && is_at p u) ≡ false → standing is q u b ≡ None
+  stood_none : (q : ℕ) (u : Partition) (b : Option Row) → under rows n ≡ b → (eqb o q && is_at p u) ≡ false
+      → standing is q u b ≡ None
   stood_none q u None e h = refl
   stood_none q u (Some b) e h =
       let own : b.terms.owner ≡ o = ap (λ (x : Terms). x.owner) (w.terms b e) in
       standing-none is q u b i (was_at b e) (ap (λ x. eqb x q && is_at p u) own ∙ h)
 
-  standing_other : (q : ℕ) (u : Partition) (m : ℕ) → (m ≡ n) ⊎ (m ≡ n → ⊥) → (eqb o q && is_at p u) ≡ false → standing is q u (under rows m) ≡ standing is q u (under rows' m)
+  standing_other : (q : ℕ) (u : Partition) (m : ℕ) → (m ≡ n) ⊎ (m ≡ n → ⊥) → (eqb o q && is_at p u) ≡ false
+      → standing is q u (under rows m) ≡ standing is q u (under rows' m)
   standing_other q u m (inr ne) h = ap (standing is q u) (sym (w.apart m ne))
   standing_other q u m (inl e) h =
       subst (λ x. standing is q u (under rows x) ≡ standing is q u (under rows' x)) (sym e)
@@ -224,18 +241,21 @@ module _ (is : List Instrument) (n : ℕ) (c : Change) (rows : List Row) (r : Ro
   standing_own m (inl e) =
       subst (λ x. get (insert k n (standing_of p r)) x ≡ standing is o p (under rows' x)) (sym e)
       (put-here k n (Some (standing_of p r)) ∙ sym (ap (standing is o p) w.here ∙ standing-some is r i w.instrument))
-  standing_own m (inr ne) = put-apart k n (Some (standing_of p r)) m ne ∙ s.tallied o p m ∙ ap (standing is o p) (sym (w.apart m ne))
+  standing_own m (inr ne) = put-apart k n (Some (standing_of p r)) m ne ∙ s.tallied o p m ∙ ap (standing is o p)
+      (sym (w.apart m ne))
 
   -- at most one order more is known, and only where there is a row more
   room_here : (b : Option Row) → under rows n ≡ b → len (insert k n (standing_of p r)) ≤ length rows'
   room_here None e = by_test (contains_key k n) (len-insert nat_cmp_total k n (standing_of p r)) (s.room o p) (w.new e).1
     where
-      by_test : (b : Bool) → len (insert k n (standing_of p r)) ≡ cond b (len k) (len k + 1) → len k ≤ length rows → length rows' ≡ length rows + 1 → len (insert k n (standing_of p r)) ≤ length rows'
+      by_test : (b : Bool) → len (insert k n (standing_of p r)) ≡ cond b (len k) (len k + 1) → len k ≤ length rows
+          → length rows' ≡ length rows + 1 → len (insert k n (standing_of p r)) ≤ length rows'
       by_test true a l m = omega arith
       by_test false a l m = omega arith
   room_here (Some b) e =
       let there : get k n ≡ Some (standing_of p b) = known.stands ∙ ap (option_map (standing_of p)) e in
-      let same : len (insert k n (standing_of p r)) ≡ len k = len-insert nat_cmp_total k n (standing_of p r) ∙ cond-true _ _ _ (ap is_some there) in
+      let same : len (insert k n (standing_of p r))
+      ≡ len k = len-insert nat_cmp_total k n (standing_of p r) ∙ cond-true _ _ _ (ap is_some there) in
       let l = s.room o p in
       let m = w.longer in
       omega arith

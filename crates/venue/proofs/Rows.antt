@@ -77,33 +77,46 @@ keeps n (Replace a) b r o h =
     let f = figures b o in
     let e = replaceable a.quantity b q.0 in
     let w = f.whole e.0 in
-    as_is b (replaced a b) (orderly_from (replaced a b) (record { sum = omega (arith, e.1, w.0); limit = e.2; whole = λ x. w })) refl refl r q.1
+    as_is b (replaced a b) (orderly_from (replaced a b)
+    (record { sum = omega (arith, e.1, w.0); limit = e.2; whole = λ x. w })) refl refl r q.1
 keeps n (Withdraw e i) b r o h =
     let q = allowed (nat_lt 0 b.leaves) _ _ h in
     let f = figures b o in
-    as_is b (ended e b) (orderly_from (ended e b) (record { sum = omega (arith, f.sum); limit = f.limit; whole = λ x. absurd (let no : ⊥ = omega (arith, x) in no) })) refl refl r q.1
+    as_is b (ended e b) (orderly_from (ended e b)
+    (record {
+      sum = omega (arith, f.sum);
+      limit = f.limit;
+      whole = λ x. absurd
+          (let no : ⊥ = omega (arith, x) in no);
+    })) refl refl r q.1
 keeps n (Fill g) b r o h =
     let q = allowed (fillable g.quantity b) _ _ h in
     let f = figures b o in
     let p = and_parts (nat_lt 0 g.quantity) (nat_le g.quantity b.leaves) q.0 in
     let l = leb-true g.quantity b.leaves p.1 in
     let m = ltb-true 0 g.quantity p.0 in
-    as_is b (filled g.quantity b) (orderly_from (filled g.quantity b) (record { sum = omega (arith, f.sum, l); limit = f.limit; whole = λ x. f.whole (omega (arith, l, m)) })) refl refl r q.1
+    as_is b (filled g.quantity b) (orderly_from (filled g.quantity b)
+    (record { sum = omega (arith, f.sum, l); limit = f.limit; whole = λ x. f.whole (omega (arith, l, m)) })) refl refl
+    r q.1
 keeps n (Undo u) b r o h =
     let q = allowed (undoable u.quantity b) _ _ h in
     let f = figures b o in
     let p = and_parts (nat_lt 0 u.quantity) (nat_le u.quantity b.executed) q.0 in
     let l = leb-true u.quantity b.executed p.1 in
-    as_is b (undone u.quantity b) (orderly_from (undone u.quantity b) (record { sum = omega (arith, f.sum, l); limit = omega (arith, f.limit); whole = f.whole })) refl refl r q.1
+    as_is b (undone u.quantity b) (orderly_from (undone u.quantity b)
+    (record { sum = omega (arith, f.sum, l); limit = omega (arith, f.limit); whole = f.whole })) refl refl r q.1
 
 -- ---- a change of an order that is there
 
-kept_put : (rows : List Row) (n : ℕ) (b r : Row) → kept_from 1 rows ≡ true → under rows n ≡ Some b → r.number ≡ n → orderly r ≡ true → kept_from 1 (put_under rows n r) ≡ true
+kept_put : (rows : List Row) (n : ℕ) (b r : Row) → kept_from 1 rows ≡ true → under rows n ≡ Some b → r.number ≡ n
+    → orderly r ≡ true → kept_from 1 (put_under rows n r) ≡ true
 kept_put rows zero b r h e a o = none-some b e
 kept_put rows (suc n) b r h e a o = kept_set rows (set rows n r) n r h refl (omega arith) o
 
-pub rewrites_there : (is : List Instrument) (n : ℕ) (c : Change) (rows : List Row) (b r : Row) (i : Instrument) → kept_from 1 rows ≡ true → under rows n ≡ Some b → b.terms.instrument < length is
-    → after n c (Some b) ≡ Some r → slice_get is r.terms.instrument ≡ Some i → Rewrites is n c rows r i (put_under rows n r)
+pub rewrites_there : (is : List Instrument) (n : ℕ) (c : Change) (rows : List Row) (b r : Row) (i : Instrument)
+    → kept_from 1 rows ≡ true → under rows n ≡ Some b → b.terms.instrument < length is
+    → after n c (Some b) ≡ Some r → slice_get is r.terms.instrument ≡ Some i
+    → Rewrites is n c rows r i (put_under rows n r)
 rewrites_there is n c rows b r i k e inside h at_i =
     let was = kept_at rows n b k e in
     let w = keeps n c b r was.1 h in
@@ -121,8 +134,11 @@ rewrites_there is n c rows b r i k e inside h at_i =
 
 -- ---- a new order
 
-pub rewrites_new : (is : List Instrument) (rows : List Row) (t : Terms) (a : Ask) (i : Instrument) → kept_from 1 rows ≡ true → length rows < ORDERS → orderable a.quantity ≡ true → t.instrument < length is → slice_get is t.instrument ≡ Some i
-    → Rewrites is (length rows + 1) (Accept t a) rows (accepted (length rows + 1) t a) i (rows ++ accepted (length rows + 1) t a ∷ [])
+pub rewrites_new : (is : List Instrument) (rows : List Row) (t : Terms) (a : Ask) (i : Instrument) → kept_from 1 rows
+    ≡ true → length rows < ORDERS → orderable a.quantity ≡ true → t.instrument < length is → slice_get is t.instrument
+    ≡ Some i
+    → Rewrites is (length rows + 1) (Accept t a) rows (accepted (length rows + 1) t a) i
+    (rows ++ accepted (length rows + 1) t a ∷ [])
 rewrites_new is rows t a i k room q inside at_i =
     let n = length rows + 1 in
     let none : under rows (length rows + 1) ≡ None = past_none rows _ (omega arith) in
@@ -131,7 +147,8 @@ rewrites_new is rows t a i k room q inside at_i =
     record {
       here = push_here rows _ x refl;
       apart = λ m ne. push_apart rows m x ne;
-      numbered = kept_push rows _ x k refl refl (orderly_from x (record { sum = omega arith; limit = l; whole = λ y. (refl, refl) }));
+      numbered = kept_push rows _ x k refl refl
+          (orderly_from x (record { sum = omega arith; limit = l; whole = λ y. (refl, refl) }));
       made = ap (after (length rows + 1) (Accept t a)) none ∙ cond-true _ _ _ q;
       instrument = at_i;
       inside = inside;
@@ -141,14 +158,20 @@ rewrites_new is rows t a i k room q inside at_i =
     }
 
 -- the row and the reports that were written are those of the change
-pub change_told : (is : List Instrument) (t : Time) (n : ℕ) (c : Change) (l l' : Ledger) (b b' r : Row) (i : Instrument) (e : ExecutionReport) (f : Option ExecutionReport) → kept_from 1 l.rows ≡ true → Some b ≡ under l.rows n → b' ≡ b
-    → i ≡ get_or is b'.terms.instrument i → b'.terms.instrument < length is → after n c (Some b) ≡ Some r → e ≡ report_of (told_at i t) c r → f ≡ restated_of (told_at i t) c r
-    → l'.rows ≡ put_under l.rows r.number r → l'.kept ≡ appended l.kept i.partition (entries_of b'.terms.owner (and_also e f)) → l' ≡ changed is t n c l
+pub change_told : (is : List Instrument) (t : Time) (n : ℕ) (c : Change) (l l' : Ledger) (b b' r : Row)
+    (i : Instrument) (e : ExecutionReport) (f : Option ExecutionReport) → kept_from 1 l.rows ≡ true → Some b
+    ≡ under l.rows n → b' ≡ b
+    → i ≡ get_or is b'.terms.instrument i → b'.terms.instrument < length is → after n c (Some b) ≡ Some r → e
+    ≡ report_of (told_at i t) c r → f ≡ restated_of (told_at i t) c r
+    → l'.rows ≡ put_under l.rows r.number r → l'.kept
+    ≡ appended l.kept i.partition (entries_of b'.terms.owner (and_also e f)) → l' ≡ changed is t n c l
 change_told is t n c l l' b b' r i e f k at_n same at_i inside made told again rows kept =
     let was = kept_at l.rows n b k (sym at_n) in
     let w = keeps n c b r was.1 made in
     let terms : r.terms ≡ b'.terms = w.terms ∙ ap (λ (x : Row). x.terms) (sym same) in
-    let there : slice_get is r.terms.instrument ≡ Some i = ap (λ (x : Terms). slice_get is x.instrument) terms ∙ slice_get-get_or is b'.terms.instrument i inside ∙ ap Some (sym at_i) in
+    let there : slice_get is r.terms.instrument
+    ≡ Some i = ap (λ (x : Terms). slice_get is x.instrument) terms ∙ slice_get-get_or is b'.terms.instrument i inside ∙
+    ap Some (sym at_i) in
     let first : l'.rows ≡ put_under l.rows n r = rows ∙ ap (λ m. put_under l.rows m r) (w.number ∙ was.0) in
     let second : l'.kept ≡ told_in t c r (slice_get is r.terms.instrument) l.kept =
     kept ∙ ap (λ (x : Terms). appended l.kept i.partition (entries_of x.owner (and_also e f))) (sym terms)

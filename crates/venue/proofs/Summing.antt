@@ -50,7 +50,8 @@ pub record Backed (rows : List Row) (os : Orders) (n q : ℕ) : Type 0 where
   pub enough : q ≤ row.leaves
   pub held : get os n ≡ Some (held_as row)
 
-pub backed : (rows : List Row) (m : Meaning) (n q : ℕ) → Booked rows m → 1 ≤ q → q ≤ open_quantity m.orders n → Backed rows m.orders n q
+pub backed : (rows : List Row) (m : Meaning) (n q : ℕ) → Booked rows m → 1 ≤ q → q ≤ open_quantity m.orders n
+    → Backed rows m.orders n q
 backed rows m n q s some h = go (under rows n) refl
   where
     nothing : get m.orders n ≡ None → Backed rows m.orders n q
@@ -67,8 +68,11 @@ backed rows m n q s some h = go (under rows n) refl
     go None e = nothing (s n ∙ ap open_of e)
     go (Some r) e = test r (nat_lt 0 r.leaves) e refl
 
-fill_made : (n : ℕ) (f : Filled) (r : Row) → 1 ≤ f.quantity → f.quantity ≤ r.leaves → after n (Fill f) (Some r) ≡ Some (filled f.quantity r)
-fill_made n f r some enough = cond-true _ _ _ (and_from (nat_lt 0 f.quantity) (nat_le f.quantity r.leaves) (lt-ltb 0 f.quantity (omega arith)) (le-leb f.quantity r.leaves enough))
+fill_made : (n : ℕ) (f : Filled) (r : Row) → 1 ≤ f.quantity → f.quantity ≤ r.leaves → after n (Fill f) (Some r)
+    ≡ Some (filled f.quantity r)
+fill_made n f r some enough =
+    cond-true _ _ _ (and_from (nat_lt 0 f.quantity) (nat_le f.quantity r.leaves) (lt-ltb 0 f.quantity (omega arith))
+    (le-leb f.quantity r.leaves enough))
 
 less-left : (q l : ℕ) → nat_lt q l ≡ nat_lt 0 (l - q)
 less-left q l = go (cases_lt q l)
@@ -86,19 +90,24 @@ abbrev pub part_of : ℕ → ℕ → Option ℕ → ℕ
 part_of k q None = 0
 part_of k q (Some n) = cond (eqb n k) q 0
 
-module _ (is : List Instrument) (t : Time) (f : Filled) (l : Ledger) (m : Meaning) (s : Tied is l m) (some : 1 ≤ f.quantity) where
+module _ (is : List Instrument) (t : Time) (f : Filled) (l : Ledger) (m : Meaning) (s : Tied is l m)
+    (some : 1 ≤ f.quantity) where
   -- one side of a trade
-  pub side-tied : (side : Option ℕ) → SideOpen m.orders f.quantity side → Tied is (side_filled is t f side l) (taken m f.quantity side)
+  pub side-tied : (side : Option ℕ) → SideOpen m.orders f.quantity side
+      → Tied is (side_filled is t f side l) (taken m f.quantity side)
   side-tied None h = s
   side-tied (Some n) h =
       let b = backed l.rows m n f.quantity s.booked some h in
       let made = fill_made n f b.row some b.enough in
       let now : left f.quantity (get m.orders n) ≡ open_of (Some (filled f.quantity b.row)) =
-      ap (left f.quantity) b.held ∙ ap (λ x. cond x (Some (held_as (filled f.quantity b.row))) None) (less-left f.quantity b.row.leaves) in
+      ap (left f.quantity) b.held ∙ ap (λ x. cond x (Some (held_as (filled f.quantity b.row))) None)
+      (less-left f.quantity b.row.leaves) in
       record {
         recorded = recorded-changed is t n (Fill f) l b.row (filled f.quantity b.row) s.recorded b.was made;
-        booked = booked-changed l.rows _ m (taken m f.quantity (Some n)) n (filled f.quantity b.row) s.booked (changed-here is t n (Fill f) l b.row (filled f.quantity b.row) s.recorded b.was made)
-            (changed-apart is t n (Fill f) l b.row (filled f.quantity b.row) s.recorded b.was made) (ap (put m.orders n) now);
+        booked = booked-changed l.rows _ m (taken m f.quantity (Some n)) n (filled f.quantity b.row) s.booked
+            (changed-here is t n (Fill f) l b.row (filled f.quantity b.row) s.recorded b.was made)
+            (changed-apart is t n (Fill f) l b.row (filled f.quantity b.row) s.recorded b.was made)
+            (ap (put m.orders n) now);
       }
 
   pub side-allows : (side : Option ℕ) → SideOpen m.orders f.quantity side → SideAllows f side l.rows
@@ -108,26 +117,33 @@ module _ (is : List Instrument) (t : Time) (f : Filled) (l : Ledger) (m : Meanin
       ap (λ x. is_some (after n (Fill f) x)) b.was ∙ ap is_some (fill_made n f b.row some b.enough)
 
   -- a fill opens nothing
-  pub side-count : (side : Option ℕ) → SideOpen m.orders f.quantity side → open_count (side_filled is t f side l).rows ≤ open_count l.rows
+  pub side-count : (side : Option ℕ) → SideOpen m.orders f.quantity side
+      → open_count (side_filled is t f side l).rows ≤ open_count l.rows
   side-count None h = omega arith
   side-count (Some n) h =
       let b = backed l.rows m n f.quantity s.booked some h in
-      let c = changed-open is t n (Fill f) l b.row (filled f.quantity b.row) s.recorded b.was (fill_made n f b.row some b.enough) in
+      let c = changed-open is t n (Fill f) l b.row (filled f.quantity b.row) s.recorded b.was
+      (fill_made n f b.row some b.enough) in
       let y = one_open b.row b.some in
       let z = at_most_one (filled f.quantity b.row) in
       omega arith
 
-  pub side-executed : (side : Option ℕ) → SideOpen m.orders f.quantity side → (k : ℕ) → executed_of (under (side_filled is t f side l).rows k) ≡ executed_of (under l.rows k) + part_of k f.quantity side
+  pub side-executed : (side : Option ℕ) → SideOpen m.orders f.quantity side → (k : ℕ)
+      → executed_of (under (side_filled is t f side l).rows k)
+      ≡ executed_of (under l.rows k) + part_of k f.quantity side
   side-executed None h k = omega arith
   side-executed (Some n) h k =
       let b = backed l.rows m n f.quantity s.booked some h in
       let made = fill_made n f b.row some b.enough in
       side-at n b.row b.was made k (cases_eq k n)
     where
-      side-at : (n : ℕ) (r : Row) → under l.rows n ≡ Some r → after n (Fill f) (Some r) ≡ Some (filled f.quantity r) → (k : ℕ) → (k ≡ n) ⊎ (k ≡ n → ⊥)
-          → executed_of (under (changed is t n (Fill f) l).rows k) ≡ executed_of (under l.rows k) + cond (eqb n k) f.quantity 0
+      side-at : (n : ℕ) (r : Row) → under l.rows n ≡ Some r → after n (Fill f) (Some r) ≡ Some (filled f.quantity r)
+          → (k : ℕ) → (k ≡ n) ⊎ (k ≡ n → ⊥)
+          → executed_of (under (changed is t n (Fill f) l).rows k)
+          ≡ executed_of (under l.rows k) + cond (eqb n k) f.quantity 0
       side-at n r was made k (inl e) =
-          let now = ap (λ j. executed_of (under (changed is t n (Fill f) l).rows j)) e ∙ ap executed_of (changed-here is t n (Fill f) l r (filled f.quantity r) s.recorded was made) in
+          let now = ap (λ j. executed_of (under (changed is t n (Fill f) l).rows j)) e ∙ ap executed_of
+          (changed-here is t n (Fill f) l r (filled f.quantity r) s.recorded was made) in
           let before = ap (λ j. executed_of (under l.rows j)) e ∙ ap executed_of was in
           let here : cond (eqb n k) f.quantity 0 ≡ f.quantity = cond-true _ _ _ (eq-eqb n k (sym e)) in
           omega arith
@@ -140,7 +156,8 @@ filling-push : (ts : List Trade) (tr : Trade) → Filling ts → 0 < tr.quantity
 filling-push ts tr s some n x e = go (cases_eq n (length ts + 1))
   where
     go : (n ≡ length ts + 1) ⊎ (n ≡ length ts + 1 → ⊥) → 0 < x.quantity
-    go (inl q) = let same : tr ≡ x = let h = sym (push_here ts n tr q) ∙ e in cc in subst (λ (y : Trade). 0 < y.quantity) same some
+    go (inl q) = let same : tr ≡ x = let h = sym (push_here ts n tr q) ∙ e in cc in subst
+        (λ (y : Trade). 0 < y.quantity) same some
     go (inr ne) = s n x (sym (push_apart ts n tr ne) ∙ e)
 
 -- the parties of a trade have as much open, one after the other
@@ -159,12 +176,16 @@ second_open m q (Some p) (Some a) h =
     let l = h.1 in
     omega arith
 
-told_part : (is : List Instrument) (l : Ledger) (k q : ℕ) (side : Option ℕ) → side_of k q (side_told is side l) ≡ part_of k q side
+told_part : (is : List Instrument) (l : Ledger) (k q : ℕ) (side : Option ℕ) → side_of k q (side_told is side l)
+    ≡ part_of k q side
 told_part is l k q None = refl
 told_part is l k q (Some n) = refl
 
-pub sound-traded : (v w : View) (t : Time) (d : Deal) (p a : Option ℕ) → Sound v → Allowed v.market.orders (event.Trade p a d.quantity d.price) → open_count v.rows + 2 ≤ v.free → w.instruments ≡ v.instruments
-    → ledger_of w ≡ both_filled v.instruments t d p a (ledger_of v) → w.trades ≡ v.trades ++ trade_of v.instruments t d p a (ledger_of v) ∷ [] → w.market ≡ taken (taken v.market d.quantity p) d.quantity a
+pub sound-traded : (v w : View) (t : Time) (d : Deal) (p a : Option ℕ) → Sound v
+    → Allowed v.market.orders (event.Trade p a d.quantity d.price) → open_count v.rows + 2 ≤ v.free → w.instruments
+    ≡ v.instruments
+    → ledger_of w ≡ both_filled v.instruments t d p a (ledger_of v) → w.trades ≡ v.trades
+    ++ trade_of v.instruments t d p a (ledger_of v) ∷ [] → w.market ≡ taken (taken v.market d.quantity p) d.quantity a
     → v.free ≤ w.free + 2 → Sound w
 sound-traded v w t d p a s allowed spare instruments after trades market free =
     let is = v.instruments in
@@ -177,63 +198,88 @@ sound-traded v w t d p a s allowed spare instruments after trades market free =
     let second = second_open v.market d.quantity p a allowed.1 in
     let between = side-tied is t (filling d Added) (ledger_of v) v.market tied allowed.0 p first in
     let tr = trade_of is t d p a (ledger_of v) in
-    let done = side-tied is t (filling d Removed) (passive_filled is t d p (ledger_of v)) (taken v.market d.quantity p) between allowed.0 a second in
+    let done = side-tied is t (filling d Removed) (passive_filled is t d p (ledger_of v))
+    (taken v.market d.quantity p) between allowed.0 a second in
     let rows : w.rows ≡ (both_filled is t d p a (ledger_of v)).rows = ap (λ (x : Ledger). x.rows) after in
     let kept : w.kept ≡ (both_filled is t d p a (ledger_of v)).kept = ap (λ (x : Ledger). x.kept) after in
     let count = side-count is t (filling d Added) (ledger_of v) v.market tied allowed.0 p first in
-    let count' = side-count is t (filling d Removed) (passive_filled is t d p (ledger_of v)) (taken v.market d.quantity p) between allowed.0 a second in
+    let count' = side-count is t (filling d Removed) (passive_filled is t d p (ledger_of v))
+    (taken v.market d.quantity p) between allowed.0 a second in
     let rows_open = ap open_count rows in
     record {
       listed = subst (λ x. length x ≤ INSTRUMENTS) (sym instruments) s.listed;
-      recorded = subst (λ x. Recorded x w.rows w.kept) (sym instruments) (subst (λ x. Recorded is x w.kept) (sym rows) (subst (Recorded is (both_filled is t d p a (ledger_of v)).rows) (sym kept) done.recorded));
-      booked = subst (λ x. Booked x w.market) (sym rows) (subst (Booked (both_filled is t d p a (ledger_of v)).rows) (sym market) done.booked);
+      recorded = subst (λ x. Recorded x w.rows w.kept) (sym instruments)
+          (subst (λ x. Recorded is x w.kept) (sym rows)
+          (subst (Recorded is (both_filled is t d p a (ledger_of v)).rows) (sym kept) done.recorded));
+      booked = subst (λ x. Booked x w.market) (sym rows)
+          (subst (Booked (both_filled is t d p a (ledger_of v)).rows) (sym market) done.booked);
       spare = omega arith;
-      filling = subst Filling (sym trades) (filling-push v.trades (trade_of is t d p a (ledger_of v)) s.filling allowed.0);
+      filling = subst Filling (sym trades) (filling-push v.trades
+          (trade_of is t d p a (ledger_of v)) s.filling allowed.0);
       summed = λ k.
           let old = s.summed k in
           let pushed = ap (traded k) trades ∙ sum_by_push (share_of k) v.trades (trade_of is t d p a (ledger_of v)) in
           let x = told_part is (ledger_of v) k d.quantity p in
           let y = told_part is (passive_filled is t d p (ledger_of v)) k d.quantity a in
           let e = side-executed is t (filling d Added) (ledger_of v) v.market tied allowed.0 p first k in
-          let f = side-executed is t (filling d Removed) (passive_filled is t d p (ledger_of v)) (taken v.market d.quantity p) between allowed.0 a second k in
+          let f = side-executed is t (filling d Removed) (passive_filled is t d p (ledger_of v))
+          (taken v.market d.quantity p) between allowed.0 a second k in
           let r = ap (λ u. executed_of (under u k)) rows in
           omega arith;
     }
 
 -- what the steps of a trade require
-pub trade_first : (v : View) (d : Deal) (p a : Option ℕ) (t : Time) → Sound v → Allowed v.market.orders (event.Trade p a d.quantity d.price) → SideAllows (filling d Added) p v.rows
+pub trade_first : (v : View) (d : Deal) (p a : Option ℕ) (t : Time) → Sound v
+    → Allowed v.market.orders (event.Trade p a d.quantity d.price) → SideAllows (filling d Added) p v.rows
 trade_first v d p a t s allowed =
-    side-allows v.instruments t (filling d Added) (ledger_of v) v.market (record { recorded = s.recorded; booked = s.booked }) allowed.0 p (first_open v.market.orders d.quantity p a allowed.1)
+    side-allows v.instruments t (filling d Added) (ledger_of v) v.market
+    (record { recorded = s.recorded; booked = s.booked }) allowed.0 p
+    (first_open v.market.orders d.quantity p a allowed.1)
 
-pub trade_between : (v : View) (d : Deal) (p a : Option ℕ) (t : Time) → Sound v → Allowed v.market.orders (event.Trade p a d.quantity d.price) → Tied v.instruments (passive_filled v.instruments t d p (ledger_of v)) (taken v.market d.quantity p)
+pub trade_between : (v : View) (d : Deal) (p a : Option ℕ) (t : Time) → Sound v
+    → Allowed v.market.orders (event.Trade p a d.quantity d.price)
+    → Tied v.instruments (passive_filled v.instruments t d p (ledger_of v)) (taken v.market d.quantity p)
 trade_between v d p a t s allowed =
-    side-tied v.instruments t (filling d Added) (ledger_of v) v.market (record { recorded = s.recorded; booked = s.booked }) allowed.0 p (first_open v.market.orders d.quantity p a allowed.1)
+    side-tied v.instruments t (filling d Added) (ledger_of v) v.market
+    (record { recorded = s.recorded; booked = s.booked }) allowed.0 p
+    (first_open v.market.orders d.quantity p a allowed.1)
 
-pub trade_second : (v : View) (d : Deal) (p a : Option ℕ) (t : Time) → Sound v → Allowed v.market.orders (event.Trade p a d.quantity d.price) → SideAllows (filling d Removed) a (passive_filled v.instruments t d p (ledger_of v)).rows
+pub trade_second : (v : View) (d : Deal) (p a : Option ℕ) (t : Time) → Sound v
+    → Allowed v.market.orders (event.Trade p a d.quantity d.price)
+    → SideAllows (filling d Removed) a (passive_filled v.instruments t d p (ledger_of v)).rows
 trade_second v d p a t s allowed =
-    side-allows v.instruments t (filling d Removed) (passive_filled v.instruments t d p (ledger_of v)) (taken v.market d.quantity p) (trade_between v d p a t s allowed) allowed.0 a (second_open v.market d.quantity p a allowed.1)
+    side-allows v.instruments t (filling d Removed) (passive_filled v.instruments t d p (ledger_of v))
+    (taken v.market d.quantity p) (trade_between v d p a t s allowed) allowed.0 a
+    (second_open v.market d.quantity p a allowed.1)
 
-pub trade_noted : (ts ts' : List Trade) (tr : Trade) (out : Option ℕ) → length ts < TRADES → Notes ts tr out ts' → ts' ≡ ts ++ tr ∷ []
+pub trade_noted : (ts ts' : List Trade) (tr : Trade) (out : Option ℕ) → length ts < TRADES → Notes ts tr out ts' → ts'
+    ≡ ts ++ tr ∷ []
 trade_noted ts ts' tr None room h = absurd (let l = h.0 in let no : ⊥ = omega arith in no)
 trade_noted ts ts' tr (Some n) room h = h.2
 
 -- an order that ends in the matcher is open
-pub ends_open : (v : View) (n : ℕ) → Sound v → is_some (get v.market.orders n) ≡ true → is_some (open_of (under v.rows n)) ≡ true
+pub ends_open : (v : View) (n : ℕ) → Sound v → is_some (get v.market.orders n) ≡ true
+    → is_some (open_of (under v.rows n)) ≡ true
 ends_open v n s h = sym (ap is_some (s.booked n)) ∙ h
 
-pub expiry_told : (is : List Instrument) (t : Time) (n : ℕ) (l : Ledger) (r : Row) → under l.rows n ≡ Some r → ledger_expired is t n l ≡ changed is t n (Withdraw Expired r.client) l
+pub expiry_told : (is : List Instrument) (t : Time) (n : ℕ) (l : Ledger) (r : Row) → under l.rows n ≡ Some r
+    → ledger_expired is t n l ≡ changed is t n (Withdraw Expired r.client) l
 expiry_told is t n l r e = ap (λ x. expired_as is t n x l) e
 
-pub sound-expired : (v w : View) (t : Time) (n : ℕ) → Sound v → is_some (open_of (under v.rows n)) ≡ true → w.instruments ≡ v.instruments
-    → ledger_of w ≡ ledger_expired v.instruments t n (ledger_of v) → w.trades ≡ v.trades → w.market ≡ closed v.market n → v.free ≤ w.free + 1 → Sound w
+pub sound-expired : (v w : View) (t : Time) (n : ℕ) → Sound v → is_some (open_of (under v.rows n)) ≡ true
+    → w.instruments ≡ v.instruments
+    → ledger_of w ≡ ledger_expired v.instruments t n (ledger_of v) → w.trades ≡ v.trades → w.market ≡ closed v.market n
+    → v.free ≤ w.free + 1 → Sound w
 sound-expired v w t n s h instruments after trades market free =
     let (b, was, some) = open_row v.rows n h in
-    sound-withdrawn v w t n Expired b.client s h instruments (after ∙ expiry_told v.instruments t n (ledger_of v) b was) trades market free
+    sound-withdrawn v w t n Expired b.client s h instruments
+    (after ∙ expiry_told v.instruments t n (ledger_of v) b was) trades market free
 
 -- ---- a trade is cancelled
 
 -- another trade under a number
-traded-put : (k : ℕ) (ts : List Trade) (n : ℕ) (tr x : Trade) → under ts n ≡ Some tr → traded k (put_under ts n x) + share_of k tr ≡ traded k ts + share_of k x
+traded-put : (k : ℕ) (ts : List Trade) (n : ℕ) (tr x : Trade) → under ts n ≡ Some tr
+    → traded k (put_under ts n x) + share_of k tr ≡ traded k ts + share_of k x
 traded-put k ts zero tr x e = none-some tr e
 traded-put k [] (suc n) tr x e = none-some tr e
 traded-put k (y ∷ ts) (suc zero) tr x e =
@@ -248,25 +294,32 @@ traded-put k (y ∷ ts) (suc (suc n)) tr x e =
     let q = sum_by-cons (share_of k) y ts in
     omega arith
 
-share_stands : (k : ℕ) (tr : Trade) → tr.cancelled ≡ false → share_of k tr ≡ side_of k tr.quantity tr.passive + side_of k tr.quantity tr.aggressive
+share_stands : (k : ℕ) (tr : Trade) → tr.cancelled ≡ false → share_of k tr
+    ≡ side_of k tr.quantity tr.passive + side_of k tr.quantity tr.aggressive
 share_stands k tr e = cond-false _ _ _ e
 
 void_left : (k : ℕ) (ts : List Trade) (n : ℕ) (tr : Trade) → under ts n ≡ Some tr → tr.cancelled ≡ false
-    → traded k (put_under ts n (void tr)) + side_of k tr.quantity tr.passive + side_of k tr.quantity tr.aggressive ≡ traded k ts
+    → traded k (put_under ts n (void tr)) + side_of k tr.quantity tr.passive + side_of k tr.quantity tr.aggressive
+    ≡ traded k ts
 void_left k ts n tr e stands =
     let h = traded-put k ts n tr (void tr) e in
     let s = share_stands k tr stands in
     omega arith
 
-filling-put : (ts : List Trade) (n : ℕ) (tr x : Trade) → under ts n ≡ Some tr → Filling ts → 0 < x.quantity → Filling (put_under ts n x)
+filling-put : (ts : List Trade) (n : ℕ) (tr x : Trade) → under ts n ≡ Some tr → Filling ts → 0 < x.quantity
+    → Filling (put_under ts n x)
 filling-put ts n tr x e s some m y f = go (cases_eq m n)
   where
     go : (m ≡ n) ⊎ (m ≡ n → ⊥) → 0 < y.quantity
-    go (inl q) = let same : x ≡ y = let h = sym (put-row-here ts n tr x e) ∙ ap (under (put_under ts n x)) (sym q) ∙ f in cc in subst (λ (z : Trade). 0 < z.quantity) same some
+    go (inl q) = let same : x ≡ y = let h = sym (put-row-here ts n tr x e) ∙ ap (under (put_under ts n x))
+        (sym q) ∙ f in cc in subst (λ (z : Trade). 0 < z.quantity) same some
     go (inr ne) = s m y (sym (under-others ts n m x ne) ∙ f)
 
-undo_made : (n : ℕ) (u : Undone) (r : Row) → 1 ≤ u.quantity → u.quantity ≤ r.executed → after n (Undo u) (Some r) ≡ Some (undone u.quantity r)
-undo_made n u r some enough = cond-true _ _ _ (and_from (nat_lt 0 u.quantity) (nat_le u.quantity r.executed) (lt-ltb 0 u.quantity (omega arith)) (le-leb u.quantity r.executed enough))
+undo_made : (n : ℕ) (u : Undone) (r : Row) → 1 ≤ u.quantity → u.quantity ≤ r.executed → after n (Undo u) (Some r)
+    ≡ Some (undone u.quantity r)
+undo_made n u r some enough =
+    cond-true _ _ _ (and_from (nat_lt 0 u.quantity) (nat_le u.quantity r.executed) (lt-ltb 0 u.quantity (omega arith))
+    (le-leb u.quantity r.executed enough))
 
 -- an order that has so much executed
 pub record Executed (rows : List Row) (n q : ℕ) : Type 0 where
@@ -281,7 +334,8 @@ executed_row rows n q some h = go (under rows n) refl
     go None e = let z = ap executed_of e in absurd (let no : ⊥ = omega arith in no)
     go (Some r) e = let z = ap executed_of e in record { row = r; was = e; enough = omega arith }
 
-pub undo_allowed : (rows : List Row) (n : ℕ) (u : Undone) → 1 ≤ u.quantity → u.quantity ≤ executed_of (under rows n) → is_some (after n (Undo u) (under rows n)) ≡ true
+pub undo_allowed : (rows : List Row) (n : ℕ) (u : Undone) → 1 ≤ u.quantity → u.quantity ≤ executed_of (under rows n)
+    → is_some (after n (Undo u) (under rows n)) ≡ true
 undo_allowed rows n u some h =
     let b = executed_row rows n u.quantity some h in
     ap (λ x. is_some (after n (Undo u) x)) b.was ∙ ap is_some (undo_made n u b.row some b.enough)
@@ -290,58 +344,73 @@ pub executed_there : (rows : List Row) (n q : ℕ) → 1 ≤ q → q ≤ execute
 executed_there rows n q some h = let b = executed_row rows n q some h in ap is_some b.was
 
 module _ (is : List Instrument) (t : Time) (q : ℕ) (l : Ledger) (s : Recorded is l.rows l.kept) where
-  pub undone-recorded : (side : Option Side) → SideExecuted q side l.rows → Recorded is (side_undone is t q side l).rows (side_undone is t q side l).kept
+  pub undone-recorded : (side : Option Side) → SideExecuted q side l.rows
+      → Recorded is (side_undone is t q side l).rows (side_undone is t q side l).kept
   undone-recorded None h = s
   undone-recorded (Some f) h =
       let b = executed_row l.rows f.order q h.0 h.1 in
-      recorded-changed is t f.order (Undo (undoing is q f l)) l b.row (undone q b.row) s b.was (undo_made f.order (undoing is q f l) b.row h.0 b.enough)
+      recorded-changed is t f.order (Undo (undoing is q f l)) l b.row (undone q b.row) s b.was
+      (undo_made f.order (undoing is q f l) b.row h.0 b.enough)
 
   -- open stays as it is
-  undone-open : (side : Option Side) → SideExecuted q side l.rows → (k : ℕ) → open_of (under (side_undone is t q side l).rows k) ≡ open_of (under l.rows k)
+  undone-open : (side : Option Side) → SideExecuted q side l.rows → (k : ℕ)
+      → open_of (under (side_undone is t q side l).rows k) ≡ open_of (under l.rows k)
   undone-open None h k = refl
   undone-open (Some f) h k =
       let b = executed_row l.rows f.order q h.0 h.1 in
       at b.row b.was (undo_made f.order (undoing is q f l) b.row h.0 b.enough) (cases_eq k f.order)
     where
-      at : (r : Row) → under l.rows f.order ≡ Some r → after f.order (Undo (undoing is q f l)) (Some r) ≡ Some (undone q r) → (k ≡ f.order) ⊎ (k ≡ f.order → ⊥)
+      at : (r : Row) → under l.rows f.order ≡ Some r → after f.order (Undo (undoing is q f l)) (Some r)
+          ≡ Some (undone q r) → (k ≡ f.order) ⊎ (k ≡ f.order → ⊥)
           → open_of (under (changed is t f.order (Undo (undoing is q f l)) l).rows k) ≡ open_of (under l.rows k)
       at r was made (inl e) =
           ap (λ j. open_of (under (changed is t f.order (Undo (undoing is q f l)) l).rows j)) e
-          ∙ ap open_of (changed-here is t f.order (Undo (undoing is q f l)) l r (undone q r) s was made) ∙ sym (ap (λ j. open_of (under l.rows j)) e ∙ ap open_of was)
-      at r was made (inr ne) = ap open_of (changed-apart is t f.order (Undo (undoing is q f l)) l r (undone q r) s was made k ne)
+          ∙ ap open_of (changed-here is t f.order (Undo (undoing is q f l)) l r (undone q r) s was made) ∙ sym
+          (ap (λ j. open_of (under l.rows j)) e ∙ ap open_of was)
+      at r was made (inr ne) =
+          ap open_of (changed-apart is t f.order (Undo (undoing is q f l)) l r (undone q r) s was made k ne)
 
-  undone-count : (side : Option Side) → SideExecuted q side l.rows → open_count (side_undone is t q side l).rows ≡ open_count l.rows
+  undone-count : (side : Option Side) → SideExecuted q side l.rows → open_count (side_undone is t q side l).rows
+      ≡ open_count l.rows
   undone-count None h = refl
   undone-count (Some f) h =
       let b = executed_row l.rows f.order q h.0 h.1 in
-      let c = changed-open is t f.order (Undo (undoing is q f l)) l b.row (undone q b.row) s b.was (undo_made f.order (undoing is q f l) b.row h.0 b.enough) in
+      let c = changed-open is t f.order (Undo (undoing is q f l)) l b.row (undone q b.row) s b.was
+      (undo_made f.order (undoing is q f l) b.row h.0 b.enough) in
       let same : one_of (undone q b.row) ≡ one_of b.row = refl in
       omega arith
 
-  pub undone-executed : (side : Option Side) → SideExecuted q side l.rows → (k : ℕ) → executed_of (under (side_undone is t q side l).rows k) + side_of k q side ≡ executed_of (under l.rows k)
+  pub undone-executed : (side : Option Side) → SideExecuted q side l.rows → (k : ℕ)
+      → executed_of (under (side_undone is t q side l).rows k) + side_of k q side ≡ executed_of (under l.rows k)
   undone-executed None h k = omega arith
   undone-executed (Some f) h k =
       let b = executed_row l.rows f.order q h.0 h.1 in
       at b.row b.was b.enough (undo_made f.order (undoing is q f l) b.row h.0 b.enough) (cases_eq k f.order)
     where
-      at : (r : Row) → under l.rows f.order ≡ Some r → q ≤ r.executed → after f.order (Undo (undoing is q f l)) (Some r) ≡ Some (undone q r) → (k ≡ f.order) ⊎ (k ≡ f.order → ⊥)
-          → executed_of (under (changed is t f.order (Undo (undoing is q f l)) l).rows k) + cond (eqb f.order k) q 0 ≡ executed_of (under l.rows k)
+      at : (r : Row) → under l.rows f.order ≡ Some r → q ≤ r.executed
+          → after f.order (Undo (undoing is q f l)) (Some r) ≡ Some (undone q r) → (k ≡ f.order) ⊎ (k ≡ f.order → ⊥)
+          → executed_of (under (changed is t f.order (Undo (undoing is q f l)) l).rows k) + cond (eqb f.order k) q 0
+          ≡ executed_of (under l.rows k)
       at r was enough made (inl e) =
-          let now = ap (λ j. executed_of (under (changed is t f.order (Undo (undoing is q f l)) l).rows j)) e ∙ ap executed_of (changed-here is t f.order (Undo (undoing is q f l)) l r (undone q r) s was made) in
+          let now = ap (λ j. executed_of (under (changed is t f.order (Undo (undoing is q f l)) l).rows j)) e ∙ ap
+          executed_of (changed-here is t f.order (Undo (undoing is q f l)) l r (undone q r) s was made) in
           let before = ap (λ j. executed_of (under l.rows j)) e ∙ ap executed_of was in
           let here : cond (eqb f.order k) q 0 ≡ q = cond-true _ _ _ (eq-eqb f.order k (sym e)) in
           omega arith
       at r was enough made (inr ne) =
-          let now = ap executed_of (changed-apart is t f.order (Undo (undoing is q f l)) l r (undone q r) s was made k ne) in
+          let now = ap executed_of (changed-apart is t f.order (Undo (undoing is q f l)) l r
+          (undone q r) s was made k ne) in
           let away : cond (eqb f.order k) q 0 ≡ 0 = cond-false _ _ _ (ne_eqb f.order k (λ e. ne (sym e))) in
           omega arith
 
 -- the sides of a trade that stands have as much executed, one after the other
-module _ (v : View) (t : Time) (n : ℕ) (tr : Trade) (s : Sound v) (was : under v.trades n ≡ Some tr) (stands : tr.cancelled ≡ false) where
+module _ (v : View) (t : Time) (n : ℕ) (tr : Trade) (s : Sound v) (was : under v.trades n ≡ Some tr)
+    (stands : tr.cancelled ≡ false) where
   some_shares : 1 ≤ tr.quantity
   some_shares = let h = s.filling n tr was in omega arith
 
-  sides_executed : (k : ℕ) → side_of k tr.quantity tr.passive + side_of k tr.quantity tr.aggressive ≤ executed_of (under v.rows k)
+  sides_executed : (k : ℕ) → side_of k tr.quantity tr.passive + side_of k tr.quantity tr.aggressive ≤ executed_of
+      (under v.rows k)
   sides_executed k = let h = void_left k v.trades n tr was stands in let e = s.summed k in omega arith
 
   side_self : (f : Side) → side_of f.order tr.quantity (Some f) ≡ tr.quantity
@@ -357,10 +426,12 @@ module _ (v : View) (t : Time) (n : ℕ) (tr : Trade) (s : Sound v) (was : under
   pub undo_first : SideExecuted tr.quantity tr.passive v.rows
   undo_first = passive_at tr.passive refl
 
-  pub undo_between : Recorded v.instruments (passive_undone v.instruments t tr (ledger_of v)).rows (passive_undone v.instruments t tr (ledger_of v)).kept
+  pub undo_between : Recorded v.instruments (passive_undone v.instruments t tr (ledger_of v)).rows
+      (passive_undone v.instruments t tr (ledger_of v)).kept
   undo_between = undone-recorded v.instruments t tr.quantity (ledger_of v) s.recorded tr.passive undo_first
 
-  aggressive_at : (side : Option Side) → tr.aggressive ≡ side → SideExecuted tr.quantity side (passive_undone v.instruments t tr (ledger_of v)).rows
+  aggressive_at : (side : Option Side) → tr.aggressive ≡ side
+      → SideExecuted tr.quantity side (passive_undone v.instruments t tr (ledger_of v)).rows
   aggressive_at None e = tt
   aggressive_at (Some f) e =
       let h = sides_executed f.order in
@@ -371,7 +442,8 @@ module _ (v : View) (t : Time) (n : ℕ) (tr : Trade) (s : Sound v) (was : under
   pub undo_second : SideExecuted tr.quantity tr.aggressive (passive_undone v.instruments t tr (ledger_of v)).rows
   undo_second = aggressive_at tr.aggressive refl
 
-  pub sound-undone : (w : View) → open_count v.rows + 4 ≤ v.free → w.instruments ≡ v.instruments → ledger_of w ≡ both_undone v.instruments t tr (ledger_of v)
+  pub sound-undone : (w : View) → open_count v.rows + 4 ≤ v.free → w.instruments ≡ v.instruments → ledger_of w
+      ≡ both_undone v.instruments t tr (ledger_of v)
       → w.trades ≡ put_under v.trades n (void tr) → w.market ≡ v.market → v.free ≤ w.free + 4 → Sound w
   sound-undone w spare instruments after trades market free =
       let is = v.instruments in
@@ -379,20 +451,27 @@ module _ (v : View) (t : Time) (n : ℕ) (tr : Trade) (s : Sound v) (was : under
       let kept : w.kept ≡ (both_undone is t tr (ledger_of v)).kept = ap (λ (x : Ledger). x.kept) after in
       let rows_open = ap open_count rows in
       let count = undone-count is t tr.quantity (ledger_of v) s.recorded tr.passive undo_first in
-      let count' = undone-count is t tr.quantity (passive_undone is t tr (ledger_of v)) undo_between tr.aggressive undo_second in
+      let count' = undone-count is t tr.quantity
+      (passive_undone is t tr (ledger_of v)) undo_between tr.aggressive undo_second in
       record {
         listed = subst (λ x. length x ≤ INSTRUMENTS) (sym instruments) s.listed;
-        recorded = subst (λ x. Recorded x w.rows w.kept) (sym instruments) (subst (λ x. Recorded is x w.kept) (sym rows) (subst (Recorded is (both_undone is t tr (ledger_of v)).rows) (sym kept)
-            (undone-recorded is t tr.quantity (passive_undone is t tr (ledger_of v)) undo_between tr.aggressive undo_second)));
+        recorded = subst (λ x. Recorded x w.rows w.kept) (sym instruments)
+            (subst (λ x. Recorded is x w.kept) (sym rows)
+            (subst (Recorded is (both_undone is t tr (ledger_of v)).rows) (sym kept)
+            (undone-recorded is t tr.quantity
+            (passive_undone is t tr (ledger_of v)) undo_between tr.aggressive undo_second)));
         booked = λ k. ap (λ (m : Meaning). get m.orders k) market ∙ s.booked k
-            ∙ sym (ap (λ x. open_of (under x k)) rows ∙ undone-open is t tr.quantity (passive_undone is t tr (ledger_of v)) undo_between tr.aggressive undo_second k ∙ undone-open is t tr.quantity (ledger_of v) s.recorded tr.passive undo_first k);
+            ∙ sym (ap (λ x. open_of (under x k)) rows ∙ undone-open is t tr.quantity
+            (passive_undone is t tr (ledger_of v)) undo_between tr.aggressive undo_second k ∙ undone-open is t
+            tr.quantity (ledger_of v) s.recorded tr.passive undo_first k);
         spare = omega arith;
         filling = subst Filling (sym trades) (filling-put v.trades n tr (void tr) was s.filling (s.filling n tr was));
         summed = λ k.
             let old = s.summed k in
             let left = void_left k v.trades n tr was stands in
             let e = undone-executed is t tr.quantity (ledger_of v) s.recorded tr.passive undo_first k in
-            let f = undone-executed is t tr.quantity (passive_undone is t tr (ledger_of v)) undo_between tr.aggressive undo_second k in
+            let f = undone-executed is t tr.quantity
+            (passive_undone is t tr (ledger_of v)) undo_between tr.aggressive undo_second k in
             let r = ap (λ u. executed_of (under u k)) rows in
             let x = ap (traded k) trades in
             omega arith;
@@ -405,10 +484,16 @@ stands_from tr h = go tr.cancelled h
     go true e = absurd (cc)
     go false e = refl
 
-pub side_changed : (is : List Instrument) (t : Time) (l l' : Ledger) (q p : ℕ) (s : Side) (b b' : Row) (i : Instrument) → Some b ≡ under l.rows s.order → b' ≡ b → i ≡ get_or is b'.terms.instrument i → b'.terms.instrument < length is
-    → p ≡ partition_code i.partition → l' ≡ changed is t s.order (Undo (record { quantity = q; report = record { partition = p; sequence = s.report } })) l → l' ≡ side_undone is t q (Some s) l
+pub side_changed : (is : List Instrument) (t : Time) (l l' : Ledger) (q p : ℕ) (s : Side) (b b' : Row) (i : Instrument)
+    → Some b ≡ under l.rows s.order → b' ≡ b → i ≡ get_or is b'.terms.instrument i → b'.terms.instrument < length is
+    → p ≡ partition_code i.partition → l' ≡ changed is t s.order
+    (Undo (record { quantity = q; report = record { partition = p; sequence = s.report } })) l → l'
+    ≡ side_undone is t q (Some s) l
 side_changed is t l l' q p s b b' i at_n same at_i inside code after =
-    let there : slice_get is b'.terms.instrument ≡ Some i = slice_get-get_or is b'.terms.instrument i inside ∙ ap Some (sym at_i) in
+    let there : slice_get is b'.terms.instrument
+    ≡ Some i = slice_get-get_or is b'.terms.instrument i inside ∙ ap Some (sym at_i) in
     let found : partition_of is (under l.rows s.order) ≡ partition_code i.partition =
-    ap (partition_of is) (sym at_n) ∙ ap (λ (x : Row). partition_in (slice_get is x.terms.instrument)) (sym same) ∙ ap partition_in there in
-    after ∙ ap (λ x. changed is t s.order (Undo (record { quantity = q; report = record { partition = x; sequence = s.report } })) l) (code ∙ sym found)
+    ap (partition_of is) (sym at_n) ∙ ap (λ (x : Row). partition_in (slice_get is x.terms.instrument))
+    (sym same) ∙ ap partition_in there in
+    after ∙ ap (λ x. changed is t s.order (Undo
+    (record { quantity = q; report = record { partition = x; sequence = s.report } })) l) (code ∙ sym found)

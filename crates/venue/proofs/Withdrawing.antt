@@ -24,17 +24,22 @@ use Rattle.venue.proofs.Keeps.{one_open, one_done, changed-open}
 use Rattle.venue.proofs.Summing.{expiry_told}
 
 -- an end leaves one order less open
-withdrawn_count : (v : View) (t : Time) (n : ℕ) (e : Ending) (i : FixedText 20) (r : Row) → Sound v → under v.rows n ≡ Some r → 0 < r.leaves
+withdrawn_count : (v : View) (t : Time) (n : ℕ) (e : Ending) (i : FixedText 20) (r : Row) → Sound v → under v.rows n
+    ≡ Some r → 0 < r.leaves
     → open_count (changed v.instruments t n (Withdraw e i) (ledger_of v)).rows + 1 ≡ open_count v.rows
 withdrawn_count v t n e i r s was some =
-    let c = changed-open v.instruments t n (Withdraw e i) (ledger_of v) r (ended e r) s.recorded was (cond-true _ _ _ (lt-ltb 0 r.leaves some)) in
+    let c = changed-open v.instruments t n (Withdraw e i) (ledger_of v) r (ended e r) s.recorded was
+    (cond-true _ _ _ (lt-ltb 0 r.leaves some)) in
     let y = one_open r some in
     let z = one_done (ended e r) refl in
     omega arith
 
-ended-count : (c : Cause) (t : Time) (n : ℕ) (v : View) (r : Row) → Sound v → under v.rows n ≡ Some r → 0 < r.leaves → open_count (withdrawn_for c t n v).rows + 1 ≡ open_count v.rows
+ended-count : (c : Cause) (t : Time) (n : ℕ) (v : View) (r : Row) → Sound v → under v.rows n ≡ Some r → 0 < r.leaves
+    → open_count (withdrawn_for c t n v).rows + 1 ≡ open_count v.rows
 ended-count (Request i) t n v r s was some = withdrawn_count v t n Cancelled i r s was some
-ended-count LineLost t n v r s was some = ap (λ (x : Ledger). open_count x.rows + 1) (expiry_told v.instruments t n (ledger_of v) r was) ∙ withdrawn_count v t n Expired r.client r s was some
+ended-count LineLost t n v r s was some =
+    ap (λ (x : Ledger). open_count x.rows + 1)
+    (expiry_told v.instruments t n (ledger_of v) r was) ∙ withdrawn_count v t n Expired r.client r s was some
 
 free_stays : (c : Cause) (t : Time) (n : ℕ) (v : View) → (withdrawn_for c t n v).free ≡ v.free
 free_stays (Request i) t n v = refl
@@ -44,7 +49,8 @@ pub picked_open : (is : List Instrument) (s : Selection) (r : Row) → picks is 
 picked_open is s r h = ltb-true 0 r.leaves (and_parts (nat_lt 0 r.leaves) _ h).0
 
 -- one order of which p is true
-pub withdraws_one : (p : Row → Bool) (c : Cause) (t : Time) (n : ℕ) (v w : View) (r : Row) → Sound v → under v.rows n ≡ Some r
+pub withdraws_one : (p : Row → Bool) (c : Cause) (t : Time) (n : ℕ) (v w : View) (r : Row) → Sound v → under v.rows n
+    ≡ Some r
     → p r ≡ true → 0 < r.leaves → Leaves 1 (withdrawn_for c t n v) w → Withdraws v (withdrawn_if p c t n v) w
 withdraws_one p c t n v w r k was meant some l =
     let is : withdrawn_if p c t n v ≡ withdrawn_for c t n v = cond-true _ _ _ (ap (picks_at p) was ∙ meant) in
@@ -67,7 +73,8 @@ if_apart true LineLost t n u f e = refl
 if_apart false c t n u f e = refl
 
 -- one order more
-pub withdraws_more : (p : Row → Bool) (c : Cause) (t : Time) (i : ℕ) (v x y : View) → Withdraws v (withdrawn_to p c t i v) x
+pub withdraws_more : (p : Row → Bool) (c : Cause) (t : Time) (i : ℕ) (v x y : View)
+    → Withdraws v (withdrawn_to p c t i v) x
     → Withdraws x (withdrawn_if p c t (suc i) x) y → Withdraws v (withdrawn_to p c t (suc i) v) y
 withdraws_more p c t i v x y before one =
     let u = withdrawn_to p c t i v in
@@ -79,28 +86,36 @@ withdraws_more p c t i v x y before one =
       state = one.state
           ∙ ap (λ (z : View). record (withdrawn_if p c t (suc i) z) { free = y.free; next = y.next }) before.state
           ∙ ap (λ (z : View). record z { free = y.free; next = y.next })
-          (if_apart (picks_at p (under (withdrawn_to p c t i v).rows (suc i))) c t (suc i) (withdrawn_to p c t i v) x.free x.next);
+          (if_apart (picks_at p (under (withdrawn_to p c t i v).rows (suc i))) c t (suc i)
+          (withdrawn_to p c t i v) x.free x.next);
       fell = omega arith;
       places = omega arith;
     }
 
 -- nor does a withdrawal change the instruments
-instruments_stay : (b : Bool) (c : Cause) (t : Time) (n : ℕ) (v : View) → (cond b (withdrawn_for c t n v) v).instruments ≡ v.instruments
+instruments_stay : (b : Bool) (c : Cause) (t : Time) (n : ℕ) (v : View)
+    → (cond b (withdrawn_for c t n v) v).instruments ≡ v.instruments
 instruments_stay true (Request i) t n v = refl
 instruments_stay true LineLost t n v = refl
 instruments_stay false c t n v = refl
 
-pub same_instruments : (p : Row → Bool) (c : Cause) (t : Time) (n : ℕ) (v : View) → (withdrawn_to p c t n v).instruments ≡ v.instruments
+pub same_instruments : (p : Row → Bool) (c : Cause) (t : Time) (n : ℕ) (v : View)
+    → (withdrawn_to p c t n v).instruments ≡ v.instruments
 same_instruments p c t zero v = refl
 same_instruments p c t (suc n) v =
-    instruments_stay (picks_at p (under (withdrawn_to p c t n v).rows (suc n))) c t (suc n) (withdrawn_to p c t n v) ∙ same_instruments p c t n v
+    instruments_stay (picks_at p (under (withdrawn_to p c t n v).rows (suc n))) c t (suc n)
+    (withdrawn_to p c t n v) ∙ same_instruments p c t n v
 
 -- one order more of a selection, whose instruments stay the same
-pub selected_more : (q : List Instrument → Row → Bool) (c : Cause) (t : Time) (i : ℕ) (v x y : View) → Withdraws v (withdrawn_to (q v.instruments) c t i v) x
-    → Withdraws x (withdrawn_if (q x.instruments) c t (suc i) x) y → Withdraws v (withdrawn_to (q v.instruments) c t (suc i) v) y
+pub selected_more : (q : List Instrument → Row → Bool) (c : Cause) (t : Time) (i : ℕ) (v x y : View)
+    → Withdraws v (withdrawn_to (q v.instruments) c t i v) x
+    → Withdraws x (withdrawn_if (q x.instruments) c t (suc i) x) y
+    → Withdraws v (withdrawn_to (q v.instruments) c t (suc i) v) y
 selected_more q c t i v x y before one =
-    let same : x.instruments ≡ v.instruments = ap (λ (z : View). z.instruments) before.state ∙ same_instruments (q v.instruments) c t i v in
-    withdraws_more (q v.instruments) c t i v x y before (subst (λ is. Withdraws x (withdrawn_if (q is) c t (suc i) x) y) same one)
+    let same : x.instruments ≡ v.instruments = ap (λ (z : View). z.instruments) before.state ∙ same_instruments
+    (q v.instruments) c t i v in
+    withdraws_more (q v.instruments) c t i v x y before
+    (subst (λ is. Withdraws x (withdrawn_if (q is) c t (suc i) x) y) same one)
 
 -- withdrawals do not hang on the free places, nor on what the matcher does next, and leave both
 to_apart : (p : Row → Bool) (c : Cause) (t : Time) (n : ℕ) (u : View) (f : ℕ) (e : Event)
@@ -121,7 +136,8 @@ if_free false c t n v = refl
 to_free : (p : Row → Bool) (c : Cause) (t : Time) (n : ℕ) (v : View) → (withdrawn_to p c t n v).free ≡ v.free
 to_free p c t zero v = refl
 to_free p c t (suc n) v =
-    if_free (picks_at p (under (withdrawn_to p c t n v).rows (suc n))) c t (suc n) (withdrawn_to p c t n v) ∙ to_free p c t n v
+    if_free (picks_at p (under (withdrawn_to p c t n v).rows (suc n))) c t (suc n)
+    (withdrawn_to p c t n v) ∙ to_free p c t n v
 
 pub withdrawn_free : (p : Row → Bool) (c : Cause) (t : Time) (v : View) → (withdrawn_all p c t v).free ≡ v.free
 withdrawn_free p c t v = to_free p c t (length v.rows) v

@@ -61,7 +61,8 @@ none_null : (a : Bool) (o : Option ℕ) → cond a true (is_some o) ≡ true →
 none_null true o h e = refl
 none_null false o h e = let k = ap is_some e in cc
 
-order_by : (s : List ℕ) (o : Option ℕ) → number_of 79 s ≡ o → cond (all_null s) true (is_some (number_of 79 s)) ≡ true → length s ≡ 12 → order_bytes o ≡ s
+order_by : (s : List ℕ) (o : Option ℕ) → number_of 79 s ≡ o → cond (all_null s) true (is_some (number_of 79 s)) ≡ true
+    → length s ≡ 12 → order_bytes o ≡ s
 order_by s (Some n) e h l = sym (unique 79 n s e)
 order_by s None e h l = sym (null_is s (none_null (all_null s) (number_of 79 s) h e) ∙ ap (λ k. replicate k 0) l)
 
@@ -79,9 +80,12 @@ halves s l b =
     let t : take 4 (drop 4 s) ≡ drop 4 s = take_all 4 (drop 4 s) (omega arith) in
     let p = wide_as 4 (take 4 s) (length-take-le 4 s h) (bytes_take 4 s b) in
     let q = wide_as 4 (drop 4 s) n (bytes_drop 4 s b) in
-    ap (λ x. x ++ to_le 4 (le (take 4 (drop 4 s)))) p ∙ ap (λ x. take 4 s ++ x) (ap (λ y. to_le 4 (le y)) t ∙ q) ∙ take-append-drop 4 s
+    ap (λ x. x ++ to_le 4 (le (take 4 (drop 4 s)))) p ∙ ap (λ x. take 4 s ++ x)
+    (ap (λ y. to_le 4 (le y)) t ∙ q) ∙ take-append-drop 4 s
 
-form_write : (f : Form) (s : List ℕ) → ok_form f s ≡ true → length s ≡ wide f → Bytes s → cond (absent (content f s)) (replicate (wide f) 0) (bytes_of f (content f s)) ≡ cond (reserved f) (replicate (wide f) 0) s
+form_write : (f : Form) (s : List ℕ) → ok_form f s ≡ true → length s ≡ wide f → Bytes s
+    → cond (absent (content f s)) (replicate (wide f) 0) (bytes_of f (content f s))
+    ≡ cond (reserved f) (replicate (wide f) 0) s
 form_write (Text w) s h l b = text_write w s h l
 form_write (Name w) s h l b = text_write w s (both_true (is_text s) (named s) h).0 l
 form_write Order s h l b = order_write s h l
@@ -96,22 +100,28 @@ form_write (Code cs) s h l b = wide_as 1 s l b
 form_write Alpha s h l b = wide_as 1 s l b
 form_write (Reserved w) s h l b = refl
 
-write_by : (m : Bool) (f : Form) (v : Content) (s : List ℕ) → cond m (ok_form f s) true ≡ true → v ≡ cond m (content f s) nothing → length s ≡ wide f → Bytes s
-    → cond (absent v) (replicate (wide f) 0) (bytes_of f v) ≡ cond m (cond (reserved f) (replicate (wide f) 0) s) (replicate (wide f) 0)
+write_by : (m : Bool) (f : Form) (v : Content) (s : List ℕ) → cond m (ok_form f s) true ≡ true → v
+    ≡ cond m (content f s) nothing → length s ≡ wide f → Bytes s
+    → cond (absent v) (replicate (wide f) 0) (bytes_of f v)
+    ≡ cond m (cond (reserved f) (replicate (wide f) 0) s) (replicate (wide f) 0)
 write_by true f v s h e l b = rw e (form_write f s h l b)
 write_by false f v s h e l b = rw e
 
-write_one : (f : Field) (v : Content) (bs : List ℕ) → Bytes bs → place f + width f ≤ length bs → ok bs f ≡ true → v ≡ got bs f
-    → field_bytes f v ≡ cond (matters bs f) (cond (reserved (form_of f)) (replicate (width f) 0) (part (place f) (width f) bs)) (replicate (width f) 0)
+write_one : (f : Field) (v : Content) (bs : List ℕ) → Bytes bs → place f + width f ≤ length bs → ok bs f ≡ true → v
+    ≡ got bs f
+    → field_bytes f v ≡ cond (matters bs f) (cond (reserved (form_of f)) (replicate (width f) 0)
+    (part (place f) (width f) bs)) (replicate (width f) 0)
 unfolding field_bytes
 write_one f v bs b l h e =
-    write_by (matters bs f) (form_of f) v (part (place f) (width f) bs) h e (part_long (place f) (width f) bs l) (bytes_take (width f) (drop (place f) bs) (bytes_drop (place f) bs b))
+    write_by (matters bs f) (form_of f) v (part (place f) (width f) bs) h e (part_long (place f) (width f) bs l)
+    (bytes_take (width f) (drop (place f) bs) (bytes_drop (place f) bs b))
 
 ends : (f : Field) → place f + width f ≤ span f
 ends (Always at f) = omega arith
 ends (When at f other cs) = le-max_left (at + wide f) (other + 1)
 
-pub write_all : (fs : List Field) (vs : List Content) (bs : List ℕ) (n : ℕ) → Bytes bs → n ≤ length bs → within n fs ≡ true → AllOk fs bs → Says vs fs bs → encode fs vs ≡ blanked fs bs
+pub write_all : (fs : List Field) (vs : List Content) (bs : List ℕ) (n : ℕ) → Bytes bs → n ≤ length bs → within n fs
+    ≡ true → AllOk fs bs → Says vs fs bs → encode fs vs ≡ blanked fs bs
 unfolding encode blanked
 write_all [] [] bs n b l t o s = refl
 write_all [] (v ∷ vs) bs n b l t o s = absurd s

@@ -56,7 +56,8 @@ small_lists list.RejectedOnly = refl
 small_lists list.TradeOnly = refl
 small_lists list.TradeOrCancel = refl
 
-member_by : (b : Bool) (n v : ℕ) (vs : List ℕ) → eqb n v ≡ b → cond b true (member n vs) ≡ true → v < 256 → (member n vs ≡ true → n < 256) → n < 256
+member_by : (b : Bool) (n v : ℕ) (vs : List ℕ) → eqb n v ≡ b → cond b true (member n vs) ≡ true → v < 256
+    → (member n vs ≡ true → n < 256) → n < 256
 member_by true n v vs e h l k = let q = eqb-true n v e in omega arith
 member_by false n v vs e h l k = k h
 
@@ -80,19 +81,35 @@ unfolding is_order order_at
 order_read None h = (refl, refl)
 order_read (Some n) h = let r = (returns_of 79 n h).0 in (ap is_some r, r)
 
-pub form_read : (f : Form) (v : Content) → HoldsForm f v → (ok_form f (bytes_of f v) ≡ true) × (v ≡ content f (bytes_of f v))
+pub form_read : (f : Form) (v : Content) → HoldsForm f v → (ok_form f (bytes_of f v) ≡ true)
+    × (v ≡ content f (bytes_of f v))
 form_read (Text w) v h = (is_text-padded w (words_of v) h.2, h.0 ∙ ap words (sym (said-padded w (words_of v) h.2)))
-form_read (Name w) v h =
-    (rw (is_text-padded w (words_of v) h.2, named-padded w (words_of v) h.2 h.3), h.0 ∙ ap words (sym (said-padded w (words_of v) h.2)))
+form_read (Name w) v h = (
+  rw (is_text-padded w (words_of v) h.2, named-padded w (words_of v) h.2 h.3),
+  h.0 ∙ ap words
+      (sym (said-padded w (words_of v) h.2)),
+)
 form_read Order v h = let r = order_read (order_of v) h.1 in (r.0, h.0 ∙ ap order (sym r.1))
 form_read UInt32 v h = (refl, h.0 ∙ ap figure (sym (le-to_le 4 (figure_of v) h.1)))
 form_read UInt64 v h = (refl, h.0 ∙ ap figure (sym (le-to_le 8 (figure_of v) h.1)))
 form_read Sequence v h =
     let e = le-to_le 4 (figure_of v) (omega arith) in
     (rw e (lt-ltb (figure_of v) SEQUENCE_LIMIT h.1), h.0 ∙ ap figure (sym e))
-form_read Int8 v h = (refl, h.0 ∙ ap int8 (sym (ap (to_z w8) (le-to_le 1 (of_z w8 (int8_of v)) (of_z_below w8 (int8_of v) h.1)) ∙ to_z-of_z w8 (int8_of v) h.1)))
-form_read Int32 v h = (refl, h.0 ∙ ap int32 (sym (ap (to_z w32) (le-to_le 4 (of_z w32 (int32_of v)) (of_z_below w32 (int32_of v) h.1)) ∙ to_z-of_z w32 (int32_of v) h.1)))
-form_read Price v h = (refl, h.0 ∙ ap price (sym (ap (to_z w64) (le-to_le 8 (of_z w64 (price_of v)) (of_z_below w64 (price_of v) h.1)) ∙ to_z-of_z w64 (price_of v) h.1)))
+form_read Int8 v h = (
+  refl,
+  h.0 ∙ ap int8 (sym (ap (to_z w8) (le-to_le 1 (of_z w8 (int8_of v)) (of_z_below w8 (int8_of v) h.1)) ∙
+      to_z-of_z w8 (int8_of v) h.1)),
+)
+form_read Int32 v h = (
+  refl,
+  h.0 ∙ ap int32 (sym (ap (to_z w32)
+      (le-to_le 4 (of_z w32 (int32_of v)) (of_z_below w32 (int32_of v) h.1)) ∙ to_z-of_z w32 (int32_of v) h.1)),
+)
+form_read Price v h = (
+  refl,
+  h.0 ∙ ap price (sym (ap (to_z w64)
+      (le-to_le 8 (of_z w64 (price_of v)) (of_z_below w64 (price_of v) h.1)) ∙ to_z-of_z w64 (price_of v) h.1)),
+)
 form_read Time v h =
     let s = le-to_le 4 (seconds_of v) h.1 in
     let u = le-to_le 4 (micros_of v) h.2 in
@@ -107,10 +124,12 @@ form_read (Reserved w) v h = (refl, h)
 shown : (v w : Content) → v ≡ w → absent w ≡ false → absent v ≡ false
 shown v w e h = ap absent e ∙ h
 
-there : (f : Form) (v : Content) (a : Bool) → absent v ≡ a → a ≡ false → cond a (replicate (wide f) 0) (bytes_of f v) ≡ bytes_of f v
+there : (f : Form) (v : Content) (a : Bool) → absent v ≡ a → a ≡ false → cond a (replicate (wide f) 0) (bytes_of f v)
+    ≡ bytes_of f v
 there f v a e h = rw h
 
-pub form_bytes : (f : Form) (v : Content) → HoldsForm f v → cond (absent v) (replicate (wide f) 0) (bytes_of f v) ≡ bytes_of f v
+pub form_bytes : (f : Form) (v : Content) → HoldsForm f v → cond (absent v) (replicate (wide f) 0) (bytes_of f v)
+    ≡ bytes_of f v
 form_bytes (Text w) v h = there (Text w) v (absent v) refl (shown v (words (words_of v)) h.0 refl)
 form_bytes (Name w) v h = there (Name w) v (absent v) refl (shown v (words (words_of v)) h.0 refl)
 form_bytes Order v h = there Order v (absent v) refl (shown v (order (order_of v)) h.0 refl)

@@ -20,7 +20,8 @@ kept_on : (p : Bool) (r : Result Kind Fault) (x : Fault) (k : Kind) → cond p r
 kept_on true r x k e = (refl, e)
 kept_on false r x k e = cc
 
-sized_by : (bs : List ℕ) (o : Option Kind) (k : Kind) → sized bs o ≡ Ok k → (o ≡ Some k) × (stated bs ≡ total_of k) × (stated bs ≡ length bs)
+sized_by : (bs : List ℕ) (o : Option Kind) (k : Kind) → sized bs o ≡ Ok k → (o ≡ Some k) × (stated bs ≡ total_of k)
+    × (stated bs ≡ length bs)
 sized_by bs None k e = cc
 sized_by bs (Some j) k e =
     let a = kept_on (eqb (stated bs) (total_of j) && eqb (stated bs) (length bs)) (Ok j) Length k e in

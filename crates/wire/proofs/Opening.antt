@@ -11,17 +11,20 @@ use Rattle.wire.specs.Kinds.{letter_of, total_of, takes}
 use Rattle.wire.specs.Messages.{stated, opening}
 use Rattle.wire.proofs.Sound.{sound}
 
-passes : (ch : Channel) (k : Kind) (bs : List ℕ) → 4 ≤ length bs → stated bs ≡ total_of k → length bs ≡ total_of k → le (part 0 1 bs) ≡ 2 → takes ch (le (part 3 1 bs)) ≡ Some k → opening ch bs ≡ Ok k
+passes : (ch : Channel) (k : Kind) (bs : List ℕ) → 4 ≤ length bs → stated bs ≡ total_of k → length bs ≡ total_of k
+    → le (part 0 1 bs) ≡ 2 → takes ch (le (part 3 1 bs)) ≡ Some k → opening ch bs ≡ Ok k
 unfolding opening
 passes ch k bs h s l z t =
     let a = false_from_ne_true (ltb (length bs) 4) (λ x. (let y = ltb-true (length bs) 4 x in omega arith)) in
-    let b = false_from_ne_true (ltb (length bs) (stated bs)) (λ x. (let y = ltb-true (length bs) (stated bs) x in omega arith)) in
+    let b = false_from_ne_true (ltb (length bs) (stated bs))
+    (λ x. (let y = ltb-true (length bs) (stated bs) x in omega arith)) in
     let e : eqb (stated bs) (total_of k) ≡ true = eq-eqb (stated bs) (total_of k) s in
     let f : eqb (stated bs) (length bs) ≡ true = eq-eqb (stated bs) (length bs) (s ∙ sym l) in
     let g : eqb (le (part 0 1 bs)) 2 ≡ true = eq-eqb (le (part 0 1 bs)) 2 z in
     rw (a, b, g, t, e, f)
 
-pub opened : (ch : Channel) (k : Kind) (xs : List ℕ) → 4 + length xs ≡ total_of k → takes ch (letter_of k) ≡ Some k → opening ch (header (letter_of k) (total_of k) ++ xs) ≡ Ok k
+pub opened : (ch : Channel) (k : Kind) (xs : List ℕ) → 4 + length xs ≡ total_of k → takes ch (letter_of k) ≡ Some k
+    → opening ch (header (letter_of k) (total_of k) ++ xs) ≡ Ok k
 opened ch k xs l d =
     let n = total_of k - 3 in
     let h : total_of k < 65539 = ltb-true (total_of k) 65539 (sound k).long in

@@ -17,7 +17,8 @@ use Rattle.wire.proofs.Trips.{trip, says_same}
 
 -- the bytes of a message are read again as it was
 read_again : (ch : Channel) (m : Message) → Holdable m → takes ch (letter_of (kind_of m)) ≡ Some (kind_of m)
-    → (opening ch (written m) ≡ Ok (kind_of m)) × (verdict ch (written m) ≡ None) × Says (contents_of m) (table_of (kind_of m)) (written m)
+    → (opening ch (written m) ≡ Ok (kind_of m)) × (verdict ch (written m) ≡ None)
+    × Says (contents_of m) (table_of (kind_of m)) (written m)
 read_again ch m h d =
     let k = kind_of m in
     let q = header (letter_of k) (total_of k) in
@@ -28,7 +29,8 @@ read_again ch m h d =
 ok_same : (r : Result Kind Fault) (j k : Kind) → r ≡ Ok j → r ≡ Ok k → j ≡ k
 ok_same r j k p q = cc
 
-says_alike : (m n : Message) (bs : List ℕ) → kind_of n ≡ kind_of m → Says (contents_of n) (table_of (kind_of n)) bs → Says (contents_of m) (table_of (kind_of m)) bs → contents_of n ≡ contents_of m
+says_alike : (m n : Message) (bs : List ℕ) → kind_of n ≡ kind_of m → Says (contents_of n) (table_of (kind_of n)) bs
+    → Says (contents_of m) (table_of (kind_of m)) bs → contents_of n ≡ contents_of m
 says_alike m n bs k a b =
     let P : Kind → Type 0 = λ j. Says (contents_of n) (table_of j) bs in
     says_same (table_of (kind_of m)) (contents_of n) (contents_of m) bs (subst P k a) b

@@ -17,7 +17,8 @@ use Rattle.wire.specs.declared.kinds.Kind.{Kind}
 use Rattle.wire.specs.declared.message.Message.{Message}
 
 -- a header that passes is written as it stood
-four : (letter total : ℕ) (bs : List ℕ) → 4 ≤ length bs → Bytes bs → le (part 0 1 bs) ≡ 2 → stated bs ≡ total → letter ≡ le (part 3 1 bs) → header letter total ≡ take 4 bs
+four : (letter total : ℕ) (bs : List ℕ) → 4 ≤ length bs → Bytes bs → le (part 0 1 bs) ≡ 2 → stated bs ≡ total → letter
+    ≡ le (part 3 1 bs) → header letter total ≡ take 4 bs
 four letter total [] h b s t l = absurd (omega arith)
 four letter total (b₀ ∷ []) h b s t l = absurd (omega arith)
 four letter total (b₀ ∷ b₁ ∷ []) h b s t l = absurd (omega arith)
@@ -29,7 +30,8 @@ four letter total (b₀ ∷ b₁ ∷ b₂ ∷ b₃ ∷ bs) h b s t l =
     let w : letter ≡ b₃ = omega (arith, l) in
     ap (λ x. 2 ∷ x ++ (letter ∷ [])) q ∙ rw (z, w)
 
-pub front : (ch : Channel) (k : Kind) (bs : List ℕ) → Bytes bs → opening ch bs ≡ Ok k → (header (letter_of k) (total_of k) ≡ take 4 bs) × (length bs ≡ total_of k)
+pub front : (ch : Channel) (k : Kind) (bs : List ℕ) → Bytes bs → opening ch bs ≡ Ok k
+    → (header (letter_of k) (total_of k) ≡ take 4 bs) × (length bs ≡ total_of k)
 front ch k bs b e =
     let o = opened_by ch k bs e in
     let h = leb-true 4 (total_of k) (sound k).short in
@@ -39,16 +41,19 @@ no_fault : (o : Option ℕ) → option_map (λ at. fault.Field at) o ≡ None �
 no_fault None e = cc
 no_fault (Some n) e = cc
 
-written_again : (ch : Channel) (bs : List ℕ) (m : Message) → ((i : ℕ) → Fits w8 (get_or bs i 0)) → Reads ch bs m → Again bs m
+written_again : (ch : Channel) (bs : List ℕ) (m : Message) → ((i : ℕ) → Fits w8 (get_or bs i 0)) → Reads ch bs m
+    → Again bs m
 written_again ch bs m t r =
     let b = bytes_from bs t in
     let k = kind_of m in
     let g = no_fault (first_bad (table_of k) bs) (rw r.opens at r.passes) in
     let f = front ch k bs b r.opens in
     let l : total_of k ≤ length bs = omega (arith, f.1) in
-    let e = write_all (table_of k) (contents_of m) bs (total_of k) b l (sound k).spans (all_ok (table_of k) bs g) r.says in
+    let e = write_all (table_of k) (contents_of m) bs (total_of k) b l (sound k).spans
+    (all_ok (table_of k) bs g) r.says in
     ap (λ x. x ++ encode (table_of k) (contents_of m)) f.0 ∙ ap (λ x. take 4 bs ++ x) e
 
-pub again : (ch : Channel) (bs : List ℕ) (r : Result Message Fault) → ((i : ℕ) → Fits w8 (get_or bs i 0)) → WasRead ch bs r → IfOk r (λ m. Again bs m)
+pub again : (ch : Channel) (bs : List ℕ) (r : Result Message Fault) → ((i : ℕ) → Fits w8 (get_or bs i 0))
+    → WasRead ch bs r → IfOk r (λ m. Again bs m)
 again ch bs (Ok m) t h = written_again ch bs m t h
 again ch bs (Err e) t h = tt

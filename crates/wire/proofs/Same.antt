@@ -62,11 +62,16 @@ same (message.Heartbeat x) n k e = cc
 same (message.MissedMessageRequest x) (message.MissedMessageRequest y) k e =
     let f : ℤ → MissedMessageRequest = λ p. record { partition = p; last = x.last } in
     let g : LastSequence → MissedMessageRequest = λ l. record { partition = y.partition; last = l } in
-    ap message.MissedMessageRequest (ap f (ap (λ vs. int8_of (nth 0 vs)) e) ∙ ap g (last_same x.last y.last (figure_at 1 e)))
+    ap message.MissedMessageRequest (ap f (ap (λ vs. int8_of (nth 0 vs)) e) ∙ ap g
+    (last_same x.last y.last (figure_at 1 e)))
 same (message.MissedMessageRequest x) n k e = cc
-same (message.MissedMessageRequestAck x) (message.MissedMessageRequestAck y) k e = ap (λ r. message.MissedMessageRequestAck (record { response = r })) (ack_response_one x.response y.response (figure_at 0 e))
+same (message.MissedMessageRequestAck x) (message.MissedMessageRequestAck y) k e =
+    ap (λ r. message.MissedMessageRequestAck (record { response = r }))
+    (ack_response_one x.response y.response (figure_at 0 e))
 same (message.MissedMessageRequestAck x) n k e = cc
-same (message.MissedMessageReport x) (message.MissedMessageReport y) k e = ap (λ r. message.MissedMessageReport (record { response = r })) (report_response_one x.response y.response (figure_at 0 e))
+same (message.MissedMessageReport x) (message.MissedMessageReport y) k e =
+    ap (λ r. message.MissedMessageReport (record { response = r }))
+    (report_response_one x.response y.response (figure_at 0 e))
 same (message.MissedMessageReport x) n k e = cc
 same (message.Reject x) (message.Reject y) k e =
     let code_is : x.code ≡ y.code = ap (λ vs. int32_of (nth 0 vs)) e in

@@ -18,7 +18,8 @@ named t = find (λ k. eqb (letter_of k) t) (REAL_TIME ++ (RECOVERY ++ FOLLOWER))
 -- some reader that takes the kind
 abbrev pub reader_of : Kind → Channel
 reader_of k =
-    cond (is_some (takes RealTime (letter_of k))) RealTime (cond (is_some (takes Recovery (letter_of k))) Recovery Follower)
+    cond (is_some (takes RealTime (letter_of k))) RealTime
+    (cond (is_some (takes Recovery (letter_of k))) Recovery Follower)
 
 pub record IsSound (k : Kind) : Type 0 where
   pub tiles : tiled 4 (total_of k) (table_of k) ≡ true
@@ -31,7 +32,8 @@ pub record IsSound (k : Kind) : Type 0 where
 
 -- each kind is tried
 pub sound : (k : Kind) → IsSound k
-sound kind.Logon = record { tiles = refl; spans = refl; looks = refl; short = refl; long = refl; found = refl; taken = refl }
+sound kind.Logon =
+    record { tiles = refl; spans = refl; looks = refl; short = refl; long = refl; found = refl; taken = refl }
 sound _ = record { tiles = refl; spans = refl; looks = refl; short = refl; long = refl; found = refl; taken = refl }
 
 pub kinds_same : (j k : Kind) → letter_of j ≡ letter_of k → j ≡ k

@@ -5,7 +5,8 @@ use Rattle.wire.specs.declared.kinds.Channel.{Channel}
 use Rattle.wire.specs.declared.kinds.Kind.{Kind}
 use Rattle.wire.specs.Kinds.{letter_of, kinds_of, takes}
 
-found_by : (t : ℕ) (x k : Kind) (r : Option Kind) (b : Bool) → eqb (letter_of x) t ≡ b → (r ≡ Some k → letter_of k ≡ t) → cond b (Some x) r ≡ Some k → letter_of k ≡ t
+found_by : (t : ℕ) (x k : Kind) (r : Option Kind) (b : Bool) → eqb (letter_of x) t ≡ b → (r ≡ Some k → letter_of k ≡ t)
+    → cond b (Some x) r ≡ Some k → letter_of k ≡ t
 found_by t x k r true q f e = let d : x ≡ k = cc in ap letter_of (sym d) ∙ eqb-true (letter_of x) t q
 found_by t x k r false q f e = f e
 

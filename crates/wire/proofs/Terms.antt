@@ -41,10 +41,13 @@ use Rattle.wire.specs.Plain.{plain_text, plain_name, plain_scope}
 abbrev text_of : (N : ℕ) (f : List ℕ) → length f ≡ N → is_text f ≡ true → Text N
 text_of N f w t = record { field = record { ref_ptr = (0, 0); now = f }; offset = 0; wide = w; text = t }
 
-text_of_same : (N : ℕ) (f g : List ℕ) → f ≡ g → (w : length f ≡ N) (t : is_text f ≡ true) (w' : length g ≡ N) (t' : is_text g ≡ true) → text_of N f w t ≡ text_of N g w' t'
+text_of_same : (N : ℕ) (f g : List ℕ) → f ≡ g
+    → (w : length f ≡ N) (t : is_text f ≡ true) (w' : length g ≡ N) (t' : is_text g ≡ true) → text_of N f w t
+    ≡ text_of N g w' t'
 text_of_same N f g e w t w' t' =
     let P : List ℕ → Type 0 = λ h. (v : length h ≡ N) (u : is_text h ≡ true) → text_of N f w t ≡ text_of N h v u in
-    subst P e (λ v u. ap (λ x. text_of N f x t) (ℕ_set (length f) N w v) ∙ ap (λ x. text_of N f v x) (Bool-set (is_text f) true t u)) w' t'
+    subst P e (λ v u. ap (λ x. text_of N f x t) (ℕ_set (length f) N w v) ∙ ap (λ x. text_of N f v x)
+    (Bool-set (is_text f) true t u)) w' t'
 
 field_of : {N : ℕ} (t : Text N) → padded N (says t) ≡ t.field.now
 field_of t = ap (λ n. padded n (says t)) (sym t.wide) ∙ padded-said t.field.now t.text
@@ -57,9 +60,11 @@ pub name_same : {N : ℕ} (x y : Name N) → says x.text ≡ says y.text → pla
 name_same {N} x y e =
     let p = text_same x.text y.text e in
     let P : Text N → Type 0 = λ t. (g : named t.field.now ≡ true) → plain_name x ≡ record { text = t; given = g } in
-    subst P p (λ g. ap (λ h. record { text = plain_text x.text; given = h }) (Bool-set (named x.text.field.now) true x.given g)) y.given
+    subst P p (λ g. ap (λ h. record { text = plain_text x.text; given = h })
+    (Bool-set (named x.text.field.now) true x.given g)) y.given
 
-pub order_same : (x y : Option OrderId) → order (option_map (λ i. i.number) x) ≡ order (option_map (λ i. i.number) y) → x ≡ y
+pub order_same : (x y : Option OrderId) → order (option_map (λ i. i.number) x) ≡ order (option_map (λ i. i.number) y)
+    → x ≡ y
 order_same None None e = refl
 order_same None (Some y) e = cc
 order_same (Some x) None e = cc
@@ -76,19 +81,23 @@ price_same x y e = ap (λ v. record { raw = price_of v }) e
 pub time_same : (x y : Time) → clock x.seconds x.microseconds ≡ clock y.seconds y.microseconds → x ≡ y
 time_same x y e = ap (λ v. record { seconds = seconds_of v; microseconds = micros_of v }) e
 
-pub pricing_same : (x y : Pricing) → order_type_code (order_type_of x) ≡ order_type_code (order_type_of y) → pricing_price x ≡ pricing_price y → x ≡ y
+pub pricing_same : (x y : Pricing) → order_type_code (order_type_of x) ≡ order_type_code (order_type_of y)
+    → pricing_price x ≡ pricing_price y → x ≡ y
 pricing_same pricing.Market pricing.Market c p = refl
 pricing_same pricing.Market y c p = absurd (omega arith)
-pricing_same (pricing.Limit a) (pricing.Limit b) c p = let e : a.raw ≡ b.raw = cc in ap (λ r. pricing.Limit (record { raw = r })) e
+pricing_same (pricing.Limit a) (pricing.Limit b) c p =
+    let e : a.raw ≡ b.raw = cc in ap (λ r. pricing.Limit (record { raw = r })) e
 pricing_same (pricing.Limit a) y c p = absurd (omega arith)
 
-pub target_same : (x y : Target) → book_code (book_of x) ≡ book_code (book_of y) → target_instruction x ≡ target_instruction y → x ≡ y
+pub target_same : (x y : Target) → book_code (book_of x) ≡ book_code (book_of y) → target_instruction x
+    ≡ target_instruction y → x ≡ y
 target_same (target.DarkMidpoint i) (target.DarkMidpoint j) c e = ap target.DarkMidpoint (exec_instruction_one i j (cc))
 target_same (target.DarkMidpoint i) y c e = absurd (omega arith)
 target_same target.Integrated target.Integrated c e = refl
 target_same target.Integrated y c e = absurd (omega arith)
 
-pub execution_same : (x y : Execution) → exec_type_code (kind_of x) ≡ exec_type_code (kind_of y) → execution_reject x ≡ execution_reject y
+pub execution_same : (x y : Execution) → exec_type_code (kind_of x) ≡ exec_type_code (kind_of y) → execution_reject x
+    ≡ execution_reject y
     → execution_liquidity x ≡ execution_liquidity y → execution_trade x ≡ execution_trade y → x ≡ y
 execution_same execution.Unspecified execution.Unspecified c r l t = refl
 execution_same execution.Unspecified y c r l t = absurd (omega arith)
@@ -107,12 +116,15 @@ execution_same execution.Restated y c r l t = absurd (omega arith)
 execution_same (execution.Trade a s) (execution.Trade b u) c r l t =
     let p = liquidity_one a b (cc) in let q = trade_type_one s u (cc) in cc
 execution_same (execution.Trade a s) y c r l t = absurd (omega arith)
-execution_same (execution.TradeCancel a) (execution.TradeCancel b) c r l t = ap execution.TradeCancel (liquidity_one a b (cc))
+execution_same (execution.TradeCancel a) (execution.TradeCancel b) c r l t =
+    ap execution.TradeCancel (liquidity_one a b (cc))
 execution_same (execution.TradeCancel a) y c r l t = absurd (omega arith)
 
-pub scope_same : (x y : Scope) → mass_cancel_type_code (scope_kind x) ≡ mass_cancel_type_code (scope_kind y) → scope_symbol x ≡ scope_symbol y
+pub scope_same : (x y : Scope) → mass_cancel_type_code (scope_kind x) ≡ mass_cancel_type_code (scope_kind y)
+    → scope_symbol x ≡ scope_symbol y
     → scope_segment x ≡ scope_segment y → scope_book x ≡ scope_book y → plain_scope x ≡ plain_scope y
-scope_same (scope.FirmInstrument s a) (scope.FirmInstrument u b) c e g f = let p = text_same s u (cc) in let q = book_one a b (cc) in cc
+scope_same (scope.FirmInstrument s a) (scope.FirmInstrument u b) c e g f =
+    let p = text_same s u (cc) in let q = book_one a b (cc) in cc
 scope_same (scope.FirmInstrument s a) y c e g f = absurd (omega arith)
 scope_same (scope.FirmSegment s) (scope.FirmSegment u) c e g f = ap scope.FirmSegment (text_same s u (cc))
 scope_same (scope.FirmSegment s) y c e g f = absurd (omega arith)
@@ -120,7 +132,8 @@ scope_same scope.CompId scope.CompId c e g f = refl
 scope_same scope.CompId y c e g f = absurd (omega arith)
 scope_same scope.Firm scope.Firm c e g f = refl
 scope_same scope.Firm y c e g f = absurd (omega arith)
-scope_same (scope.CompIdInstrument s a) (scope.CompIdInstrument u b) c e g f = let p = text_same s u (cc) in let q = book_one a b (cc) in cc
+scope_same (scope.CompIdInstrument s a) (scope.CompIdInstrument u b) c e g f =
+    let p = text_same s u (cc) in let q = book_one a b (cc) in cc
 scope_same (scope.CompIdInstrument s a) y c e g f = absurd (omega arith)
 scope_same (scope.CompIdSegment s) (scope.CompIdSegment u) c e g f = ap scope.CompIdSegment (text_same s u (cc))
 scope_same (scope.CompIdSegment s) y c e g f = absurd (omega arith)

@@ -57,13 +57,18 @@ code_read at (Always here Alpha) v bs c h e = cc
 code_read at (Always here (Reserved w)) v bs c h e = cc
 code_read at (When here f other cs) v bs c h e = cc
 
-look_by : (b : Bool) (at : ℕ → ℕ) (f : Field) (v : Content) (bs : List ℕ) (n m : ℕ) (c : Bool) → eqb (place f) n ≡ b → cond b (is_code f) c ≡ true → Holds at f v
-    → part (place f) (width f) bs ≡ field_bytes f v → (c ≡ true → le (part n 1 bs) ≡ m) → le (part n 1 bs) ≡ cond b (figure_of v) m
-look_by true at f v bs n m c q s h e k = ap (λ j. le (part j 1 bs)) (sym (eqb-true (place f) n q)) ∙ code_read at f v bs s h e
+look_by : (b : Bool) (at : ℕ → ℕ) (f : Field) (v : Content) (bs : List ℕ) (n m : ℕ) (c : Bool) → eqb (place f) n ≡ b
+    → cond b (is_code f) c ≡ true → Holds at f v
+    → part (place f) (width f) bs ≡ field_bytes f v → (c ≡ true → le (part n 1 bs) ≡ m) → le (part n 1 bs)
+    ≡ cond b (figure_of v) m
+look_by true at f v bs n m c q s h e k =
+    ap (λ j. le (part j 1 bs)) (sym (eqb-true (place f) n q)) ∙ code_read at f v bs s h e
 look_by false at f v bs n m c q s h e k = k s
 
 -- the number that a listed field holds is the byte at its place
-look : (at : ℕ → ℕ) (fs : List Field) (vs : List Content) (bs p r : List ℕ) (n end o : ℕ) → bs ≡ p ++ (encode fs vs ++ r) → length p ≡ n → tiled n end fs ≡ true → HoldsAll at fs vs → code_at fs o ≡ true → le (part o 1 bs) ≡ figure_at fs vs o
+look : (at : ℕ → ℕ) (fs : List Field) (vs : List Content) (bs p r : List ℕ) (n end o : ℕ) → bs ≡ p
+    ++ (encode fs vs ++ r) → length p ≡ n → tiled n end fs ≡ true → HoldsAll at fs vs → code_at fs o ≡ true
+    → le (part o 1 bs) ≡ figure_at fs vs o
 unfolding encode
 look at [] vs bs p r n end o e l t h c = cc
 look at (f ∷ fs) [] bs p r n end o e l t h c = absurd h
@@ -74,17 +79,21 @@ look at (f ∷ fs) (v ∷ vs) bs p r n end o e l t h c =
     let e' : bs ≡ p ++ (field_bytes f v ++ (encode fs vs ++ r)) = e ∙ simp append_assoc in
     let e'' : bs ≡ (p ++ field_bytes f v) ++ (encode fs vs ++ r) = e ∙ simp append_assoc in
     let l' : length (p ++ field_bytes f v) ≡ n + width f = rw (length-append p (field_bytes f v), k, l) in
-    let m : part (place f) (width f) bs ≡ field_bytes f v = rw e' (part_mid p (field_bytes f v) (encode fs vs ++ r) (place f) (width f) (l ∙ sym a) k) in
-    look_by (eqb (place f) o) at f v bs o (figure_at fs vs o) (code_at fs o) refl c h.0 m (look at fs vs bs (p ++ field_bytes f v) r (n + width f) end o e'' l' q.1 h.1)
+    let m : part (place f) (width f) bs ≡ field_bytes f v = rw e'
+    (part_mid p (field_bytes f v) (encode fs vs ++ r) (place f) (width f) (l ∙ sym a) k) in
+    look_by (eqb (place f) o) at f v bs o (figure_at fs vs o) (code_at fs o) refl c h.0 m
+    (look at fs vs bs (p ++ field_bytes f v) r (n + width f) end o e'' l' q.1 h.1)
 
-seen : (whole : List Field) (at : ℕ → ℕ) (fs : List Field) (bs : List ℕ) → ((o : ℕ) → code_at whole o ≡ true → le (part o 1 bs) ≡ at o) → looked whole fs ≡ true → Seen at fs bs
+seen : (whole : List Field) (at : ℕ → ℕ) (fs : List Field) (bs : List ℕ)
+    → ((o : ℕ) → code_at whole o ≡ true → le (part o 1 bs) ≡ at o) → looked whole fs ≡ true → Seen at fs bs
 seen whole at [] bs k s = tt
 seen whole at (Always here f ∷ fs) bs k s = seen whole at fs bs k s
 seen whole at (When here f other cs ∷ fs) bs k s =
     let q = both_true (code_at whole other) (looked whole fs) s in (k other q.0, seen whole at fs bs k q.1)
 
 -- one field, read again
-held_read : (b : Bool) (f : Form) (v : Content) (s : List ℕ) → If b (HoldsForm f v) (v ≡ nothing) → s ≡ cond (absent v) (replicate (wide f) 0) (bytes_of f v)
+held_read : (b : Bool) (f : Form) (v : Content) (s : List ℕ) → If b (HoldsForm f v) (v ≡ nothing) → s
+    ≡ cond (absent v) (replicate (wide f) 0) (bytes_of f v)
     → (cond b (ok_form f s) true ≡ true) × (v ≡ cond b (content f s) nothing)
 held_read true f v s h e =
     let e' = e ∙ form_bytes f v h in
@@ -92,19 +101,23 @@ held_read true f v s h e =
     (ap (ok_form f) e' ∙ r.0, r.1 ∙ ap (content f) (sym e'))
 held_read false f v s h e = (refl, h)
 
-read_one : (at : ℕ → ℕ) (f : Field) (v : Content) (bs : List ℕ) → Seen at (f ∷ []) bs → Holds at f v → part (place f) (width f) bs ≡ field_bytes f v → (ok bs f ≡ true) × (v ≡ got bs f)
+read_one : (at : ℕ → ℕ) (f : Field) (v : Content) (bs : List ℕ) → Seen at (f ∷ []) bs → Holds at f v
+    → part (place f) (width f) bs ≡ field_bytes f v → (ok bs f ≡ true) × (v ≡ got bs f)
 unfolding field_bytes
 read_one at (Always here f) v bs s h e = held_read true f v (part here (wide f) bs) h e
 read_one at (When here f other cs) v bs s h e =
     let b = taken (le (part other 1 bs)) (listed cs) in
     let q : b ≡ taken (at other) (listed cs) = ap (λ n. taken n (listed cs)) s.0 in
-    held_read b f v (part here (wide f) bs) (let P : Bool → Type 0 = λ x. If x (HoldsForm f v) (v ≡ nothing) in subst P (sym q) h) e
+    held_read b f v (part here (wide f) bs) (let P : Bool
+    → Type 0 = λ x. If x (HoldsForm f v) (v ≡ nothing) in subst P (sym q) h) e
 
-split_seen : (at : ℕ → ℕ) (f : Field) (fs : List Field) (bs : List ℕ) → Seen at (f ∷ fs) bs → Seen at (f ∷ []) bs × Seen at fs bs
+split_seen : (at : ℕ → ℕ) (f : Field) (fs : List Field) (bs : List ℕ) → Seen at (f ∷ fs) bs → Seen at (f ∷ []) bs
+    × Seen at fs bs
 split_seen at (Always here f) fs bs s = (tt, s)
 split_seen at (When here f other cs) fs bs s = ((s.0, tt), s.1)
 
-read_all : (at : ℕ → ℕ) (fs : List Field) (vs : List Content) (bs p r : List ℕ) (n end : ℕ) → bs ≡ p ++ (encode fs vs ++ r) → length p ≡ n → tiled n end fs ≡ true → HoldsAll at fs vs → Seen at fs bs
+read_all : (at : ℕ → ℕ) (fs : List Field) (vs : List Content) (bs p r : List ℕ) (n end : ℕ) → bs ≡ p
+    ++ (encode fs vs ++ r) → length p ≡ n → tiled n end fs ≡ true → HoldsAll at fs vs → Seen at fs bs
     → (first_bad fs bs ≡ None) × Says vs fs bs × (n + length (encode fs vs) ≡ end)
 unfolding encode first_bad
 read_all at [] [] bs p r n end e l t h s = (refl, tt, omega (arith, eqb-true n end t))
@@ -117,7 +130,8 @@ read_all at (f ∷ fs) (v ∷ vs) bs p r n end e l t h s =
     let e' : bs ≡ p ++ (field_bytes f v ++ (encode fs vs ++ r)) = e ∙ simp append_assoc in
     let e'' : bs ≡ (p ++ field_bytes f v) ++ (encode fs vs ++ r) = e ∙ simp append_assoc in
     let l' : length (p ++ field_bytes f v) ≡ n + width f = rw (length-append p (field_bytes f v), k, l) in
-    let m : part (place f) (width f) bs ≡ field_bytes f v = rw e' (part_mid p (field_bytes f v) (encode fs vs ++ r) (place f) (width f) (l ∙ sym a) k) in
+    let m : part (place f) (width f) bs ≡ field_bytes f v = rw e'
+    (part_mid p (field_bytes f v) (encode fs vs ++ r) (place f) (width f) (l ∙ sym a) k) in
     let w = split_seen at f fs bs s in
     let o = read_one at f v bs w.0 h.0 m in
     let j = read_all at fs vs bs (p ++ field_bytes f v) r (n + width f) end e'' l' q.1 h.1 w.1 in
@@ -132,7 +146,8 @@ says_same (f ∷ fs) (u ∷ us) [] bs a b = absurd b
 says_same (f ∷ fs) (u ∷ us) (v ∷ vs) bs a b = rw (a.0, b.0, says_same fs us vs bs a.1 b.1)
 
 -- a whole table, written behind its header and read again
-pub trip : (fs : List Field) (vs : List Content) (q : List ℕ) (total : ℕ) → length q ≡ 4 → tiled 4 total fs ≡ true → looked fs fs ≡ true → HoldsIn fs vs
+pub trip : (fs : List Field) (vs : List Content) (q : List ℕ) (total : ℕ) → length q ≡ 4 → tiled 4 total fs ≡ true
+    → looked fs fs ≡ true → HoldsIn fs vs
     → (first_bad fs (q ++ encode fs vs) ≡ None) × Says vs fs (q ++ encode fs vs) × (4 + length (encode fs vs) ≡ total)
 trip fs vs q total l t k h =
     let at = figure_at fs vs in

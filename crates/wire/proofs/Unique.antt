@@ -19,8 +19,15 @@ base62-front (suc j) d m h l =
     let r = mod_below m 62 p in
     let s = div-add-mod' m 62 in
     let t : d * (62 ^ j * 62) ≡ d * 62 ^ j * 62 = sym (mul_assoc d (62 ^ j) 62) in
-    let e : d * 62 ^ suc j + m ≡ (d * 62 ^ j + m / 62) * 62 + m % 62 = rw (pow-suc, t, add-mul (d * 62 ^ j) (m / 62) 62) (omega arith) in
-    rw (e, mod-mul-add (d * 62 ^ j + m / 62) 62 (m % 62) r, div-mul-add (d * 62 ^ j + m / 62) 62 (m % 62) r, base62-front j d (m / 62) h k)
+    let e : d * 62 ^ suc j + m ≡ (d * 62 ^ j + m / 62) * 62 + m % 62 = rw
+    (pow-suc, t, add-mul (d * 62 ^ j) (m / 62) 62) (omega arith) in
+    rw (
+      e,
+      mod-mul-add (d * 62 ^ j + m / 62) 62 (m % 62) r,
+      div-mul-add (d * 62 ^ j + m / 62) 62
+          (m % 62) r,
+      base62-front j d (m / 62) h k,
+    )
 
 -- digits that write a number are those of the number
 abbrev Digits : ℕ → List ℕ → ℕ → Type 0
@@ -42,11 +49,13 @@ digits (c ∷ cs) a n e =
     let m = i.0 in
     let v : w * P ≤ 61 * P = mul-le-mul_right P (omega arith) in
     let b : w * P + m < 62 ^ suc (length cs) = rw (pow-suc 62 (length cs)) (omega (arith, v, i.1)) in
-    let t : (a * 62 + w) * P ≡ a * (P * 62) + w * P = add-mul (a * 62) w P ∙ ap (λ x. x + w * P) (mul_assoc a 62 P ∙ ap (λ x. a * x) (mul_comm 62 P)) in
+    let t : (a * 62 + w) * P ≡ a * (P * 62) + w * P = add-mul (a * 62) w P ∙ ap (λ x. x + w * P)
+    (mul_assoc a 62 P ∙ ap (λ x. a * x) (mul_comm 62 P)) in
     let f : n ≡ a * 62 ^ suc (length cs) + (w * P + m) = rw (pow-suc 62 (length cs)) (omega (arith, t, i.2)) in
     (w * P + m, b, f, (let g = base62-front (length cs) w m h i.1 in let d = digit-worth c h in let u = i.3 in cc))
 
-first : (bs : List ℕ) (letter n : ℕ) → length bs ≡ 12 → get_or bs 0 0 ≡ letter → Digits 0 (drop 1 bs) n → bs ≡ id_of letter n
+first : (bs : List ℕ) (letter n : ℕ) → length bs ≡ 12 → get_or bs 0 0 ≡ letter → Digits 0 (drop 1 bs) n → bs
+    ≡ id_of letter n
 first [] letter n l g d = absurd (omega arith)
 first (x ∷ xs) letter n l g d =
     let k : length xs ≡ 11 = omega arith in

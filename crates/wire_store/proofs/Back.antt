@@ -57,8 +57,15 @@ use Rattle.wire_store.specs.Told.{decoded, value_of, execution_from, nothing_tol
 blank_same : (x : FixedText 20) → x.bytes ≡ padded 20 [] → x ≡ fitted 20 []
 blank_same x e = fixed_same x (fitted 20 []) e
 
-pub blank_told : (x : FixedText 20) → x.bytes ≡ replicate 20 0 → report.CancelReject (record { client = x; reason = pos 0; time = record { seconds = 0; microseconds = 0 } }) ≡ nothing_told
-blank_told x e = ap (λ t. report.CancelReject (record { client = t; reason = pos 0; time = record { seconds = 0; microseconds = 0 } })) (blank_same x e)
+pub blank_told : (x : FixedText 20) → x.bytes ≡ replicate 20 0
+    → report.CancelReject (record { client = x; reason = pos 0; time = record { seconds = 0; microseconds = 0 } })
+    ≡ nothing_told
+blank_told x e =
+    ap (λ t. report.CancelReject (record {
+      client = t;
+      reason = pos 0;
+      time = record { seconds = 0; microseconds = 0 };
+    })) (blank_same x e)
 
 -- a text by what it says
 says_fits : {N : ℕ} (t : Text N) → fit N (says t) ≡ says t
@@ -68,11 +75,13 @@ says_fits {N} t =
     let le = prefix_len-le-length printable f in
     let l = length-take-le n f le in
     let w = t.wide in
-    cond-true (fitting N (says t)) (says t) [] (and_from _ _ (le-leb (length (says t)) N (omega arith)) (printable-said f))
+    cond-true (fitting N (says t)) (says t) []
+    (and_from _ _ (le-leb (length (says t)) N (omega arith)) (printable-said f))
 
 text_back : {N : ℕ} (t : Text N) → fitted N (says t) ≡ kept t
 text_back {N} t =
-    let same : padded N (fit N (says t)) ≡ t.field.now = ap (padded N) (says_fits t) ∙ ap (λ n. padded n (says t)) (sym t.wide) ∙ padded-said t.field.now t.text in
+    let same : padded N (fit N (says t)) ≡ t.field.now = ap (padded N) (says_fits t) ∙ ap (λ n. padded n (says t))
+    (sym t.wide) ∙ padded-said t.field.now t.text in
     fixed_same (fitted N (says t)) (kept t) same
 
 -- a value by its byte
@@ -107,11 +116,13 @@ capacity_back capacity.RisklessPrincipal = refl
 capacity_back capacity.Principal = refl
 capacity_back capacity.Agency = refl
 
-mass_response_back : (x : MassResponse) → value_of mass_response_code mass_responses mass_response.Rejected (mass_response_code x) ≡ x
+mass_response_back : (x : MassResponse) → value_of mass_response_code mass_responses mass_response.Rejected
+    (mass_response_code x) ≡ x
 mass_response_back mass_response.Rejected = refl
 mass_response_back mass_response.Accepted = refl
 
-execution_back : (e : Execution) → execution_from (exec_type_code (exec_of e)) (execution_reject e) (execution_liquidity e) (execution_trade e) ≡ e
+execution_back : (e : Execution) → execution_from (exec_type_code (exec_of e)) (execution_reject e)
+    (execution_liquidity e) (execution_trade e) ≡ e
 execution_back execution.Unspecified = refl
 execution_back execution.New = refl
 execution_back execution.Cancelled = refl
@@ -119,7 +130,9 @@ execution_back execution.Replaced = refl
 execution_back (execution.Rejected n) = refl
 execution_back execution.Expired = refl
 execution_back execution.Restated = refl
-execution_back (execution.Trade l t) = ap (λ x. execution.Trade x (value_of trade_type_code trade_types trade_type.Visible (trade_type_code t))) (liquidity_back l) ∙ ap (execution.Trade l) (trade_type_back t)
+execution_back (execution.Trade l t) =
+    ap (λ x. execution.Trade x (value_of trade_type_code trade_types trade_type.Visible (trade_type_code t)))
+    (liquidity_back l) ∙ ap (execution.Trade l) (trade_type_back t)
 execution_back (execution.TradeCancel l) = ap execution.TradeCancel (liquidity_back l)
 
 -- a message's report, by its contents
@@ -133,13 +146,19 @@ contents_tell (message.ExecutionReport m) =
     let f = book_back m.book in
     let g = capacity_back m.capacity in
     let price : record { raw = m.executed_price.raw } ≡ m.executed_price = refl in
-    let time : record { seconds = m.transact_time.seconds; microseconds = m.transact_time.microseconds } ≡ m.transact_time = refl in
+    let time : record { seconds = m.transact_time.seconds; microseconds = m.transact_time.microseconds }
+    ≡ m.transact_time = refl in
     cc
-contents_tell (message.OrderCancelReject m) = let a = text_back m.client_order_id in let time : record { seconds = m.transact_time.seconds; microseconds = m.transact_time.microseconds } ≡ m.transact_time = refl in cc
+contents_tell (message.OrderCancelReject m) =
+    let a = text_back m.client_order_id in let time : record {
+      seconds = m.transact_time.seconds;
+      microseconds = m.transact_time.microseconds;
+    } ≡ m.transact_time = refl in cc
 contents_tell (message.OrderMassCancelReport m) =
     let a = text_back m.client_order_id in
     let b = mass_response_back m.response in
-    let time : record { seconds = m.transact_time.seconds; microseconds = m.transact_time.microseconds } ≡ m.transact_time = refl in
+    let time : record { seconds = m.transact_time.seconds; microseconds = m.transact_time.microseconds }
+    ≡ m.transact_time = refl in
     cc
 contents_tell (message.Logon m) = refl
 contents_tell (message.LogonReply m) = refl
@@ -161,19 +180,24 @@ all_got [] (v ∷ vs) bs h = absurd h
 all_got (f ∷ fs) [] bs h = absurd h
 all_got (f ∷ fs) (v ∷ vs) bs h = let a = sym h.0 in let b = all_got fs vs bs h.1 in cc
 
-told_by : (bs : List ℕ) (m : Message) → verdict Follower bs ≡ None → opening Follower bs ≡ Ok (kind_of m) → Says (contents_of m) (table_of (kind_of m)) bs → decoded bs ≡ unwrap_or (report_in m) nothing_told
+told_by : (bs : List ℕ) (m : Message) → verdict Follower bs ≡ None → opening Follower bs ≡ Ok (kind_of m)
+    → Says (contents_of m) (table_of (kind_of m)) bs → decoded bs ≡ unwrap_or (report_in m) nothing_told
 told_by bs m v o s =
-    ap (λ x. cond (is_some x) nothing_told (told_in (opening Follower bs) bs)) v ∙ ap (λ r. told_in r bs) o ∙ ap (told_from (kind_of m)) (all_got (table_of (kind_of m)) (contents_of m) bs s) ∙ contents_tell m
+    ap (λ x. cond (is_some x) nothing_told (told_in (opening Follower bs) bs)) v ∙ ap (λ r. told_in r bs) o ∙ ap
+    (told_from (kind_of m)) (all_got (table_of (kind_of m)) (contents_of m) bs s) ∙ contents_tell m
 
 -- what was read
-pub read_report : (bs : List ℕ) (m : Message) (r d : Report) (o : Option Report) → Reads Follower bs m → r ≡ unwrap_or o d → o ≡ report_in m → d ≡ nothing_told → r ≡ decoded bs
-read_report bs m r d o h e a b = e ∙ ap (λ x. unwrap_or x d) a ∙ ap (unwrap_or (report_in m)) b ∙ sym (told_by bs m h.passes h.opens h.says)
+pub read_report : (bs : List ℕ) (m : Message) (r d : Report) (o : Option Report) → Reads Follower bs m → r
+    ≡ unwrap_or o d → o ≡ report_in m → d ≡ nothing_told → r ≡ decoded bs
+read_report bs m r d o h e a b =
+    e ∙ ap (λ x. unwrap_or x d) a ∙ ap (unwrap_or (report_in m)) b ∙ sym (told_by bs m h.passes h.opens h.says)
 
 pub refused : (bs : List ℕ) (e : Fault) (r : Report) → verdict Follower bs ≡ Some e → r ≡ nothing_told → r ≡ decoded bs
 refused bs e r v h = h ∙ sym (ap (λ x. cond (is_some x) nothing_told (told_in (opening Follower bs) bs)) v)
 
 -- what was written
-report_is : (p : Partition) (n : ℕ) (r : Report) (m : Message) → kind_of m ≡ kind_told r → contents_of m ≡ told_as p n r → written m ≡ report_bytes p n r
+report_is : (p : Partition) (n : ℕ) (r : Report) (m : Message) → kind_of m ≡ kind_told r → contents_of m
+    ≡ told_as p n r → written m ≡ report_bytes p n r
 report_is p n r m k c = ap (λ j. message_bytes j (contents_of m)) k ∙ ap (message_bytes (kind_told r)) c
 
 follower_takes : (r : Report) → takes Follower (letter_of (kind_told r)) ≡ Some (kind_told r)
@@ -186,11 +210,13 @@ short (report.Execution e) k n h t = let x = t ∙ ap total_of h in omega (arith
 short (report.CancelReject e) k n h t = let x = t ∙ ap total_of h in omega (arith, x)
 short (report.MassCancel e) k n h t = let x = t ∙ ap total_of h in omega (arith, x)
 
-module _ (p : Partition) (n : ℕ) (r : Report) (m : Message) (k : kind_of m ≡ kind_told r) (c : contents_of m ≡ told_as p n r) (h : Holdable m) where
+module _ (p : Partition) (n : ℕ) (r : Report) (m : Message) (k : kind_of m ≡ kind_told r)
+    (c : contents_of m ≡ told_as p n r) (h : Holdable m) where
   taken_by : takes Follower (letter_of (kind_of m)) ≡ Some (kind_of m)
   taken_by = subst (λ j. takes Follower (letter_of j) ≡ Some j) (sym k) (follower_takes r)
 
-  read_again : (opening Follower (written m) ≡ Ok (kind_of m)) × (verdict Follower (written m) ≡ None) × Says (contents_of m) (table_of (kind_of m)) (written m) × (length (written m) ≡ total_of (kind_of m))
+  read_again : (opening Follower (written m) ≡ Ok (kind_of m)) × (verdict Follower (written m) ≡ None)
+      × Says (contents_of m) (table_of (kind_of m)) (written m) × (length (written m) ≡ total_of (kind_of m))
   read_again =
       let j = kind_of m in
       let q = header (letter_of j) (total_of j) in
@@ -204,7 +230,8 @@ module _ (p : Partition) (n : ℕ) (r : Report) (m : Message) (k : kind_of m ≡
       let a = read_again in
       ap decoded (sym (report_is p n r m k c)) ∙ told_by (written m) m a.1 a.0 a.2 ∙ ap (λ o. unwrap_or o nothing_told) e
 
-  pub whole : (total : ℕ) (before after : List ℕ) → total ≡ total_of (kind_of m) → after ≡ written m ++ drop total before → take total after ≡ report_bytes p n r
+  pub whole : (total : ℕ) (before after : List ℕ) → total ≡ total_of (kind_of m) → after ≡ written m
+      ++ drop total before → take total after ≡ report_bytes p n r
   whole total before after t w =
       let a = read_again in
       ap (take total) w ∙ take_at (written m) (drop total before) total (a.3 ∙ sym t) ∙ report_is p n r m k c

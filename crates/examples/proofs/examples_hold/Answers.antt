@@ -8,7 +8,23 @@ use Rattle.wire.specs.Messages.{opening}
 use Rattle.examples.proofs.examples_hold.Goals as goal
 
 orders-worked : OrdersWorked
-orders-worked t a = record { part = refl; left = refl; cancelled = refl; expired = refl; back_ordered = refl; back_withdrawn = refl; back_executed = refl; back_open = refl; back_status = refl; done = refl; nothing_left = refl; at_executed = refl; above_executed = refl; one_left = refl }
+orders-worked t a =
+    record {
+      part = refl;
+      left = refl;
+      cancelled = refl;
+      expired = refl;
+      back_ordered = refl;
+      back_withdrawn = refl;
+      back_executed = refl;
+      back_open = refl;
+      back_status = refl;
+      done = refl;
+      nothing_left = refl;
+      at_executed = refl;
+      above_executed = refl;
+      one_left = refl;
+    }
 
 pub returns : goal.returns
 unfolding opening first_bad taken is_order is_text named base62

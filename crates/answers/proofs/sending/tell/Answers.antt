@@ -4,4 +4,5 @@ use Rattle.answers.proofs.sending.tell.Goals as goal
 pub returns-clause-told : goal.returns-clause-told
 returns-clause-told c =
     let t = c.args.telling.now in
-    report_told t.partition t.number t.report c.message.result c.message.ensures.back c.message.ensures.kind c.message.ensures.contents c.send.ensures.held c.send.ensures.back
+    report_told t.partition t.number t.report c.message.result c.message.ensures.back c.message.ensures.kind
+    c.message.ensures.contents c.send.ensures.held c.send.ensures.back

@@ -19,10 +19,13 @@ loop-call-preserved g c =
     let grown = c.push_reserved.ensures.items in
     let lt : i < length calls = omega arith in
     record {
-      calls = ap (map call_of) grown ∙ map_push call_of c.loop-call.log.items done ∙ ap (λ t. t ++ call_of done ∷ []) inv.calls
+      calls = ap (map call_of) grown ∙ map_push call_of c.loop-call.log.items done ∙ ap
+          (λ t. t ++ call_of done ∷ []) inv.calls
           ∙ ap (λ y. take i calls ++ y ∷ []) c.make-next.ensures.call ∙ sym (take_more calls i _ lt);
-      runs = subst (λ l. Runs c.in-Ok-start.gateway fresh l c.make-next.new.gateway (record { follower = c.make-next.new.follower; token = c.make-next.result.1 })) (sym grown)
-          (runs_more _ _ c.loop-call.log.items _ _ done _ _ inv.runs c.make-next.ensures.does c.make-next.ensures.told (subst Sound c.venue.ensures c.sound.ensures.sound)
+      runs = subst (λ l. Runs c.in-Ok-start.gateway fresh l c.make-next.new.gateway
+          (record { follower = c.make-next.new.follower; token = c.make-next.result.1 })) (sym grown)
+          (runs_more _ _ c.loop-call.log.items _ _ done _ _ inv.runs c.make-next.ensures.does c.make-next.ensures.told
+          (subst Sound c.venue.ensures c.sound.ensures.sound)
           (subst (λ (v : View). length v.rows ≤ ORDERS) c.venue.ensures c.sound.ensures.few) c.make-next.ensures.tie);
       tie = c.make-next.ensures.tie;
       long = search rules;
@@ -38,4 +41,6 @@ returns-clause-conserved g c =
 pub returns-clause-agreed : goal.returns-clause-agreed
 returns-clause-agreed g c =
     let begun = c.in-Ok-start.ensures.1 in
-    λ line allowed. agrees line _ _ c.loop-call.log.items _ _ (subst (λ s. Runs s fresh c.loop-call.log.items c.loop-call.gateway (record { follower = c.loop-call.follower; token = c.loop-call.token })) begun c.loop-call.invariant.runs) allowed
+    λ line allowed. agrees line _ _ c.loop-call.log.items _ _
+    (subst (λ s. Runs s fresh c.loop-call.log.items c.loop-call.gateway
+    (record { follower = c.loop-call.follower; token = c.loop-call.token })) begun c.loop-call.invariant.runs) allowed

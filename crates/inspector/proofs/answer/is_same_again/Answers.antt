@@ -10,4 +10,5 @@ returns-in-Ok c =
     let l : length c.write.new.out ≡ length (replicate {A = ℕ} 145 0) = search rules in
     let w = front (written c.args.message.now) (replicate {A = ℕ} 145 0) c.write.new.out c.in-Ok.n h.1 l h.2 in
     let z : c.in-Ok.n - 0 ≡ c.in-Ok.n = omega arith in
-    c.is_text.ensures ∙ ap (λ n. bytes_eq (take n c.write.new.out) c.args.bytes.now) z ∙ ap (λ t. bytes_eq t c.args.bytes.now) w
+    c.is_text.ensures ∙ ap (λ n. bytes_eq (take n c.write.new.out) c.args.bytes.now) z ∙ ap
+    (λ t. bytes_eq t c.args.bytes.now) w

@@ -16,10 +16,12 @@ loop-call-preserved g c =
     let grown = c.push_reserved.ensures.items in
     let lt : i < length calls = omega arith in
     record {
-      calls = ap (map call_of) grown ∙ map_push call_of c.loop-call.log.items done ∙ ap (λ t. t ++ call_of done ∷ []) inv.calls
+      calls = ap (map call_of) grown ∙ map_push call_of c.loop-call.log.items done ∙ ap
+          (λ t. t ++ call_of done ∷ []) inv.calls
           ∙ ap (λ y. take i calls ++ y ∷ []) c.make-done.ensures.call ∙ sym (take_more calls i _ lt);
       runs = subst (λ l. Runs c.args.gateway.now l c.make-done.new.gateway) (sym grown)
-          (runs_more _ c.loop-call.log.items _ done _ inv.runs c.make-done.ensures.does (subst Sound c.venue.ensures c.sound.ensures.sound));
+          (runs_more _ c.loop-call.log.items _ done _ inv.runs c.make-done.ensures.does
+          (subst Sound c.venue.ensures c.sound.ensures.sound));
       long = search rules;
       room = search rules;
     }

@@ -8,7 +8,8 @@ pub returns : goal.returns
 returns g c =
     let t = c.args.text.now in
     let v : c.copy_from_slice.new.self ++ drop (length t) (replicate g.row.N 0) ≡ padded g.row.N t =
-    rw (drop-replicate {X = ℕ} (length t) g.row.N 0) (ap (λ (xs : List ℕ). xs ++ replicate (g.row.N - length t) 0) c.copy_from_slice.ensures.after) in
+    rw (drop-replicate {X = ℕ} (length t) g.row.N 0)
+    (ap (λ (xs : List ℕ). xs ++ replicate (g.row.N - length t) 0) c.copy_from_slice.ensures.after) in
     record {
       value = v;
       wide = ap length v ∙ length-padded g.row.N t c.requires.short;

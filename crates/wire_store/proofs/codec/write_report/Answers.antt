@@ -12,5 +12,8 @@ returns-clause-back c =
     let n : t.number ≡ c.args.number.value = search rules in
     let r : t.report ≡ c.args.report = search rules in
     let holds : Holdable m = search rules in
-    let told : contents_of m ≡ told_as c.args.partition c.args.number.value c.args.report = c.message.ensures.contents ∙ ap (λ x. told_as x t.number t.report) p ∙ ap (λ x. told_as c.args.partition x t.report) n ∙ ap (told_as c.args.partition c.args.number.value) r in
-    given_back c.args.partition c.args.number.value c.args.report m (c.message.ensures.kind ∙ ap kind_told r) told holds (c.message.ensures.back ∙ ap Some r)
+    let told : contents_of m ≡ told_as c.args.partition c.args.number.value
+    c.args.report = c.message.ensures.contents ∙ ap (λ x. told_as x t.number t.report) p ∙ ap
+    (λ x. told_as c.args.partition x t.report) n ∙ ap (told_as c.args.partition c.args.number.value) r in
+    given_back c.args.partition c.args.number.value c.args.report m
+    (c.message.ensures.kind ∙ ap kind_told r) told holds (c.message.ensures.back ∙ ap Some r)

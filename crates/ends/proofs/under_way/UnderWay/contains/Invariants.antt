@@ -5,4 +5,6 @@ use Rattle.std.specs.VecDeque.Iter.{deque_iter_rest}
 use Rattle.ends.proofs.under_way.UnderWay.contains.Given as goal
 
 abbrev pub invariant-loop-other : goal.invariant-loop-other
-invariant-loop-other l = list_any (bytes_eq l.message) l.self ≡ list_any (bytes_eq l.message) (map (λ (x : Bor (List ℕ)). x.now) (deque_iter_rest l.other-iterator))
+invariant-loop-other l =
+    list_any (bytes_eq l.message) l.self ≡ list_any (bytes_eq l.message)
+    (map (λ (x : Bor (List ℕ)). x.now) (deque_iter_rest l.other-iterator))

@@ -4,7 +4,8 @@ use Rattle.follower.proofs.state.Follower.live.Goals as goal
 
 pub returns-clause-tie : goal.returns-clause-tie
 returns-clause-tie c =
-    live_tied c.args.self.now c.take_live-answer.new.self (heard_in c.args.bytes.now) c.take_live-answer.result c.args.pending
+    live_tied c.args.self.now c.take_live-answer.new.self
+    (heard_in c.args.bytes.now) c.take_live-answer.result c.args.pending
     c.after_live-pending.result
     c.take_live-answer.ensures.answer
     c.take_live-answer.ensures.after

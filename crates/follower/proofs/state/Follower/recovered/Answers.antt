@@ -4,7 +4,8 @@ use Rattle.follower.proofs.state.Follower.recovered.Goals as goal
 
 pub returns-clause-tie : goal.returns-clause-tie
 returns-clause-tie c =
-    recovered_tied c.args.self.now c.take_recovered-answer.new.self (heard_in c.args.bytes.now) c.take_recovered-answer.result
+    recovered_tied c.args.self.now c.take_recovered-answer.new.self
+    (heard_in c.args.bytes.now) c.take_recovered-answer.result
     c.args.pending
     c.after_recovered-pending.result
     c.take_recovered-answer.ensures.answer

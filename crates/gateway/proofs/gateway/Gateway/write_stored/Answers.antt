@@ -12,7 +12,8 @@ use Rattle.gateway.proofs.gateway.Gateway.write_stored.Goals as goal
 pub write_report-requires-clause-few : goal.write_report-requires-clause-few
 write_report-requires-clause-few g c =
     let s = c.store.result.now in
-    number_fits (g.S.Store.kept s) (g.S.Store.free s) c.args.partition c.args.number c.in-Some.entry (g.met.S.Store.room s) c.in-Some.ensures
+    number_fits (g.S.Store.kept s) (g.S.Store.free s) c.args.partition c.args.number c.in-Some.entry
+    (g.met.S.Store.room s) c.in-Some.ensures
 
 pub returns-in-Some : goal.returns-in-Some
 returns-in-Some g c =
@@ -23,6 +24,7 @@ returns-in-Some g c =
     let there : Some c.in-Some.entry ≡ under (at c.args.self.now.venue.kept p) n =
     c.in-Some.ensures ∙ ap (λ (k : Kept). under (at k p) n) kept in
     record {
-      sent = subst (λ x. Sent (entry_bytes p n x) c.args.out.now c.write_report.new.out c.write_report.result) there c.write_report.ensures.sent;
+      sent = subst (λ x. Sent (entry_bytes p n x) c.args.out.now c.write_report.new.out c.write_report.result) there
+          c.write_report.ensures.sent;
       told = subst (λ x. EntryTold p n x) there c.write_report.ensures.told;
     }

@@ -10,5 +10,6 @@ invariant-loop-name g l = record {
   inside : within (length l.self.reader.src.now) l.name-iterator.b.rest.now ≡ true;
   written :
       IsPlainFormatter l.fn.f → (t : List ℕ) × HasWritten g.W.Write.write_str_gives l.fn.f t l.f
-      × (t ++ bytes_text (spelt l.name-iterator.a.rest.now) l.name-iterator.b.rest.now l.self.reader.src.now ≡ bytes_text (spelt l.self.names.now) l.self.table.now l.self.reader.src.now);
+      × (t ++ bytes_text (spelt l.name-iterator.a.rest.now) l.name-iterator.b.rest.now l.self.reader.src.now
+      ≡ bytes_text (spelt l.self.names.now) l.self.table.now l.self.reader.src.now);
 }

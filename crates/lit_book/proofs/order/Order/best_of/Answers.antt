@@ -10,4 +10,5 @@ loop-place-preserved c =
     let os = c.args.resting.now in
     let k = c.loop-place.place in
     let lt : k < length os = omega arith in
-    subst (BestSoFar a os (k + 1)) (sym c.better_of-best.ensures) (looked_at a _ os k c.loop-place.best c.loop-place.invariant lt)
+    subst (BestSoFar a os (k + 1)) (sym c.better_of-best.ensures)
+    (looked_at a _ os k c.loop-place.best c.loop-place.invariant lt)

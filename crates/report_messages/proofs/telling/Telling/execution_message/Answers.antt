@@ -7,7 +7,8 @@ use Rattle.report_messages.proofs.telling.Telling.execution_message.Goals as goa
 pub returns-clause-back : goal.returns-clause-back
 returns-clause-back c =
     let s = c.args.self.now in
-    execution_back c.args.e.now c.as_text-2.result c.as_text-5.result c.as_text-3.result c.as_text-4.result _ _ _ c.as_text-2.ensures.field c.as_text-5.ensures.field
+    execution_back c.args.e.now c.as_text-2.result c.as_text-5.result c.as_text-3.result c.as_text-4.result _ _ _
+    c.as_text-2.ensures.field c.as_text-5.ensures.field
     (ap (λ f. order_in (said f)) c.as_text-3.ensures.field ∙ s.named_back ∙ c.requires.order)
     (ap (λ f. reference_in (said f)) c.as_text-4.ensures.field ∙ s.referred_back ∙ c.requires.reference)
     (search rules) (search rules) (search rules)

@@ -9,4 +9,5 @@ use Rattle.venue.proofs.venue.Venue.note.Goals as goal
 pub invariant_of-self : goal.invariant_of-self
 invariant_of-self g c =
     let spare = subst (λ (x : View). open_count x.rows + 1 ≤ x.free) (sym c.self.view_is) c.requires.spare in
-    sound-noted (view g.M.Matcher g.S.Store c.self.inside) _ c.args.partition c.args.entry c.self.invariant c.requires.silent refl refl refl refl c.append.ensures.kept (omega arith)
+    sound-noted (view g.M.Matcher g.S.Store c.self.inside) _ c.args.partition c.args.entry c.self.invariant
+    c.requires.silent refl refl refl refl c.append.ensures.kept (omega arith)

@@ -10,7 +10,8 @@ loop-i-init g c = withdraws_none c.args.self.now
 
 pub loop-i-preserved : goal.loop-i-preserved
 loop-i-preserved g c =
-    rw add-one (selected_more (λ is. picks is c.args.selection.now) c.args.cause c.args.time c.loop-i.i c.args.self.now c.loop-i.self c.withdraw_if.new.self c.loop-i.invariant (rw add-one at c.withdraw_if.ensures))
+    rw add-one (selected_more (λ is. picks is c.args.selection.now) c.args.cause c.args.time c.loop-i.i c.args.self.now
+    c.loop-i.self c.withdraw_if.new.self c.loop-i.invariant (rw add-one at c.withdraw_if.ensures))
 
 pub returns : goal.returns
 returns g c =
@@ -19,4 +20,6 @@ returns g c =
     let l = c.loop-i.auto.i-end in
     let m = c.loop-i-test.false in
     omega arith in
-    subst (λ n. Withdraws c.args.self.now (withdrawn_to (picks c.args.self.now.instruments c.args.selection.now) c.args.cause c.args.time n c.args.self.now) c.loop-i.self) all c.loop-i.invariant
+    subst (λ n. Withdraws c.args.self.now (withdrawn_to
+    (picks c.args.self.now.instruments c.args.selection.now) c.args.cause c.args.time n c.args.self.now) c.loop-i.self)
+    all c.loop-i.invariant
