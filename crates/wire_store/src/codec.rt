@@ -1,5 +1,6 @@
 // A report as the bytes of its message, and back.
 ghost use Rattle.std.specs.Prelude.{◌≡◌, ◌≤◌, ◌<◌, length, take, is_some};
+ghost use Rattle.byte_store.specs.declared.codec.TheConstants.{LONGEST};
 ghost use Rattle.report_messages.specs.Telling.{report_bytes};
 ghost use Rattle.wire_store.specs.Told.{decoded, nothing_told};
 
@@ -43,9 +44,9 @@ fn report_in(bytes: &[u8]) -> Report
 
 #[tactic(auto, using(crate::proofs::Back::whole, crate::proofs::Back::short))]
 fn write_report(partition: Partition, number: Number, report: Report, out: &mut [u8]) -> usize
-    requires { 145 ≤ length out.old }
+    requires { LONGEST ≤ length out.old }
     ensures bytes { take result out.new ≡ report_bytes partition number.value report }
-    ensures short { result ≤ 145 }
+    ensures short { result ≤ LONGEST }
     ensures back { decoded (report_bytes partition number.value report) ≡ report }
 {
     let telling = Telling::new(partition, number.value, report).unwrap();
