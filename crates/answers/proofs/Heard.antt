@@ -4,12 +4,11 @@ use Rattle.codes.specs.Session.{partition_code}
 use Rattle.codes.specs.declared.session.Partition.{Partition}
 use Rattle.codes.specs.declared.session.ReportResponse.{ReportResponse}
 use Rattle.codes.specs.contracts.session.PartitionCode.TheImpl.Laws.{one-law as partition_one}
+use Rattle.limits.specs.declared.TheConstants.{MESSAGE_BYTES}
 use Rattle.layout.specs.Layout.{Content, figure_of, int32_of}
 use Rattle.layout.specs.Layout.Content.{nothing}
 use Rattle.layout.specs.Writing.{header}
 use Rattle.wire.specs.declared.kinds.Channel.TheVariants.{Follower}
-use Rattle.wire.specs.declared.kinds.Kind.{Kind}
-use Rattle.wire.specs.declared.kinds.Kind.TheVariants as kind
 use Rattle.wire.specs.declared.message.Message.{Message}
 use Rattle.wire.specs.declared.message.Message.TheVariants as message
 use Rattle.wire.specs.Kinds.{letter_of, total_of, table_of, takes}
@@ -28,22 +27,14 @@ use Rattle.answers.specs.Bytes.{end_bytes}
 use Rattle.answers.specs.Sent.{Sent}
 use Rattle.answers.specs.Told.{Told, place_in, Reports, ReportTold, Ends, EndTold}
 
--- no message is longer than a buffer for a reply
-total_short : (k : Kind) → total_of k ≤ 512
-total_short kind.Logon = omega arith
-total_short _ = omega arith
-
-pub short : (k : Kind) (n : ℕ) → n ≡ total_of k → n ≤ 512
-short k n e = let h = total_short k in omega (arith, e, h)
-
-pub sent : (m : Message) (n : ℕ) (before after : List ℕ) → Holdable m → n ≡ total_of (kind_of m) → after ≡ written m
-    ++ drop n before → Sent (written m) before after n
-sent m n before after h e w =
+pub sent : (m : Message) (n : ℕ) (before after : List ℕ) → Holdable m → n ≡ total_of (kind_of m)
+    → total_of (kind_of m) ≤ MESSAGE_BYTES → after ≡ written m ++ drop n before → Sent (written m) before after n
+sent m n before after h e s w =
     let k = kind_of m in
     let q = header (letter_of k) (total_of k) in
     let t = trip (table_of k) (contents_of m) q (total_of k) refl (sound k).tiles (sound k).looks h in
     let l = t.2 in
-    (omega (arith, l, e), short k n e, w)
+    (omega (arith, l, e), omega (arith, e, s), w)
 
 -- what was written is what a follower reads
 pub heard : (P : Message → Type 0) (bs : List ℕ) (m : Message) → ((a b : Message) → plain a ≡ plain b → P b → P a)

@@ -14,7 +14,7 @@ use reports::report::Report;
 use session_messages::missed_message_report::MissedMessageReport;
 use wire::message::{Message, write};
 
-#[tactic(auto, using(crate::proofs::Heard::short, crate::proofs::Heard::sent))]
+#[tactic(auto, using(crate::proofs::Heard::sent))]
 pub(crate) fn send(message: &Message<'_>, out: &mut [u8]) -> usize
     requires { BUFFER ≤ length out.old }
     ensures sent { Sent (written message.now) out.old out.new result }

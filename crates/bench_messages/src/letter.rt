@@ -9,13 +9,10 @@ use crate::mass::MassCancel;
 use crate::session::{Logon, Logout, Sender};
 use crate::trading::{Cancel, Order, Replace};
 use bench_script::command::Request;
-use bench_words::misread::Misread;
 use layout::sequence::LastSequence;
+use script_words::misread::Misread;
 use session_messages::missed_message_request::MissedMessageRequest;
 use wire::message::Message;
-
-/// The most bytes that a request has.
-pub const LONGEST: usize = 112;
 
 /// A message that a request asks for.
 #[derive(Clone, Copy)]

@@ -6,9 +6,9 @@ ghost use Rattle.bench_messages.specs.Takes.{scope_asked, scope_said, take_said,
 
 use crate::words;
 use bench_script::command::Scope;
-use bench_words::misread::Misread;
 use codes::order::Book;
 use order_messages::order_mass_cancel_request::{OrderMassCancelRequest, Scope as MessageScope};
+use script_words::misread::Misread;
 use texts::fixed::RequestId;
 use texts::names::{Segment, Symbol};
 

@@ -5,13 +5,13 @@ ghost use Rattle.texts.specs.Bytes.{said};
 ghost use Rattle.bench_messages.specs.Marks.{auto_cancel_of};
 
 use crate::words;
-use bench_words::misread::Misread;
 use codes::order::{
     AutoCancel, Book, ClearingAccount, OrderCapacity, OrderSubType, PassiveOnly, Side, TimeInForce,
 };
 use order_messages::new_order::NewOrder;
 use order_messages::order_cancel_replace_request::OrderCancelReplaceRequest;
 use order_messages::order_cancel_request::OrderCancelRequest;
+use script_words::misread::Misread;
 use terms::pricing::Pricing;
 use terms::target::Target;
 use texts::fixed::{FixedText, RequestId};

@@ -4,7 +4,7 @@ ghost use Rattle.std.specs.Result.{result_err};
 ghost use Rattle.texts.specs.Bytes.{said};
 ghost use Rattle.bench_messages.specs.Fitting.{client_wrong, original_wrong, segment_wrong, symbol_wrong};
 
-use bench_words::misread::Misread;
+use script_words::misread::Misread;
 use texts::fixed::RequestId;
 use texts::names::{ClientOrderId, Segment, Symbol};
 

@@ -2,10 +2,11 @@
 use crate::failure::Failure;
 use bench_calls::calls::{hear, send, send_recovered, step};
 use bench_calls::state::State;
-use bench_messages::letter::{LONGEST, Letter};
+use bench_messages::letter::Letter;
 use bench_messages::session::Sender;
 use bench_script::command::Request;
 use gateway::gateway::Gateway;
+use limits::MESSAGE_BYTES;
 use matching::matcher::Matcher;
 use std::io;
 use store::Store;
@@ -42,9 +43,9 @@ pub fn ask<R: Print + AllocGlobal, M: Matcher, S: Store>(
         Ok(letter) => letter,
         Err(why) => return Err(Failure::Misread(why)),
     };
-    let mut message = [0; LONGEST];
-    let length = write(&letter.message(), &mut message).unwrap_or(0);
-    let bytes = &message[..length.min(LONGEST)];
+    let mut message = [0; MESSAGE_BYTES];
+    let length = write(&letter.message(), &mut message).unwrap();
+    let bytes = &message[..length];
     hear(
         rt,
         state,

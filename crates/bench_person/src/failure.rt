@@ -1,5 +1,5 @@
 // Why a line of a script is not played.
-use bench_words::misread::Misread;
+use script_words::misread::Misread;
 use std::alloc::AllocError;
 use std::io;
 

@@ -1,13 +1,14 @@
 // A made-up day's requests, built before the clock runs, and what its gateway is started with.
 #![tactic(auto)]
 
-use bench_messages::letter::{LONGEST, Letter};
+use bench_messages::letter::Letter;
 use bench_messages::session::Sender;
 use bench_script::command::{Request, Scope};
 use codes::order::Side;
 use configuration::config::{Config, StartRefusal};
 use configuration::instrument::Instrument;
 use configuration::participant::Participant;
+use limits::{MESSAGE_BYTES, ORDERS};
 use std::alloc::{AllocError, Global};
 use terms::pricing::Pricing;
 use texts::fixed::FixedText;
@@ -16,8 +17,6 @@ use wire::message::write;
 
 /// How many lines a day has.
 pub const LINES: usize = 8;
-/// How many orders a day has.
-pub const ORDERS: usize = 256;
 /// How many of them come between two runs of the matcher.
 pub const BLOCK: usize = 32;
 
@@ -77,12 +76,12 @@ fn sender(line: usize) -> Sender {
 
 // The bytes that a request asks for; none where its words do not fit.
 fn built(heap: Global, line: usize, request: &Request<'_>) -> Result<Asked, AllocError> {
-    let mut message = [0; LONGEST];
+    let mut message = [0; MESSAGE_BYTES];
     let length = match Letter::of(request, &sender(line)) {
-        Ok(letter) => write(&letter.message(), &mut message).unwrap_or(0),
+        Ok(letter) => write(&letter.message(), &mut message).unwrap(),
         Err(_) => 0,
     };
-    let bytes = Vec::from_slice(heap, &message[..length.min(LONGEST)])?;
+    let bytes = Vec::from_slice(heap, &message[..length])?;
     Ok(Asked { line, bytes })
 }
 

@@ -2,13 +2,12 @@
 use Rattle.std.specs.Prelude.{◌≡◌, ℕ, ◌+◌, ◌-◌, ◌/◌, min, Bool, true, List, take, drop, nat_le}
 use Rattle.std.specs.List.{list_all}
 use Rattle.codes.specs.declared.session.Partition.{Partition}
-use Rattle.limits.specs.declared.TheConstants.{REPORTS}
+use Rattle.limits.specs.declared.TheConstants.{MESSAGE_BYTES, REPORTS}
 use Rattle.partitions.specs.declared.per_partition.PerPartition.{PerPartition}
 use Rattle.partitions.specs.PerPartition.{at}
 use Rattle.reports.specs.declared.report.Entry.{Entry}
 use Rattle.reports.specs.declared.report.Report.{Report}
 use Rattle.byte_store.specs.declared.buffered.Place.{Place}
-use Rattle.byte_store.specs.declared.codec.TheConstants.{LONGEST}
 
 -- the bytes at a place
 abbrev pub part : List ℕ → Place → List ℕ
@@ -31,4 +30,4 @@ Within n ps = (p : Partition) → all_within n (at ps p) ≡ true
 
 -- free places: what the free bytes have room for, and no more than 16,384 reports in all
 abbrev pub free_places : ℕ → ℕ → ℕ → ℕ
-free_places size used count = min ((size - used) / LONGEST) (REPORTS - count)
+free_places size used count = min ((size - used) / MESSAGE_BYTES) (REPORTS - count)

@@ -4,9 +4,9 @@ ghost use Rattle.limits.specs.declared.TheConstants.{REPORTS as MOST};
 ghost use Rattle.partitions.specs.Series.{total};
 ghost use Rattle.byte_store.specs.Places.{Within};
 
-use crate::codec::{Codec, LONGEST, Number};
+use crate::codec::{Codec, Number};
 use codes::session::Partition;
-use limits::REPORTS;
+use limits::{MESSAGE_BYTES, REPORTS};
 use partitions::per_partition::PerPartition;
 use partitions::series::{Owned, Series, total};
 use reports::report::Entry;
@@ -74,7 +74,7 @@ impl<C: Codec> Buffered<C> {
     fn free_places(&self) -> usize
         ensures { result ≡ free_in self.now }
     {
-        let free = (self.size - self.buffer.len()) / LONGEST;
+        let free = (self.size - self.buffer.len()) / MESSAGE_BYTES;
         free.min(REPORTS - total(&self.places))
     }
 
@@ -133,7 +133,7 @@ impl<C: Codec> Buffered<C> {
         ensures fewer { free_in self.new ≤ free_in self.old }
         ensures one { free_in self.old ≤ free_in self.new + 1 }
     {
-        let mut bytes = [0; LONGEST];
+        let mut bytes = [0; MESSAGE_BYTES];
         let len = self
             .codec
             .encode(partition, number, entry.report, &mut bytes);

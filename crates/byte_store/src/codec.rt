@@ -1,13 +1,11 @@
 // A report as bytes, and back.
 ghost use Rattle.std.specs.Prelude.{◌≡◌, ℕ, ◌^◌, ◌<◌, ◌≤◌, List, length, take};
 ghost use Rattle.codes.specs.declared.session.Partition.{Partition as Part};
+ghost use Rattle.limits.specs.declared.TheConstants.{MESSAGE_BYTES};
 ghost use Rattle.reports.specs.declared.report.Report.{Report as Told};
 
 use codes::session::Partition;
 use reports::report::Report;
-
-/// The most bytes that a report takes.
-pub const LONGEST: usize = 145;
 
 /// A report's number in its partition, which a signed field of four bytes holds.
 #[derive(Clone, Copy)]
@@ -24,9 +22,9 @@ pub trait Codec {
 
     /// Writes a report to the front of a buffer, and answers how many bytes it takes.
     fn encode(&self, partition: Partition, number: Number, report: Report, out: &mut [u8]) -> usize
-        requires { LONGEST ≤ length out.old }
+        requires { MESSAGE_BYTES ≤ length out.old }
         ensures bytes { take result out.new ≡ coded partition number.value report }
-        ensures short { result ≤ LONGEST }
+        ensures short { result ≤ MESSAGE_BYTES }
         ensures back { decoded (coded partition number.value report) ≡ report };
 
     fn decode(&self, bytes: &[u8]) -> Report

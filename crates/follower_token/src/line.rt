@@ -9,6 +9,7 @@ use follower::fault::FollowerFault;
 use follower::pending::Pending;
 use follower::state::Follower;
 use std::io;
+use wire::message::BUFFER;
 
 /// A connection begins or ends, a message comes on one of its channels, or the desk asks for a partition's
 /// download.
@@ -115,7 +116,7 @@ pub fn day<R: Print>(rt: &R, follower: &mut Follower, events: &[Event]) -> io::R
     ensures down { follower.new.up ≡ false }
     ensures none { follower.new.download ≡ Idle }
 {
-    let mut out = [0; 512];
+    let mut out = [0; BUFFER];
     let mut pending = Pending::Idle;
     let mut printed = Ok(());
     for event in events {

@@ -11,7 +11,7 @@ use terms::execution::Execution;
 use texts::fixed::FixedText;
 use texts::identifiers::OrderId;
 use texts::values::{Price, Time};
-use wire::message::{Message, write};
+use wire::message::{BUFFER, Message, write};
 
 /// What an Execution Report says of its order.
 #[derive(Clone, Copy)]
@@ -24,9 +24,9 @@ pub struct Said {
 }
 
 fn bytes(alloc: Global, message: &Message<'_>) -> Result<Vec<u8>, AllocError> {
-    let mut out = [0; 512];
-    let len = write(message, &mut out).unwrap_or(0);
-    Vec::from_slice(alloc, &out[..len.min(512)])
+    let mut out = [0; BUFFER];
+    let len = write(message, &mut out).unwrap();
+    Vec::from_slice(alloc, &out[..len])
 }
 
 /// An Execution Report of the first partition, under a number.

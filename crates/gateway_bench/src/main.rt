@@ -4,11 +4,10 @@
 mod walk;
 
 use bench_plan::{Asked, BLOCK, Plan, config, made_up};
-use byte_store::codec::LONGEST;
 use codes::session::Partition;
 use console::{About, Task};
 use gateway::gateway::Gateway;
-use limits::{REPORTS, TRADES};
+use limits::{MESSAGE_BYTES, REPORTS, TRADES};
 use lit_book::book::LitBook;
 use matching::matcher::Matcher;
 use matching::tape::{Line, Tape};
@@ -207,7 +206,7 @@ impl Task for Bench {
     fn work<R: Print + Eprint + Clock + AllocGlobal>(&mut self, rt: &R) -> io::Result<()> {
         let heap = rt.alloc();
         let plan = made_up(heap)?;
-        let bytes = REPORTS * LONGEST;
+        let bytes = REPORTS * MESSAGE_BYTES;
         let records = Records::new(heap, REPORTS);
         day(rt, "lit book, records", LitBook::new(heap), records, &plan)?;
         let wire = wire_store::new(heap, bytes);

@@ -1,12 +1,10 @@
 -- A message that was read lies in its bytes, and one that was written stands at the front of its buffer. Assumes nothing.
-use Rattle.std.proofs.Common.{◌≡◌, ℕ, ◌+◌, ◌-◌, ◌≤◌, true, List, ◌++◌, length, take, drop, ap, ◌∙◌, arith, lit≤, length-append, length-drop}
+use Rattle.std.proofs.Common.{◌≡◌, ℕ, ◌+◌, ◌-◌, ◌≤◌, true, List, ◌++◌, length, take, drop, ap, ◌∙◌, arith, length-append, length-drop}
 use Rattle.std.proofs.lemmas.List.{take_at}
 use Rattle.layout.specs.Layout.{within}
 use Rattle.wire.specs.declared.kinds.Channel.{Channel}
-use Rattle.wire.specs.declared.kinds.Kind.{Kind}
-use Rattle.wire.specs.declared.kinds.Kind.TheVariants as kind
 use Rattle.wire.specs.declared.message.Message.{Message}
-use Rattle.wire.specs.Kinds.{total_of, table_of}
+use Rattle.wire.specs.Kinds.{table_of}
 use Rattle.wire.specs.Messages.{Reads, kind_of}
 use Rattle.wire.proofs.Headers.{opened_by}
 use Rattle.wire.proofs.Sound.{sound}
@@ -24,8 +22,3 @@ front w b a n h l e =
     let k : length a ≡ length w + (length b - n) = simp (length-append, length-drop) at (ap length e) in
     let j : length w ≡ n = omega arith in
     ap (take n) e ∙ take_at w (drop n b) n j
-
--- no message has more bytes than a report of an execution
-pub total_few : (k : Kind) → total_of k ≤ 145
-total_few kind.Logon = lit≤ tt
-total_few _ = lit≤ tt

@@ -11,12 +11,10 @@ use crate::account::Outcome;
 use crate::line::{Line, is_text, parse};
 use crate::shown::Shown;
 use layout::reader::Reader;
+use limits::MESSAGE_BYTES;
 use std::alloc::{AllocError, Global};
 use wire::kinds::Channel;
 use wire::message::{Message, read, write};
-
-/// The most bytes that a message has.
-const LONGEST: usize = 145;
 
 /// The text to print for a line, and how the line counts.
 #[derive(Drop)]
@@ -44,11 +42,9 @@ fn render(heap: Global, message: &Message<'_>, bytes: &[u8]) -> Result<String, A
 fn is_same_again(message: &Message<'_>, bytes: &[u8]) -> bool
     ensures { result ≡ bytes_eq (written message.now) bytes.now }
 {
-    let mut out = [0; LONGEST];
-    match write(message, &mut out) {
-        Ok(n) => is_text(&out[0..n], bytes),
-        Err(_) => false,
-    }
+    let mut out = [0; MESSAGE_BYTES];
+    let n = write(message, &mut out).unwrap();
+    is_text(&out[..n], bytes)
 }
 
 /// What the bytes of a message are answered: the message as text, or the check that refuses it and the offset.

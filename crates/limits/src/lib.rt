@@ -1,7 +1,7 @@
-// The limits of a day, each in one place.
+// The limits of a day and of a message, each in one place.
 #![tactic(auto)]
 
-/// How many orders a day has room for, at the gateway and at each owner.
+/// How many orders a day has room for, at the gateway and at each owner; a lit book takes as many at a time.
 pub const ORDERS: usize = 256;
 
 /// How many trades a day has room for.
@@ -24,3 +24,6 @@ pub const COMP_IDS: usize = 8;
 
 /// How many instruments a gateway serves.
 pub const INSTRUMENTS: usize = 32;
+
+/// How many bytes the longest message has, and so the longest report that a store keeps.
+pub const MESSAGE_BYTES: usize = 145;

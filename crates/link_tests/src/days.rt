@@ -19,6 +19,7 @@ use terms::target::Target;
 use texts::fixed::{FixedText, RequestId};
 use texts::values::Price;
 use wire::kinds::Kind;
+use wire::message::BUFFER;
 
 const LOGON: &str =
     "024d004143300000000000000000000000000000000000000000000000503000000000000000000000000000000000000000000000000000000000000000000000000000000000000000000000000001";
@@ -61,16 +62,16 @@ fn trading(out: &mut [u8], reply: &[u8]) -> Result<Trading, Fail> {
 
 #[test]
 fn logs_on(rt: HostRuntime) -> Result<(), Fail> {
-    let mut out = [7; 512];
+    let mut out = [7; BUFFER];
     let (len, _) = logged_on(&mut out)?;
-    assert!(rt; len <= 512);
+    assert!(rt; len <= BUFFER);
     assert_eq!(rt; hex::encode(rt.alloc(), &out[..len])?.as_str(), LOGON);
     Ok(())
 }
 
 #[test]
 fn is_refused(rt: HostRuntime) -> Result<(), Fail> {
-    let mut out = [7; 512];
+    let mut out = [7; BUFFER];
     let refusal = hex::decode(rt.alloc(), REFUSED)?;
     let (_, link) = logged_on(&mut out)?;
     assert!(rt; matches!(link.reply(&refusal), Err(NotTrading::Refused(_, 12))));
@@ -79,7 +80,7 @@ fn is_refused(rt: HostRuntime) -> Result<(), Fail> {
 
 #[test]
 fn awaits(rt: HostRuntime) -> Result<(), Fail> {
-    let mut out = [7; 512];
+    let mut out = [7; BUFFER];
     let heartbeat = hex::decode(rt.alloc(), HEARTBEAT)?;
     let (_, link) = logged_on(&mut out)?;
     assert!(rt;
@@ -100,7 +101,7 @@ fn awaits(rt: HostRuntime) -> Result<(), Fail> {
 
 #[test]
 fn orders(rt: HostRuntime) -> Result<(), Fail> {
-    let mut out = [7; 512];
+    let mut out = [7; BUFFER];
     let accepted = hex::decode(rt.alloc(), ACCEPTED)?;
     let link = trading(&mut out, &accepted)?;
     let id = RequestId::new(b"c7").ok_or("name")?;
@@ -127,14 +128,14 @@ fn orders(rt: HostRuntime) -> Result<(), Fail> {
         passive_only: PassiveOnly::NoConstraint,
     };
     let len = link.new_order(&order, &mut out).ok().ok_or("short")?;
-    assert!(rt; len <= 512);
+    assert!(rt; len <= BUFFER);
     assert_eq!(rt; hex::encode(rt.alloc(), &out[..len])?.as_str(), ORDER);
     Ok(())
 }
 
 #[test]
 fn cancels(rt: HostRuntime) -> Result<(), Fail> {
-    let mut out = [7; 512];
+    let mut out = [7; BUFFER];
     let accepted = hex::decode(rt.alloc(), ACCEPTED)?;
     let link = trading(&mut out, &accepted)?;
     let id = RequestId::new(b"c3").ok_or("name")?;
@@ -149,7 +150,7 @@ fn cancels(rt: HostRuntime) -> Result<(), Fail> {
         book: Book::Integrated,
     };
     let len = link.cancel(&request, &mut out).ok().ok_or("short")?;
-    assert!(rt; len <= 512);
+    assert!(rt; len <= BUFFER);
     assert_eq!(rt; hex::encode(rt.alloc(), &out[..len])?.as_str(), CANCEL);
     let request = OrderMassCancelRequest {
         client_order_id: id.as_name(),
@@ -162,7 +163,7 @@ fn cancels(rt: HostRuntime) -> Result<(), Fail> {
 
 #[test]
 fn replaces(rt: HostRuntime) -> Result<(), Fail> {
-    let mut out = [7; 512];
+    let mut out = [7; BUFFER];
     let accepted = hex::decode(rt.alloc(), ACCEPTED)?;
     let link = trading(&mut out, &accepted)?;
     let id = RequestId::new(b"c3").ok_or("name")?;
@@ -192,25 +193,25 @@ fn replaces(rt: HostRuntime) -> Result<(), Fail> {
 
 #[test]
 fn logs_out(rt: HostRuntime) -> Result<(), Fail> {
-    let mut out = [7; 512];
+    let mut out = [7; BUFFER];
     let accepted = hex::decode(rt.alloc(), ACCEPTED)?;
     let link = trading(&mut out, &accepted)?;
     let len = link.heartbeat(&mut out).ok().ok_or("short")?;
-    assert!(rt; len <= 512);
+    assert!(rt; len <= BUFFER);
     assert_eq!(rt; hex::encode(rt.alloc(), &out[..len])?.as_str(), HEARTBEAT);
     let none = FixedText::empty();
     let logout = Logout {
         reason: none.as_text(),
     };
     let (len, _) = link.logout(&logout, &mut out).ok().ok_or("short")?;
-    assert!(rt; len <= 512);
+    assert!(rt; len <= BUFFER);
     assert_eq!(rt; hex::encode(rt.alloc(), &out[..len])?.as_str(), LOGOUT);
     Ok(())
 }
 
 #[test]
 fn is_lost(rt: HostRuntime) -> Result<(), Fail> {
-    let mut out = [7; 512];
+    let mut out = [7; BUFFER];
     let accepted = hex::decode(rt.alloc(), ACCEPTED)?;
     let (_, link) = logged_on(&mut out)?;
     assert_eq!(rt; link.comp_id().as_bytes(), b"C0".as_slice());

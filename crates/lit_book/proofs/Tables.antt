@@ -13,7 +13,7 @@ use Rattle.std.specs.Option.{option_map}
 use Rattle.keyed.specs.Look.{put}
 use Rattle.matching.specs.declared.matcher.Held.{Held}
 use Rattle.matching.specs.Meaning.{closed, opened, resized}
-use Rattle.lit_book.specs.declared.book.TheConstants.{CAPACITY}
+use Rattle.limits.specs.declared.TheConstants.{ORDERS}
 use Rattle.lit_book.specs.declared.order.Order.{Order}
 use Rattle.lit_book.specs.Books.{lit_up}
 use Rattle.lit_book.specs.Orders.{rests, with_quantity}
@@ -58,12 +58,12 @@ pub add_open : (xs : List Order) (o : Order) → All Open xs → 0 < o.quantity 
 add_open xs o h lt = All-push Open xs o h lt
 
 pub add_turn : (xs : List Order) (k : ℕ) (ns : List ℕ) (o : Order) → ns ≡ map order_number (drop k xs) → k ≤ length xs
-    → length xs < CAPACITY
-    → cond (nat_lt (length ns) CAPACITY) (ns ++ o.number ∷ []) ns ≡ map order_number (drop k (xs ++ o ∷ []))
+    → length xs < ORDERS
+    → cond (nat_lt (length ns) ORDERS) (ns ++ o.number ∷ []) ns ≡ map order_number (drop k (xs ++ o ∷ []))
 add_turn xs k ns o t le room =
     let e = ap length t ∙ length-map (drop k xs) order_number in
     let d = length-drop k xs in
-    cond-true (nat_lt (length ns) CAPACITY) _ _ (lt-ltb _ _ (omega arith))
+    cond-true (nat_lt (length ns) ORDERS) _ _ (lt-ltb _ _ (omega arith))
     ∙ ap (λ (l : List ℕ). l ++ o.number ∷ []) t
     ∙ sym (map_push order_number (drop k xs) o)
     ∙ ap (map order_number) (sym (drop-append-le k xs (o ∷ []) le))

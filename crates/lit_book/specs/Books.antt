@@ -5,7 +5,7 @@ use Rattle.std.specs.FinMap.{len}
 use Rattle.keyed.proofs.Tables.{count}
 use Rattle.matching.specs.Meaning.{Meaning, Orders}
 use Rattle.lit_book.specs.declared.book.LitBook.{LitBook}
-use Rattle.lit_book.specs.declared.book.TheConstants.{CAPACITY}
+use Rattle.limits.specs.declared.TheConstants.{ORDERS}
 use Rattle.lit_book.specs.declared.order.Order.{Order}
 use Rattle.lit_book.specs.Lists.{order_held, order_number, orders_of}
 use Rattle.matching.specs.declared.event.Event.{Event}
@@ -20,7 +20,7 @@ lit b = record { resting = take b.resting (table b); waiting = drop b.resting (t
 
 -- such orders, of the integrated book
 abbrev pub lit_up : Orders → Meaning
-lit_up os = record { orders = os; capacity = CAPACITY; dark_midpoint = false; integrated = true }
+lit_up os = record { orders = os; capacity = ORDERS; dark_midpoint = false; integrated = true }
 
 abbrev pub lit_meaning : LitBook → Meaning
 lit_meaning b = lit_up (orders_of (table b))

@@ -1,21 +1,19 @@
 // The lit book: its orders in memory of its own, the rules by which they trade, and the book as a matching engine.
 ghost use Rattle.std.specs.Prelude.{◌≡◌, ◌<◌, ◌≤◌, true, map, take, drop, IfSome, vec_len, vec_capacity};
 ghost use Rattle.std.specs.List.{All};
+ghost use Rattle.limits.specs.declared.TheConstants as limit;
 ghost use Rattle.lit_book.specs.Rules.{left_of};
 ghost use Rattle.lit_book.specs.Lists.{all_apart, order_number, settled};
-ghost use Rattle.lit_book.specs.declared.book.TheConstants as limit;
 
 use crate::order::Order;
 use crate::turns::Turns;
 use codes::order::Book;
 use keyed::place_of;
+use limits::ORDERS;
 use matching::event::Event;
 use matching::matcher::{Held, Matcher, Refusal, Terms};
 use std::alloc::{AllocError, Global};
 use texts::values::Price;
-
-/// How many orders a lit book takes at a time.
-pub const CAPACITY: usize = 256;
 
 /// A lit book. All its memory is reserved when it is made.
 #[derive(Drop)]
@@ -26,8 +24,8 @@ pub struct LitBook {
     resting: usize,
     // the numbers of the waiting ones
     turns: Turns,
-    ghost reserved: { limit.CAPACITY ≤ vec_capacity orders },
-    ghost limited: { vec_len orders ≤ limit.CAPACITY },
+    ghost reserved: { limit.ORDERS ≤ vec_capacity orders },
+    ghost limited: { vec_len orders ≤ limit.ORDERS },
     ghost within: { resting ≤ vec_len orders },
     ghost apart: { all_apart orders.items ≡ true },
     ghost nonzero: { All (λ o. 0 < o.quantity) orders.items },
@@ -70,7 +68,7 @@ impl LitBook {
     ghost use Rattle.lit_book.specs.Orders.{rests};
     ghost use Rattle.lit_book.specs.Rules.{altered, amended, entered, left_of, next, order_under, trade_of, traded};
     ghost use Rattle.lit_book.specs.Steps.{TurnIs, remaining};
-    ghost use Rattle.lit_book.specs.declared.book.TheConstants as limit;
+    ghost use Rattle.limits.specs.declared.TheConstants.{ORDERS};
 
     /// An empty book. The rules that it follows give the worked example, and the law that of equals the first to rest is
     /// served refuses the other.
@@ -80,7 +78,7 @@ impl LitBook {
         ensures example { Worked }
         ensures law { LastRefused }
     {
-        let orders = Vec::with_capacity(heap, CAPACITY)?;
+        let orders = Vec::with_capacity(heap, ORDERS)?;
         Ok(LitBook {
             orders,
             resting: 0,
@@ -136,7 +134,7 @@ impl LitBook {
     #[tactic(auto, using(crate::proofs::Tables::add_means, crate::proofs::Tables::add_apart, crate::proofs::Tables::add_open, crate::proofs::Tables::add_turn, crate::proofs::Tables::add_settled))]
     fn add(&mut self, order: Order)
         requires new { get (lit_meaning self.old).orders order.number ≡ None }
-        requires room { vec_len self.old.orders < limit.CAPACITY }
+        requires room { vec_len self.old.orders < ORDERS }
         requires some { 0 < order.quantity }
         ensures lists { lit self.new ≡ entered (lit self.old) order }
         ensures after { lit_meaning self.new ≡ opened (lit_meaning self.old) order.number (order_held order) }
@@ -316,7 +314,7 @@ impl Matcher for LitBook {
         if self.is_open(number) {
             return Err(Refusal::NumberOpen);
         }
-        if self.open_count() >= CAPACITY {
+        if self.open_count() >= ORDERS {
             return Err(Refusal::Full);
         }
         self.add(Order::new(number, terms));
@@ -381,7 +379,7 @@ impl Matcher for LitBook {
     }
 
     fn capacity(&self) -> usize {
-        CAPACITY
+        ORDERS
     }
 
     fn serves(&self, book: Book) -> bool {

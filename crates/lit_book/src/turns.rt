@@ -1,15 +1,15 @@
 // The numbers of the waiting orders in turn, in a queue over memory of the book's own.
 ghost use Rattle.std.specs.Prelude.{◌≡◌, [], ◌∷◌, ◌++◌, length, drop, if◌then◌else◌, nat_lt};
 ghost use Rattle.std.specs.List.{slice_get, remove};
-ghost use Rattle.lit_book.specs.declared.book.TheConstants as limit;
+ghost use Rattle.limits.specs.declared.TheConstants as limit;
 
-use crate::book::CAPACITY;
+use limits::ORDERS;
 use queue::{Marks, Queue};
 use std::marker::Model;
 
 #[derive(Drop)]
 pub(crate) struct Turns {
-    slots: [u64; CAPACITY],
+    slots: [u64; ORDERS],
     marks: Marks,
 }
 
@@ -29,7 +29,7 @@ impl Turns {
         ensures { result ≡ [] }
     {
         Turns {
-            slots: [0; CAPACITY],
+            slots: [0; ORDERS],
             marks: Marks { head: 0, len: 0 },
         }
     }
@@ -47,7 +47,7 @@ impl Turns {
 
     // One more at the back, where there is room.
     pub(crate) fn join(&mut self, number: u64)
-        ensures { self.new ≡ (if nat_lt (length self.old) limit.CAPACITY then self.old ++ number ∷ [] else self.old) }
+        ensures { self.new ≡ (if nat_lt (length self.old) limit.ORDERS then self.old ++ number ∷ [] else self.old) }
     {
         let mut queue = Queue::resume(&mut self.slots, self.marks);
         let _ = queue.push(number);

@@ -129,7 +129,7 @@ impl<'a> Scope<'a> {
     // The kind, and what belongs to it.
     #[tactic(auto, unfolding(layout::specs::Layout::taken))]
     fn at(r: &Reader<'a>) -> Scope<'a>
-        requires room { 46 ≤ length r.now.src.now }
+        requires room { TOTAL ≤ length r.now.src.now }
         requires good { AllOk scope_fields r.now.src.now }
         ensures says { Says (scope_contents result) scope_fields r.now.src.now }
         ensures placed { scope_places result ≡ text_places scope_fields r.now.src.now }

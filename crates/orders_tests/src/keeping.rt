@@ -1,6 +1,6 @@
 // A store that fills up.
-use byte_store::codec::LONGEST;
 use codes::session::Partition;
+use limits::MESSAGE_BYTES;
 use reports::report::{CancelReject, Entry, Report};
 use std::test::Fail;
 use store::Store;
@@ -61,7 +61,7 @@ fn records_keep(rt: HostRuntime) -> Result<(), Fail> {
 
 #[test]
 fn wire_bytes_keep(rt: HostRuntime) -> Result<(), Fail> {
-    let mut store = wire_store::new(rt.alloc(), 3 * LONGEST)?;
+    let mut store = wire_store::new(rt.alloc(), 3 * MESSAGE_BYTES)?;
     assert_eq!(rt; store.places(), 3);
     let kept = numbers_and_owners(&mut store);
     assert_eq!(rt; store.places(), 1);

@@ -6,9 +6,8 @@ mod walk;
 
 use crate::day::OWNERS;
 use crate::walk::{fill, find_all, find_owner, read_all};
-use byte_store::codec::LONGEST;
 use console::{About, Task};
-use limits::REPORTS;
+use limits::{MESSAGE_BYTES, REPORTS};
 use std::io;
 use std::process::ExitCode;
 use std::rt::Clock;
@@ -69,7 +68,7 @@ impl Task for Bench {
     fn work<R: Print + Eprint + Clock + AllocGlobal>(&mut self, rt: &R) -> io::Result<()> {
         let mut records = Records::new(rt.alloc(), REPORTS)?;
         run(rt, "records", &mut records)?;
-        let mut bytes = wire_store::new(rt.alloc(), REPORTS * LONGEST)?;
+        let mut bytes = wire_store::new(rt.alloc(), REPORTS * MESSAGE_BYTES)?;
         run(rt, "wire bytes", &mut bytes)
     }
 }

@@ -1,11 +1,10 @@
 -- The checks of a header: what passes them. Assumes nothing.
-use Rattle.std.proofs.Common.{◌&&◌, ◌||◌, ◌≡◌, ℕ, ◌-◌, Bool, true, false, cond, eqb, ltb, List, length, Some, None, Ok, Err, Option, Result, IfOk, sym, refl, ap, ◌∙◌, eqb-true}
+use Rattle.std.proofs.Common.{◌&&◌, ◌||◌, ◌≡◌, ℕ, Bool, true, false, cond, eqb, ltb, List, length, Some, None, Ok, Err, Option, Result, IfOk, sym, refl, ap, ◌∙◌, eqb-true}
 use Rattle.texts.specs.Bytes.{le}
 use Rattle.texts.proofs.Padding.{both_true}
 use Rattle.layout.specs.declared.fault.Fault.{Fault}
 use Rattle.layout.specs.declared.fault.Fault.TheVariants.{Short, Start, Length}
 use Rattle.layout.specs.Layout.{part}
-use Rattle.layout.specs.Writing.{header}
 use Rattle.wire.specs.declared.kinds.Channel.{Channel}
 use Rattle.wire.specs.declared.kinds.Kind.{Kind}
 use Rattle.wire.specs.Kinds.{letter_of, total_of, takes}

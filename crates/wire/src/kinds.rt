@@ -1,5 +1,6 @@
 // The kinds of messages, and which of them each reader takes.
-ghost use Rattle.std.specs.Prelude.{◌≡◌};
+ghost use Rattle.std.specs.Prelude.{◌≡◌, ◌≤◌};
+ghost use Rattle.limits.specs.declared.TheConstants.{MESSAGE_BYTES};
 ghost use Rattle.wire.specs.Kinds.{kinds_of, letter_of, total_of, table_of, takes};
 
 use layout::field::Field;
@@ -115,7 +116,8 @@ impl Kind {
 
     /// How many bytes a message of the kind has in all.
     pub fn total(self) -> usize
-        ensures { result ≡ total_of self }
+        ensures total { result ≡ total_of self }
+        ensures longest { result ≤ MESSAGE_BYTES }
     {
         usize::from(self.shape().total)
     }

@@ -1,5 +1,6 @@
 // Any message: read from bytes, and written to bytes.
 ghost use Rattle.std.specs.Prelude.{◌≡◌, ◌≤◌, ◌++◌, length, drop, IfOk, OnOk};
+ghost use Rattle.limits.specs.declared.TheConstants.{MESSAGE_BYTES};
 ghost use Rattle.wire.specs.Kinds.{total_of};
 ghost use Rattle.wire.specs.Messages.{opening, kind_of, written, Holdable, GivenBack, Apart, Again, WasRead, Wrote};
 
@@ -166,6 +167,7 @@ fn write_kind(message: &Message<'_>, out: &mut [u8])
 #[tactic(auto, using(crate::proofs::Returning::given_back, crate::proofs::Returning::apart))]
 pub fn write(message: &Message<'_>, out: &mut [u8]) -> Result<usize, TooShort>
     ensures bytes { Wrote message.now out.old out.new result }
+    ensures longest { total_of (kind_of message.now) ≤ MESSAGE_BYTES }
     ensures holds { OnOk result (Holdable message.now) }
     ensures back { OnOk result (GivenBack message.now) }
     ensures apart { OnOk result (Apart message.now) }

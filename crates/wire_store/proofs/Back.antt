@@ -1,5 +1,5 @@
 -- What is told from a message's contents is what the message tells. Assumes nothing.
-use Rattle.std.proofs.Common.{◌≡◌, ℕ, ◌≤◌, cond, List, [], ◌∷◌, ◌++◌, map, length, take, drop, replicate, pos, Some, None, Ok, Option, refl, sym, ap, ◌∙◌, subst, arith, le-leb}
+use Rattle.std.proofs.Common.{◌≡◌, ℕ, cond, List, [], ◌∷◌, ◌++◌, map, length, take, drop, replicate, pos, Some, None, Ok, Option, refl, sym, ap, ◌∙◌, subst, arith, le-leb}
 use Rattle.std.specs.Option.{unwrap_or, is_some, option_map}
 use Rattle.std.proofs.lemmas.Bool.{and_from, cond-true}
 use Rattle.std.proofs.lemmas.List.{length-take-le, take_at}
@@ -39,7 +39,6 @@ use Rattle.layout.specs.Layout.{Content, got, Says}
 use Rattle.layout.specs.Writing.{header, encode}
 use Rattle.order_messages.specs.Terms.{execution_reject, execution_liquidity, execution_trade}
 use Rattle.wire.specs.declared.kinds.Channel.TheVariants.{Follower}
-use Rattle.wire.specs.declared.kinds.Kind.{Kind}
 use Rattle.wire.specs.declared.message.Message.{Message}
 use Rattle.wire.specs.declared.message.Message.TheVariants as message
 use Rattle.wire.specs.Kinds.{letter_of, total_of, table_of, takes}
@@ -204,11 +203,6 @@ follower_takes : (r : Report) → takes Follower (letter_of (kind_told r)) ≡ S
 follower_takes (report.Execution e) = refl
 follower_takes (report.CancelReject e) = refl
 follower_takes (report.MassCancel e) = refl
-
-pub short : (r : Report) (k : Kind) (n : ℕ) → k ≡ kind_told r → n ≡ total_of k → n ≤ 145
-short (report.Execution e) k n h t = let x = t ∙ ap total_of h in omega (arith, x)
-short (report.CancelReject e) k n h t = let x = t ∙ ap total_of h in omega (arith, x)
-short (report.MassCancel e) k n h t = let x = t ∙ ap total_of h in omega (arith, x)
 
 module _ (p : Partition) (n : ℕ) (r : Report) (m : Message) (k : kind_of m ≡ kind_told r)
     (c : contents_of m ≡ told_as p n r) (h : Holdable m) where

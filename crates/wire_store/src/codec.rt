@@ -1,6 +1,6 @@
 // A report as the bytes of its message, and back.
 ghost use Rattle.std.specs.Prelude.{◌≡◌, ◌≤◌, ◌<◌, length, take, is_some};
-ghost use Rattle.byte_store.specs.declared.codec.TheConstants.{LONGEST};
+ghost use Rattle.limits.specs.declared.TheConstants.{MESSAGE_BYTES};
 ghost use Rattle.report_messages.specs.Telling.{report_bytes};
 ghost use Rattle.wire_store.specs.Told.{decoded, nothing_told};
 
@@ -42,11 +42,11 @@ fn report_in(bytes: &[u8]) -> Report
     }
 }
 
-#[tactic(auto, using(crate::proofs::Back::whole, crate::proofs::Back::short))]
+#[tactic(auto, using(crate::proofs::Back::whole))]
 fn write_report(partition: Partition, number: Number, report: Report, out: &mut [u8]) -> usize
-    requires { LONGEST ≤ length out.old }
+    requires { MESSAGE_BYTES ≤ length out.old }
     ensures bytes { take result out.new ≡ report_bytes partition number.value report }
-    ensures short { result ≤ LONGEST }
+    ensures short { result ≤ MESSAGE_BYTES }
     ensures back { decoded (report_bytes partition number.value report) ≡ report }
 {
     let telling = Telling::new(partition, number.value, report).unwrap();

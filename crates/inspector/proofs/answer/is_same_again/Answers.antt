@@ -1,14 +1,14 @@
-use Rattle.std.proofs.Common.{◌≡◌, ℕ, ◌-◌, length, take, replicate, ap, ◌∙◌, arith, rules}
+use Rattle.std.proofs.Common.{◌≡◌, ℕ, List, length, take, replicate, ap, ◌∙◌, subst, rules}
 use Rattle.std.specs.Str.{bytes_eq}
-use Rattle.wire.specs.Messages.{written}
+use Rattle.limits.specs.declared.TheConstants.{MESSAGE_BYTES}
+use Rattle.wire.specs.Messages.{written, Wrote}
 use Rattle.inspector.proofs.Buffers.{front}
 use Rattle.inspector.proofs.answer.is_same_again.Goals as goal
 
-pub returns-in-Ok : goal.returns-in-Ok
-returns-in-Ok c =
-    let h = c.in-Ok.ensures.bytes in
-    let l : length c.write.new.out ≡ length (replicate {A = ℕ} 145 0) = search rules in
-    let w = front (written c.args.message.now) (replicate {A = ℕ} 145 0) c.write.new.out c.in-Ok.n h.1 l h.2 in
-    let z : c.in-Ok.n - 0 ≡ c.in-Ok.n = omega arith in
-    c.is_text.ensures ∙ ap (λ n. bytes_eq (take n c.write.new.out) c.args.bytes.now) z ∙ ap
-    (λ t. bytes_eq t c.args.bytes.now) w
+pub returns : goal.returns
+returns c =
+    let blank : List ℕ = replicate MESSAGE_BYTES 0 in
+    let w = subst (Wrote c.args.message.now blank c.write.new.out) c.unwrap-n.ensures c.write.ensures.bytes in
+    let l : length c.write.new.out ≡ length blank = search rules in
+    c.is_text.ensures ∙ ap (λ t. bytes_eq t c.args.bytes.now)
+    (front (written c.args.message.now) blank c.write.new.out c.unwrap-n.result w.1 l w.2)
