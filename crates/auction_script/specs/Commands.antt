@@ -1,7 +1,6 @@
 -- What the words of a call say: a command whose parts are those words, or the first word that cannot be read. Assumes
 -- nothing.
 use Rattle.std.specs.Prelude.{◌≡◌, ℕ, List, [], length, Ok, Err, codes, Result, slice_index_or}
-use Rattle.std.specs.Borrow.{Bor}
 use Rattle.codes.specs.declared.order.Book.TheVariants.{Integrated}
 use Rattle.codes.specs.declared.order.OrderType.{OrderType as Kind}
 use Rattle.codes.specs.declared.order.OrderType.TheVariants as kind
@@ -12,6 +11,7 @@ use Rattle.auction_script.specs.declared.command.Command.{Command}
 use Rattle.auction_script.specs.declared.command.Command.TheVariants.{Enter, Cancel, Amend, Run, Show}
 use Rattle.auction_script.specs.declared.command.Misread.{Misread}
 use Rattle.auction_script.specs.declared.command.Misread.TheVariants.{Text, Call, Number, Instrument, Side, OrderType, TimeInForce, Price, Quantity}
+use Rattle.script_words.specs.Lines.{Words}
 use Rattle.auction_script.specs.Words.{ForceRead, IsNumber, IsPrice, KindRead, Neither, NumberRead, OneOf, PriceRead, SideRead}
 
 -- an order's price by its type; a market order keeps none
@@ -89,9 +89,6 @@ EnterRead n i s k f p q (Ok Show) = ⊥
 EnterRead n i s k f p q (Err e) = EnterWrong n i s k f p q e
 
 -- ---- all words of a line
-
-abbrev pub Words : Type 0
-Words = List (Bor (List ℕ))
 
 -- the text of a line's word, the first at 0
 abbrev pub word : Words → ℕ → List ℕ

@@ -1,9 +1,10 @@
 // One line of a script, as the bytes that a program reads.
-ghost use Rattle.std.specs.Prelude.{◌≡◌, IfOk};
-ghost use Rattle.auction_script.specs.Lines.{LineRead, is_comment, skips};
+ghost use Rattle.std.specs.Prelude.{IfOk};
+ghost use Rattle.auction_script.specs.Lines.{LineRead};
 
 use crate::command;
 use crate::command::{Command, Misread};
+use script_words::line::{is_skipped, parted};
 use std::alloc::{AllocError, Global};
 
 /// What a line of a script says.
@@ -15,33 +16,13 @@ pub enum Line {
     Misread(Misread),
 }
 
-fn is_comment(word: &str) -> bool
-    ensures { result ≡ is_comment word.now }
-{
-    match word.as_bytes() {
-        [first, ..] => *first == b'#',
-        [] => false,
-    }
-}
-
-fn is_skipped(words: &[&str]) -> bool
-    ensures { result ≡ skips words.now }
-{
-    match *words {
-        [first, ..] => is_comment(first),
-        [] => true,
-    }
-}
-
 /// What a line says, given without the bytes that end it. One that is no text is misread like any other.
 pub fn read(heap: Global, line: &[u8]) -> Result<Line, AllocError>
     ensures { IfOk result (LineRead line.now) }
 {
-    let text = match str::from_utf8(line) {
-        Ok(text) => text,
-        Err(_) => return Ok(Line::Misread(Misread::Text)),
+    let Some(words) = parted(heap, line)? else {
+        return Ok(Line::Misread(Misread::Text));
     };
-    let words: Vec<&str> = text.split_whitespace().collect(heap)?;
     if is_skipped(&words) {
         return Ok(Line::Skipped);
     }

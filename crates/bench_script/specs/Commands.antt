@@ -5,7 +5,7 @@ use Rattle.std.specs.Str.{bytes_eq}
 use Rattle.codes.specs.declared.order.Side.{Side}
 use Rattle.codes.specs.declared.order.Side.TheVariants as side
 use Rattle.texts.specs.declared.values.Time.{Time}
-use Rattle.bench_words.specs.declared.bytes.Bytes.{Bytes}
+use Rattle.script_words.specs.declared.bytes.Bytes.{Bytes}
 use Rattle.bench_script.specs.declared.command.Cable.TheVariants as cable
 use Rattle.bench_script.specs.declared.command.Call.TheVariants as call
 use Rattle.bench_script.specs.declared.command.Command.{Command}
@@ -16,15 +16,15 @@ use Rattle.bench_script.specs.declared.command.Scope.{Scope}
 use Rattle.bench_script.specs.declared.command.Scope.TheVariants as scope
 use Rattle.bench_script.specs.declared.command.Setup.TheVariants as setup
 use Rattle.bench_script.specs.declared.command.Style.TheVariants as style
-use Rattle.bench_words.specs.declared.misread.Misread.{Misread}
-use Rattle.bench_words.specs.declared.misread.Misread.TheVariants as why
+use Rattle.script_words.specs.declared.misread.Misread.{Misread}
+use Rattle.script_words.specs.declared.misread.Misread.TheVariants as why
 use Rattle.bench_script.specs.declared.verb.Verb.{Verb}
 use Rattle.bench_script.specs.declared.verb.Verb.TheVariants as verb
-use Rattle.bench_words.specs.Bytes.{is_bytes}
-use Rattle.bench_words.specs.Lines.{Words}
-use Rattle.bench_words.specs.Tapes.{is_tape}
+use Rattle.script_words.specs.Bytes.{is_bytes}
+use Rattle.script_words.specs.Lines.{Words}
+use Rattle.script_words.specs.Tapes.{is_tape}
 use Rattle.bench_script.specs.Verbs.{verb_of}
-use Rattle.bench_words.specs.Words.{app_of, line_of, number_of, part_of, price_of, pricing_of, shares_of, side_of, small_of, time_of, yes_of}
+use Rattle.script_words.specs.Words.{app_of, line_of, number_of, part_of, price_of, pricing_of, shares_of, side_of, small_of, time_of, yes_of}
 
 -- the second step, if the first gave a value
 infixr 5 ◌then◌

@@ -3,11 +3,11 @@ ghost use Rattle.std.specs.Prelude.{◌≡◌};
 ghost use Rattle.bench_script.specs.Commands.{alone_of, ask_of, at_time, by_verb, bytes_said, catch_of, command_of, cancel_of, cancel_trade_of, comp_id_of, deliver_of, firm_of, instrument_of, is_call, is_lit, is_played, line_lost_of, live_of, lone_of, marked_of, mass_cancel_of, matcher_of, message_of, missed_of, on_line, order_of, real_time_of, recovered_of, recovery_of, repeat_of, replace_of, scope_of, show_of, store_of, style_of, tape_said};
 
 use crate::verb::Verb;
-use bench_words::bytes::Bytes;
-use bench_words::misread::Misread;
-use bench_words::tape::Tape;
-use bench_words::words;
 use codes::order::Side;
+use script_words::bytes::Bytes;
+use script_words::misread::Misread;
+use script_words::tape::Tape;
+use script_words::words;
 use terms::pricing::Pricing;
 use texts::values::{Price, Time};
 

@@ -2,7 +2,7 @@
 use crate::silent::Silent;
 use bench_person::failure::Failure;
 use bench_play::play::{Play, Played};
-use bench_words::mistake::Mistake;
+use script_words::mistake::Mistake;
 use std::alloc::{AllocError, Global};
 use std::io;
 

@@ -1,6 +1,6 @@
 // One line of a script, as the bytes that a program reads.
 ghost use Rattle.std.specs.Prelude.{◌≡◌, IfOk};
-ghost use Rattle.bench_words.specs.Lines.{Parted, is_comment, skips};
+ghost use Rattle.script_words.specs.Lines.{Parted, is_comment, skips};
 
 use std::alloc::{AllocError, Global};
 

@@ -1,6 +1,6 @@
 // What of a script's line is not understood.
 ghost use Rattle.std.specs.Prelude.{◌≡◌, Some};
-ghost use Rattle.bench_words.specs.Sentences.{sentence_of};
+ghost use Rattle.script_words.specs.Sentences.{sentence_of};
 
 use std::fmt;
 

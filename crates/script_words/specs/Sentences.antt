@@ -1,7 +1,7 @@
 -- How what is not understood of a line is told. Assumes nothing.
 use Rattle.std.specs.Prelude.{ℕ, List, codes}
-use Rattle.bench_words.specs.declared.misread.Misread.{Misread}
-use Rattle.bench_words.specs.declared.misread.Misread.TheVariants as why
+use Rattle.script_words.specs.declared.misread.Misread.{Misread}
+use Rattle.script_words.specs.declared.misread.Misread.TheVariants as why
 
 abbrev pub sentence_of : Misread → List ℕ
 sentence_of why.Text = codes "not understood: the line is no text"

@@ -1,8 +1,8 @@
 -- How it is told why a script cannot be drilled. Assumes nothing.
 use Rattle.std.specs.Prelude.{ℕ, List, ◌++◌, codes, decimal}
-use Rattle.bench_words.specs.declared.mistake.Mistake.{Mistake}
-use Rattle.bench_words.specs.declared.mistake.Mistake.TheVariants as mistake
-use Rattle.bench_words.specs.Sentences.{sentence_of}
+use Rattle.script_words.specs.declared.mistake.Mistake.{Mistake}
+use Rattle.script_words.specs.declared.mistake.Mistake.TheVariants as mistake
+use Rattle.script_words.specs.Sentences.{sentence_of}
 
 abbrev pub mistake_text : Mistake → List ℕ
 mistake_text (mistake.Line n why) = codes "line " ++ (decimal n ++ (codes ": " ++ sentence_of why))

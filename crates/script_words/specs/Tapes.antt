@@ -2,8 +2,8 @@
 use Rattle.std.specs.Prelude.{Bool, List, drop, is_some}
 use Rattle.std.specs.List.{filter_map, list_all}
 use Rattle.matching.specs.declared.tape.Line.{Line}
-use Rattle.bench_words.specs.Lines.{Words}
-use Rattle.bench_words.specs.Words.{tape_line_of}
+use Rattle.script_words.specs.Lines.{Words}
+use Rattle.script_words.specs.Words.{tape_line_of}
 
 -- each word behind the second is a trade
 abbrev pub is_tape : Words → Bool

@@ -1,6 +1,6 @@
 // Why a script cannot be drilled.
 ghost use Rattle.std.specs.Prelude.{◌≡◌, Some};
-ghost use Rattle.bench_words.specs.Mistakes.{mistake_text};
+ghost use Rattle.script_words.specs.Mistakes.{mistake_text};
 
 use crate::misread::Misread;
 use std::fmt;

@@ -1,6 +1,6 @@
 // The trades that a tape is to play, as the words of a line.
 ghost use Rattle.std.specs.Prelude.{◌≡◌, Some, None, IfOk, if◌then◌else◌};
-ghost use Rattle.bench_words.specs.Tapes.{is_tape, lines_of};
+ghost use Rattle.script_words.specs.Tapes.{is_tape, lines_of};
 
 use crate::words::tape_line;
 use matching::tape::Line;

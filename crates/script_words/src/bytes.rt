@@ -2,7 +2,7 @@
 ghost use Rattle.std.specs.Prelude.{◌≡◌, Some, IfOk, if◌then◌else◌, None};
 ghost use Rattle.std.specs.List.{list_all};
 ghost use Rattle.hex.specs.Hex.{encode_lower, is_hex_digit};
-ghost use Rattle.bench_words.specs.Bytes.{bytes_of, is_bytes, is_digits};
+ghost use Rattle.script_words.specs.Bytes.{bytes_of, is_bytes, is_digits};
 
 use hex::FromHexError;
 use std::alloc::{AllocError, Global};

@@ -10,7 +10,7 @@ use Rattle.std.specs.Str.Parse.{ParsesUnsigned, ParsesSigned, digits_value, with
 use Rattle.std.proofs.lemmas.Bool.{and_parts, cases_Bool}
 use Rattle.std.proofs.lemmas.Bool.Decides.{eqb_tells, nat_tests}
 use Rattle.std.proofs.lemmas.Str.Parse.{IsNumeralModel, numerals_by_value, tells_all_ascii_digits, parse_signed_minus, parse_signed_plain, parse_signed_plus, without_leading_plus_none, without_leading_plus_plus}
-use Rattle.bench_words.specs.Words.{is_numeral, negative_of, positive_of, signed_of, whole_of}
+use Rattle.script_words.specs.Words.{is_numeral, negative_of, positive_of, signed_of, whole_of}
 
 own : IsNumeralModel (λ ds. all_ascii_digits ds ≡ true) (digits_value 10)
 own = numerals_by_value _ tells_all_ascii_digits

@@ -1,6 +1,6 @@
 // Single words of a script: what each says, or that it is not understood.
 ghost use Rattle.std.specs.Prelude.{◌≡◌};
-ghost use Rattle.bench_words.specs.Words.{app_of, line_of, number_of, part_of, price_of, pricing_of, shares_of, side_of, shares_at, signed_of, small_of, time_of, time_said, tape_line_of, whole_of, yes_of};
+ghost use Rattle.script_words.specs.Words.{app_of, line_of, number_of, part_of, price_of, pricing_of, shares_of, side_of, shares_at, signed_of, small_of, time_of, time_said, tape_line_of, whole_of, yes_of};
 
 use crate::misread::Misread;
 use codes::order::Side;

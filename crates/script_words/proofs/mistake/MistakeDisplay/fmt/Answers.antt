@@ -1,4 +1,4 @@
-use Rattle.bench_words.proofs.mistake.MistakeDisplay.fmt.Goals as goal
+use Rattle.script_words.proofs.mistake.MistakeDisplay.fmt.Goals as goal
 
 pub returns-in-Refused-clause-writes :
     goal.returns-in-Refused-clause-writes

@@ -3,6 +3,7 @@ use Rattle.std.specs.Prelude.{ℕ, ◌^◌, Bool, true, false, ◌&&◌, if◌th
 use Rattle.std.specs.List.{after_first, before_first, list_any}
 use Rattle.std.specs.Str.{all_ascii_digits, bytes_eq}
 use Rattle.std.specs.Str.Parse.{digits_value, starts_with_minus, without_leading_plus}
+use Rattle.std.specs.Option.{ok_or}
 use Rattle.codes.specs.declared.order.Side.{Side}
 use Rattle.codes.specs.declared.order.Side.TheVariants.{Buy, Sell}
 use Rattle.matching.specs.declared.tape.Line.{Line}
@@ -10,13 +11,10 @@ use Rattle.terms.specs.declared.pricing.Pricing.{Pricing}
 use Rattle.terms.specs.declared.pricing.Pricing.TheVariants.{Market, Limit}
 use Rattle.texts.specs.declared.values.Price.{Price}
 use Rattle.texts.specs.declared.values.Time.{Time}
-use Rattle.bench_words.specs.declared.misread.Misread.{Misread}
-use Rattle.bench_words.specs.declared.misread.Misread.TheVariants as why
+use Rattle.script_words.specs.declared.misread.Misread.{Misread}
+use Rattle.script_words.specs.declared.misread.Misread.TheVariants as why
 
 -- a value, or why there is none
-abbrev pub or_misread : {A : Type 0} → Misread → Option A → Result A Misread
-or_misread e None = Err e
-or_misread e (Some x) = Ok x
 
 -- ---- numbers
 
@@ -42,22 +40,22 @@ abbrev pub signed_of : ℕ → List ℕ → Option ℤ
 signed_of k w = if starts_with_minus w then negative_of k (drop 1 w) else positive_of k (without_leading_plus w)
 
 abbrev pub line_of : List ℕ → Result ℕ Misread
-line_of w = or_misread why.Line (whole_of 64 w)
+line_of w = ok_or (whole_of 64 w) why.Line
 
 abbrev pub number_of : List ℕ → Result ℕ Misread
-number_of w = or_misread why.Number (whole_of 64 w)
+number_of w = ok_or (whole_of 64 w) why.Number
 
 abbrev pub small_of : List ℕ → Result ℕ Misread
-small_of w = or_misread why.Number (whole_of 32 w)
+small_of w = ok_or (whole_of 32 w) why.Number
 
 abbrev pub part_of : List ℕ → Result ℕ Misread
-part_of w = or_misread why.Number (whole_of 8 w)
+part_of w = ok_or (whole_of 8 w) why.Number
 
 abbrev pub app_of : List ℕ → Result ℤ Misread
-app_of w = or_misread why.Number (signed_of 7 w)
+app_of w = ok_or (signed_of 7 w) why.Number
 
 abbrev pub shares_of : List ℕ → Result ℤ Misread
-shares_of w = or_misread why.Quantity (signed_of 31 w)
+shares_of w = ok_or (signed_of 31 w) why.Quantity
 
 -- ---- prices, sides, times
 
@@ -99,7 +97,7 @@ time_said w =
     else None
 
 abbrev pub time_of : List ℕ → Result Time Misread
-time_of w = or_misread why.Time (time_said w)
+time_of w = ok_or (time_said w) why.Time
 
 abbrev pub pair_of : Option ℕ → Result Price Misread → Option (ℕ × Price)
 pair_of None p = None
