@@ -1,4 +1,6 @@
 // A desk's follower, with the download that it owes: its five calls, each made and its answer printed.
+ghost use Rattle.std.specs.Prelude.{◌≡◌, is_some};
+
 use crate::state::{Carried, State, front};
 use bench_account::answer::Answer;
 use bench_account::compared::Seen;
@@ -66,6 +68,12 @@ fn became_recovered<R: Print>(
 }
 
 impl Desk {
+    ghost use Rattle.std.specs.FinMap.{get};
+    ghost use Rattle.std.specs.Option.{option_map};
+    ghost use Rattle.follower.specs.Owing.{owed};
+    ghost use Rattle.partitions.specs.PerPartition.{at};
+    ghost use Rattle.bench_calls.specs.Seeing.{is_level, place_of, seen_as};
+
     pub fn new(heap: Global, line: usize) -> Result<Desk, AllocError> {
         Ok(Desk {
             line,
@@ -167,25 +175,35 @@ impl Desk {
     }
 
     /// Whether a download is asked or runs.
-    pub fn owes(&self) -> bool {
+    pub fn owes(&self) -> bool
+        ensures { result ≡ is_some (owed self.now.pending) }
+    {
         self.pending.owed().is_some()
     }
 
-    pub fn is_up(&self) -> bool {
+    pub fn is_up(&self) -> bool
+        ensures { result ≡ self.now.follower.up }
+    {
         self.follower.is_up()
     }
 
-    pub fn is_level(&self, partition: Partition) -> bool {
+    pub fn is_level(&self, partition: Partition) -> bool
+        ensures { result ≡ is_level (at self.now.follower.sides partition).state }
+    {
         self.follower.state(partition) == side::State::Level
     }
 
     /// The number of the last report of a partition that was folded.
-    pub fn place(&self, partition: Partition) -> u32 {
+    pub fn place(&self, partition: Partition) -> u32
+        ensures { result ≡ (at self.now.follower.sides partition).place }
+    {
         self.follower.place(partition)
     }
 
     /// What it knows of an order.
-    pub fn seen(&self, order: u64) -> Option<Seen> {
+    pub fn seen(&self, order: u64) -> Option<Seen>
+        ensures { result ≡ option_map seen_as (get self.now.follower.standings order) }
+    {
         let standing = self.follower.standing(order)?;
         Some(Seen {
             status: standing.status.byte(),
@@ -211,7 +229,9 @@ impl Desk {
     }
 
     /// How far it is in a partition.
-    pub fn place_in(&self, partition: Partition) -> Place {
+    pub fn place_in(&self, partition: Partition) -> Place
+        ensures { result ≡ place_of partition (at self.now.follower.sides partition) }
+    {
         Place {
             partition: partition.byte(),
             number: self.place(partition),
