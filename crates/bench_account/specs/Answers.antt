@@ -1,7 +1,8 @@
 -- How answers are written. Assumes nothing.
-use Rattle.std.specs.Prelude.{ℕ, ◌+◌, ◌/◌, ◌%◌, if◌then◌else◌, List, [], ◌∷◌, ◌++◌, Some, None, Option, codes, decimal, nat_lt}
+use Rattle.std.specs.Prelude.{ℕ, ◌+◌, ◌/◌, ◌%◌, if◌then◌else◌, List, [], ◌∷◌, ◌++◌, codes, decimal, nat_lt}
 use Rattle.std.specs.Fmt.{signed_decimal}
 use Rattle.std.specs.List.{flat_map}
+use Rattle.matching.specs.Texts.{party_text}
 use Rattle.bench_account.specs.declared.answer.Answer.{Answer}
 use Rattle.bench_account.specs.declared.answer.Answer.TheVariants as answer
 use Rattle.bench_account.specs.declared.answer.Payload.{Payload}
@@ -21,11 +22,6 @@ hex_text bs = flat_map pair_text bs
 abbrev pub payload_text : Payload → List ℕ
 payload_text (payload.Bytes b) = hex_text b.now
 payload_text (payload.Text t) = t.now
-
--- an order's number, or a dash
-abbrev pub party_text : Option ℕ → List ℕ
-party_text (Some n) = decimal n
-party_text None = codes "-"
 
 abbrev pub trade_text : Trade → List ℕ
 trade_text t =

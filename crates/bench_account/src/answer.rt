@@ -1,7 +1,8 @@
 // What a call is answered, as a line of text.
 ghost use Rattle.std.specs.Prelude.{◌≡◌, ◌<◌, Some};
-ghost use Rattle.bench_account.specs.Answers.{answer_text, glyph, hex_text, party_text, payload_text, trade_text};
+ghost use Rattle.bench_account.specs.Answers.{answer_text, glyph, hex_text, payload_text, trade_text};
 
+use matching::event::Party;
 use std::fmt;
 use texts::values::Price;
 
@@ -50,21 +51,6 @@ impl fmt::Display for Payload<'_> {
         match *self {
             Payload::Bytes(bytes) => write!(f, "{}", Pairs { bytes }),
             Payload::Text(text) => f.write_str(text),
-        }
-    }
-}
-
-// One side of a trade; a dash where it is not named.
-#[derive(Clone, Copy)]
-struct Party(Option<u64>);
-
-impl fmt::Display for Party {
-    ghost output = { λ party. Some (party_text party.0) };
-
-    fn fmt<W: fmt::Write>(&self, f: &mut fmt::Formatter<W>) -> fmt::Result {
-        match self.0 {
-            Some(number) => write!(f, "{number}"),
-            None => f.write_str("-"),
         }
     }
 }

@@ -13,6 +13,7 @@ refusal_text NumberOpen = codes "number open"
 refusal_text Full = codes "full"
 refusal_text NotOpen = codes "not open"
 
+-- an order's number, or a dash
 abbrev pub party_text : Option ℕ → List ℕ
 party_text (Some n) = decimal n
 party_text None = codes "-"

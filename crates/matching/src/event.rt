@@ -46,9 +46,9 @@ impl fmt::Display for Event {
     }
 }
 
-// One side of a trade; a dash where it is not named.
+/// One side of a trade, by its order's number, as it is printed: a dash where it is not named.
 #[derive(Clone, Copy)]
-struct Party(Option<u64>);
+pub struct Party(pub Option<u64>);
 
 impl fmt::Display for Party {
     ghost output = { λ party. Some (party_text party.0) };
