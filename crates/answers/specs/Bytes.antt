@@ -1,5 +1,6 @@
 -- The bytes of what a gateway answers and sends. Assumes nothing.
 use Rattle.std.specs.Prelude.{ℕ, List, [], ◌∷◌, pos, Some, None, Option}
+use Rattle.std.specs.Option.{option_map_or}
 use Rattle.codes.specs.Session.{ack_response_code, report_response_code}
 use Rattle.codes.specs.declared.session.ReportResponse.{ReportResponse}
 use Rattle.texts.specs.Bytes.{said}
@@ -12,8 +13,7 @@ use Rattle.answers.specs.declared.answer.Answer.TheVariants.{Silent, LogonReply,
 
 -- what a Client Order ID says, where there is one
 abbrev pub client_said : Option (FixedText 20) → List ℕ
-client_said None = []
-client_said (Some c) = said c.bytes
+client_said o = option_map_or (λ c. said c.bytes) o []
 
 -- a Logon Reply says of no day when the password expires, a Reject gives no words for its reason
 abbrev pub answer_bytes : Answer → List ℕ

@@ -1,6 +1,7 @@
 -- Whether both ends of a line agree, partition by partition. Assumes nothing.
 use Rattle.std.specs.Prelude.{ℕ, Bool, ◌&&◌, ◌==◌, if◌then◌else◌, not, List, ◌++◌, length, Some, None, Option, codes, decimal}
 use Rattle.std.specs.List.{list_all}
+use Rattle.std.specs.Option.{unwrap_or}
 use Rattle.bench_account.specs.declared.compared.Compared.{Compared}
 use Rattle.bench_account.specs.declared.verdict.Part.{Part}
 use Rattle.bench_account.specs.declared.verdict.Verdict.{Verdict}
@@ -20,13 +21,10 @@ trouble_of p =
     else if not (is_even p) then Some (verdict.Differ p.place.partition) else None
 
 -- the first trouble, or else what is said where there is none
-abbrev pub first_of : Option Verdict → Verdict → Verdict
-first_of (Some v) w = v
-first_of None w = w
 
 abbrev pub verdict_of : Part → Part → Part → Verdict
 verdict_of one two three =
-    first_of (trouble_of one) (first_of (trouble_of two) (first_of (trouble_of three) verdict.Agree))
+    unwrap_or (trouble_of one) (unwrap_or (trouble_of two) (unwrap_or (trouble_of three) verdict.Agree))
 
 abbrev pub verdict_text : Verdict → List ℕ
 verdict_text verdict.Agree = codes "yes"

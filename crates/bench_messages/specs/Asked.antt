@@ -7,7 +7,7 @@ use Rattle.wire.specs.declared.kinds.Kind.{Kind}
 use Rattle.wire.specs.declared.kinds.Kind.TheVariants as kind
 use Rattle.bench_script.specs.declared.command.Request.{Request}
 use Rattle.bench_script.specs.declared.command.Request.TheVariants as request
-use Rattle.bench_words.specs.declared.misread.Misread.{Misread}
+use Rattle.script_words.specs.declared.misread.Misread.{Misread}
 use Rattle.bench_messages.specs.Letters.{cancel_asked, cancel_contents, cancel_wrong, order_asked, order_contents, order_wrong, replace_asked, replace_contents}
 use Rattle.bench_messages.specs.Mass.{mass_asked, mass_contents, mass_wrong}
 use Rattle.bench_messages.specs.Missed.{missed_asked, missed_wrong}

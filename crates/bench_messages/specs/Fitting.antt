@@ -1,8 +1,8 @@
 -- Which words fit the fields of messages. Assumes nothing.
 use Rattle.std.specs.Prelude.{ℕ, if◌then◌else◌, List, Some, None, Option}
 use Rattle.texts.specs.Texts.{fitting, fitting_name}
-use Rattle.bench_words.specs.declared.misread.Misread.{Misread}
-use Rattle.bench_words.specs.declared.misread.Misread.TheVariants as why
+use Rattle.script_words.specs.declared.misread.Misread.{Misread}
+use Rattle.script_words.specs.declared.misread.Misread.TheVariants as why
 
 abbrev pub symbol_wrong : List ℕ → Option Misread
 symbol_wrong w = if fitting 6 w then None else Some why.Symbol
@@ -17,6 +17,3 @@ abbrev pub original_wrong : List ℕ → Option Misread
 original_wrong w = if fitting 20 w then None else Some why.ClientId
 
 -- the first of two that is wrong
-abbrev pub or_else : Option Misread → Option Misread → Option Misread
-or_else None y = y
-or_else (Some e) y = Some e

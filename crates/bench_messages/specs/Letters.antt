@@ -1,5 +1,6 @@
 -- What the fields of a request's message hold, by the words that a person wrote. Assumes nothing.
 use Rattle.std.specs.Prelude.{ℕ, Bool, List, [], ◌∷◌, ℤ, pos, None, Option}
+use Rattle.std.specs.Option.{option_or}
 use Rattle.codes.specs.Order.{auto_cancel_code, order_type_code, side_code}
 use Rattle.codes.specs.declared.order.Side.{Side}
 use Rattle.terms.specs.declared.pricing.Pricing.{Pricing}
@@ -9,8 +10,8 @@ use Rattle.texts.specs.declared.values.Price.{Price}
 use Rattle.layout.specs.Layout.{Content}
 use Rattle.layout.specs.Layout.Content.{words, order, figure, int32, price, nothing}
 use Rattle.order_messages.specs.Terms.{pricing_price}
-use Rattle.bench_words.specs.declared.misread.Misread.{Misread}
-use Rattle.bench_messages.specs.Fitting.{client_wrong, or_else, original_wrong, symbol_wrong}
+use Rattle.script_words.specs.declared.misread.Misread.{Misread}
+use Rattle.bench_messages.specs.Fitting.{client_wrong, original_wrong, symbol_wrong}
 use Rattle.bench_messages.specs.Marks.{auto_cancel_of}
 use Rattle.bench_messages.specs.declared.trading.Cancel.{Cancel}
 use Rattle.bench_messages.specs.declared.trading.Order.{Order}
@@ -46,7 +47,7 @@ abbrev pub order_contents : Order → List Content
 order_contents o = order_asked o.side (said o.symbol.bytes) o.shares o.pricing (said o.client.id.bytes) o.marked
 
 abbrev pub order_wrong : List ℕ → List ℕ → Option Misread
-order_wrong symbol client = or_else (symbol_wrong symbol) (client_wrong client)
+order_wrong symbol client = option_or (symbol_wrong symbol) (client_wrong client)
 
 -- a cancel of the order that goes by a Client Order ID
 abbrev pub cancel_asked : List ℕ → Side → List ℕ → List ℕ → List Content
@@ -65,7 +66,7 @@ cancel_contents c = cancel_asked (said c.symbol.bytes) c.side (said c.client.id.
 
 abbrev pub cancel_wrong : List ℕ → List ℕ → List ℕ → Option Misread
 cancel_wrong symbol client original =
-    or_else (symbol_wrong symbol) (or_else (client_wrong client) (original_wrong original))
+    option_or (symbol_wrong symbol) (option_or (client_wrong client) (original_wrong original))
 
 -- a replacement of the quantity and the price of the order that goes by a Client Order ID
 abbrev pub replace_asked : List ℕ → Side → ℤ → Price → List ℕ → List ℕ → List Content

@@ -1,11 +1,12 @@
 -- What the fields of a mass cancel hold, by the words that a person wrote. Assumes nothing.
 use Rattle.std.specs.Prelude.{ℕ, Bool, List, [], ◌∷◌, Option}
+use Rattle.std.specs.Option.{option_or}
 use Rattle.texts.specs.Bytes.{said}
 use Rattle.layout.specs.Layout.{Content}
 use Rattle.layout.specs.Layout.Content.{words, figure, nothing}
 use Rattle.bench_script.specs.declared.command.Scope.{Scope}
-use Rattle.bench_words.specs.declared.misread.Misread.{Misread}
-use Rattle.bench_messages.specs.Fitting.{client_wrong, or_else}
+use Rattle.script_words.specs.declared.misread.Misread.{Misread}
+use Rattle.bench_messages.specs.Fitting.{client_wrong}
 use Rattle.bench_messages.specs.Takes.{Taken, book_asked, mass_type, segment_asked, symbol_asked, take_said, take_wrong}
 use Rattle.bench_messages.specs.declared.mass.MassCancel.{MassCancel}
 
@@ -17,4 +18,4 @@ abbrev pub mass_contents : MassCancel → List Content
 mass_contents m = mass_asked (said m.client.id.bytes) m.firm (take_said m.take)
 
 abbrev pub mass_wrong : List ℕ → Scope → Option Misread
-mass_wrong client s = or_else (client_wrong client) (take_wrong s)
+mass_wrong client s = option_or (client_wrong client) (take_wrong s)

@@ -3,8 +3,8 @@ use Rattle.std.specs.Prelude.{ℕ, if◌then◌else◌, List, [], ◌∷◌, ℤ
 use Rattle.layout.specs.Layout.{Content}
 use Rattle.layout.specs.Layout.Content.{figure, int8}
 use Rattle.layout.specs.declared.sequence.TheConstants.{SEQUENCE_LIMIT}
-use Rattle.bench_words.specs.declared.misread.Misread.{Misread}
-use Rattle.bench_words.specs.declared.misread.Misread.TheVariants as why
+use Rattle.script_words.specs.declared.misread.Misread.{Misread}
+use Rattle.script_words.specs.declared.misread.Misread.TheVariants as why
 
 abbrev pub missed_asked : ℤ → ℕ → List Content
 missed_asked partition last = int8 partition ∷ figure last ∷ []

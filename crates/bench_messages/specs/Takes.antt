@@ -5,7 +5,7 @@ use Rattle.layout.specs.Layout.{Content}
 use Rattle.layout.specs.Layout.Content.{words, figure, nothing}
 use Rattle.bench_script.specs.declared.command.Scope.{Scope}
 use Rattle.bench_script.specs.declared.command.Scope.TheVariants as scope
-use Rattle.bench_words.specs.declared.misread.Misread.{Misread}
+use Rattle.script_words.specs.declared.misread.Misread.{Misread}
 use Rattle.bench_messages.specs.Fitting.{segment_wrong, symbol_wrong}
 use Rattle.bench_messages.specs.declared.mass.Take.{Take}
 use Rattle.bench_messages.specs.declared.mass.Take.TheVariants as take

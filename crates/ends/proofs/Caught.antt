@@ -7,6 +7,7 @@ use Rattle.std.specs.List.{fold as fold_each, slice_get}
 use Rattle.std.specs.Ordering.{nat_cmp}
 use Rattle.std.proofs.lemmas.Bool.{cond-true, cond-false, cases_eq, eq-eqb, lt-ltb}
 use Rattle.std.proofs.lemmas.List.{take-append-le}
+use Rattle.std.specs.Result.{result_unwrap_or}
 use Rattle.changes.specs.Laws.{standing_of}
 use Rattle.codes.specs.declared.report.Status.{Status}
 use Rattle.codes.specs.declared.session.Partition.{Partition}
@@ -22,7 +23,7 @@ use Rattle.reports.proofs.Tallies.{tally-laws}
 use Rattle.reports.specs.Changes.{natural, stands, added, added_as, bounded, changed, changed_to, executed_after}
 use Rattle.reports.specs.Effects.{effect_of}
 use Rattle.reports.specs.Fold.{Knowledge, nothing_known, fold, fold_by, fold_known, fold_named, fold_new, fold_order}
-use Rattle.reports.specs.Tally.{is_of, kept as kept_by, tally, tally_one, tally_to}
+use Rattle.reports.specs.Tally.{is_of, tally, tally_one, tally_to}
 use Rattle.reports.specs.Told.{told_of}
 use Rattle.reports.specs.declared.report.Entry.{Entry}
 use Rattle.reports.specs.declared.standing.Effect.{Effect}
@@ -218,7 +219,7 @@ module _ (p : Partition) (o : ℕ) where
   has_one k x n h = by_test (eqb x.owner o) (fold p (told_of x.report) k) refl
     where
       by_test : (b : Bool) (r : Result Knowledge FoldRefusal) → fold p (told_of x.report) k ≡ r
-          → Has (cond b (kept_by k r) k) n
+          → Has (cond b (result_unwrap_or r k) k) n
       by_test false r e = h
       by_test true (Err y) e = h
       by_test true (Ok k') e = has_written k k' n (written p (told_of x.report) k k' e) h
@@ -240,7 +241,7 @@ module _ (p : Partition) (o : ℕ) where
 
   -- where no later report is refused, no earlier one was
   taken_first : (k k' : Knowledge) (r : Result Knowledge FoldRefusal) (l : List Entry) → told r l ≡ Ok k' → r
-      ≡ Ok (kept_by k r)
+      ≡ Ok (result_unwrap_or r k)
   taken_first k k' (Ok j) l h = refl
   taken_first k k' (Err x) l h = refused x k' (sym (refused_stays x l) ∙ h)
 
@@ -250,7 +251,7 @@ module _ (p : Partition) (o : ℕ) where
   told_further k k' x l h = by_test (eqb x.owner o) (fold p (told_of x.report) k) h
     where
       by_test : (b : Bool) (r : Result Knowledge FoldRefusal) → told (cond b r (Ok k)) l ≡ Ok k'
-          → told (Ok (cond b (kept_by k r) k)) l ≡ Ok k'
+          → told (Ok (cond b (result_unwrap_or r k) k)) l ≡ Ok k'
       by_test false r e = e
       by_test true (Ok j) e = e
       by_test true (Err y) e = refused y k' (sym (refused_stays y l) ∙ e)
@@ -259,7 +260,7 @@ module _ (p : Partition) (o : ℕ) where
   taken_next : (k k' : Knowledge) (l : List Entry) (m n : ℕ) (e : Entry) → m < n
       → ((j : ℕ) → m < j → j < n → is_of o (under l j) ≡ false) → under l n ≡ Some e → e.owner ≡ o → told (Ok k) l ≡ Ok k'
       → fold p (told_of e.report) (from k (take m l))
-      ≡ Ok (kept_by (from k (take m l)) (fold p (told_of e.report) (from k (take m l))))
+      ≡ Ok (result_unwrap_or (fold p (told_of e.report) (from k (take m l))) (from k (take m l)))
   taken_next k k' l m zero e lt h found mine t = absurd (omega arith)
   taken_next k k' [] m (suc n) e lt h found mine t = no_entry e found
   taken_next k k' (x ∷ l) zero (suc zero) e lt h found mine t =

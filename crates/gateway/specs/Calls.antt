@@ -1,5 +1,6 @@
 -- The calls beside the two that take messages. Assumes nothing.
 use Rattle.std.specs.Prelude.{◌≡◌, ℕ, List, [], length, Some, None, Ok, Err, Option, Result, nat_lt, if◌then◌else◌}
+use Rattle.std.specs.Option.{option_map_or, option_or}
 use Rattle.answers.specs.Bytes.{end_bytes}
 use Rattle.report_messages.specs.Telling.{report_bytes}
 use Rattle.codes.specs.declared.session.Partition.{Partition}
@@ -63,12 +64,8 @@ Undoes n t s (Err f) w = (undo_fault n s.venue ≡ Some f) × (w ≡ s)
 abbrev pub on_fault : Channel → ℕ → State → Option GatewayFault
 on_fault ch line s = if on ch (session s line) then None else Some (Session NotLoggedOn)
 
-abbrev pub first : Option GatewayFault → Option GatewayFault → Option GatewayFault
-first (Some f) g = Some f
-first None g = g
-
 abbrev pub lost_fault : ℕ → State → Option GatewayFault
-lost_fault line s = first (line_fault line s) (on_fault RealTime line s)
+lost_fault line s = option_or (line_fault line s) (on_fault RealTime line s)
 
 abbrev pub Loses : ℕ → Time → State → Result (Unit {0}) GatewayFault → State → Type 0
 Loses line t s (Ok u) w =
@@ -79,11 +76,10 @@ Loses line t s (Err f) w = (lost_fault line s ≡ Some f) × (w ≡ s)
 -- ---- what is sent
 
 abbrev pub send_fault : Channel → ℕ → ℕ → State → Option GatewayFault
-send_fault ch room line s = first (call_fault room line s) (on_fault ch line s)
+send_fault ch room line s = option_or (call_fault room line s) (on_fault ch line s)
 
 abbrev pub entry_bytes : Partition → ℕ → Option Entry → List ℕ
-entry_bytes p n None = []
-entry_bytes p n (Some e) = report_bytes p n e.report
+entry_bytes p n o = option_map_or (λ e. report_bytes p n e.report) o []
 
 -- the bytes of a report, by its partition and number
 abbrev pub stored_bytes : Kept → Partition → ℕ → List ℕ

@@ -1,5 +1,6 @@
 -- What a message gets, and what it leaves. Assumes nothing.
 use Rattle.std.specs.Prelude.{◌≡◌, ℕ, List, ◌++◌, length, drop, ℤ, pos, negsuc, slice_get, slice_index_or, Some, None, Ok, Err, Option, Result, nat_lt, ◌==◌, if◌then◌else◌}
+use Rattle.std.specs.Option.{option_map_or}
 use Rattle.answers.specs.Bytes.{answer_bytes}
 use Rattle.answers.specs.declared.answer.Answer.{Answer}
 use Rattle.answers.specs.declared.answer.Answer.TheVariants.{Silent, Ack, Reject}
@@ -90,8 +91,7 @@ partition_of (pos n) = partition_at n
 partition_of (negsuc n) = None
 
 abbrev pub last_of : Kept → Option Partition → ℕ
-last_of k None = 0
-last_of k (Some p) = length (at k p)
+last_of k o = option_map_or (λ p. length (at k p)) o 0
 
 -- what the session makes of a Missed Message Request
 abbrev pub missed_by : Result (SessionState × AckResponse) RequestRefusal → ℕ → MissedMessageRequest → State → Outcome
@@ -127,8 +127,7 @@ logout Recovery line t s = silently (with_session s line (recovery_closed (sessi
 
 -- the firm of a line's CompID
 abbrev pub firm_of : Option Participant → ℕ
-firm_of None = 0
-firm_of (Some p) = p.firm
+firm_of o = option_map_or (λ p. p.firm) o 0
 
 abbrev pub firm : State → ℕ → ℕ
 firm s line = firm_of (slice_get s.participants line)
@@ -146,9 +145,9 @@ taken ch line (message.Logout m) t s = logout ch line t s
 taken ch line m t s = silently s
 
 -- any message: only a Logon is taken before a Logon
-abbrev pub heard : Channel → ℕ → Message → Time → State → Outcome
-heard ch line (message.Logon m) t s = answered (logon ch line m s)
-heard ch line m t s =
+abbrev pub outcome_of : Channel → ℕ → Message → Time → State → Outcome
+outcome_of ch line (message.Logon m) t s = answered (logon ch line m s)
+outcome_of ch line m t s =
     if on ch (session s line) then taken ch line m t s else Answered (rejection (session_number NotLoggedOn) m) s
 
 -- what a caller inside is told: the answer, and the state after it
@@ -192,7 +191,7 @@ abbrev pub Read : Option Fault → Channel → ℕ → List ℕ → Time → Sta
 Read (Some f) ch line bs t s buffer r w after =
     (r ≡ Err (Session (Wire f))) × (w ≡ s) × (after ≡ fronted (answer_bytes (fault_rejection f bs)) buffer)
 Read None ch line bs t s buffer r w after =
-    (m : Message) × Reads (reader_of ch) bs m × Settled (heard ch line m t s) buffer r w after
+    (m : Message) × Reads (reader_of ch) bs m × Settled (outcome_of ch line m t s) buffer r w after
 
 abbrev pub Given : Option GatewayFault → Channel → ℕ → List ℕ → Time → State → List ℕ
     → Result ℕ GatewayFault → State → List ℕ → Type 0

@@ -1,6 +1,7 @@
 -- What happens to a line. Assumes nothing.
 use Rattle.std.specs.Prelude.{ℕ, ◌-◌, Bool, ◌&&◌, length, pos, slice_get, Some, None, Ok, Err, Option, Result, ◌==◌, true, false}
 use Rattle.std.specs.Str.{bytes_eq}
+use Rattle.std.specs.Option.{option_map_or}
 use Rattle.answers.specs.declared.answer.Answer.{Answer}
 use Rattle.answers.specs.declared.answer.Answer.TheVariants.{LogonReply}
 use Rattle.configuration.specs.declared.participant.Participant.{Participant}
@@ -27,8 +28,7 @@ is_known p m =
     && (bytes_eq (says m.password) (said p.password.bytes) && length (says m.new_password) == 0)
 
 abbrev pub admits : Option Participant → Logon → Bool
-admits None m = false
-admits (Some p) m = is_known p m
+admits o m = option_map_or (λ p. is_known p m) o false
 
 -- the answer to a Logon, and the session after it
 abbrev pub admitted : Bool → ℕ → State → Result SessionState LogonRefusal → Answer × State
@@ -46,8 +46,7 @@ ends_with line = meant (λ owner. owner == line) (λ r. true) true
 
 -- the CompID's marked orders expire, if it is configured so
 abbrev pub ends_orders : Option Participant → Bool
-ends_orders None = false
-ends_orders (Some p) = p.ends_orders
+ends_orders o = option_map_or (λ p. p.ends_orders) o false
 
 abbrev pub without_marked : Bool → ℕ → Time → View → View
 without_marked true line t v = withdrawn_all (ends_with line) LineLost t v

@@ -3,7 +3,7 @@ ghost use Rattle.std.specs.Prelude.{◌≡◌, ◌<◌, ◌≤◌, true, length}
 ghost use Rattle.wire.specs.declared.message.TheConstants.{BUFFER};
 ghost use Rattle.sessions.specs.Sessions.{on};
 ghost use Rattle.gateway.specs.State.{session};
-ghost use Rattle.gateway.specs.Hearing.{Took, Understands, Hears, answer_for, client_of, fault_rejection, firm_of, firm, heard, last_of, logout, missed_on, partition_of, reader_of, rejection, taken, type_told};
+ghost use Rattle.gateway.specs.Hearing.{Took, Understands, Hears, answer_for, client_of, fault_rejection, firm_of, firm, outcome_of, last_of, logout, missed_on, partition_of, reader_of, rejection, taken, type_told};
 
 use crate::fault::{GatewayFault, SessionFault};
 use crate::gateway::Gateway;
@@ -200,7 +200,7 @@ impl<M: Matcher, S: Store> Gateway<M, S> {
     // Any message of a line.
     fn take(&mut self, channel: Channel, line: usize, m: &Message<'_>, time: Time) -> Answer
         requires { line < length self.old.lines }
-        ensures { Took (heard channel line m.now time self.old) result self.new }
+        ensures { Took (outcome_of channel line m.now time self.old) result self.new }
     {
         if let Message::Logon(logon) = m {
             return self.logon(channel, line, logon);

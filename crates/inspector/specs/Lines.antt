@@ -19,10 +19,10 @@ pub data Given : Type 0 where
   message : Channel → List ℕ → Given
   unclear : Unclear → Given
 
-abbrev pub says : Line → Given
-says line.Skipped = skipped
-says (line.Message ch bytes) = message ch bytes.items
-says (line.Unclear why) = unclear why
+abbrev pub given_by : Line → Given
+given_by line.Skipped = skipped
+given_by (line.Message ch bytes) = message ch bytes.items
+given_by (line.Unclear why) = unclear why
 
 -- nothing but blanks, or # in front
 abbrev pub is_skipped : List ℕ → Bool

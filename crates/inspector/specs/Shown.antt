@@ -1,6 +1,7 @@
 -- A message as text: its name, and each field that is not reserved under its name. Assumes nothing.
 use Rattle.std.specs.Prelude.{ℕ, suc, ◌+◌, ◌*◌, ◌/◌, ◌%◌, Bool, true, false, if◌then◌else◌, ◌&&◌, List, [], ◌∷◌, ◌++◌, ℤ, pos, negsuc, Some, None, codes, decimal, Option, ◌==◌, nat_le, nat_lt}
 use Rattle.std.specs.Fmt.{signed_decimal}
+use Rattle.std.specs.Option.{option_map_or}
 use Rattle.texts.specs.Identifiers.{order_id_text}
 use Rattle.codes.specs.Lists.{alpha}
 use Rattle.layout.specs.declared.field.Form.{Form}
@@ -18,8 +19,7 @@ quoted t = 34 ∷ (t ++ (34 ∷ []))
 
 -- an order's identifier, or nothing, in double quotes
 abbrev pub order_text : Option ℕ → List ℕ
-order_text None = quoted []
-order_text (Some n) = quoted (order_id_text n)
+order_text o = option_map_or (λ n. quoted (order_id_text n)) o (quoted [])
 
 -- the last four decimal digits of a number
 abbrev pub four : ℕ → List ℕ

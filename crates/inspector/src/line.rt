@@ -3,7 +3,7 @@ ghost use Rattle.std.specs.Prelude.{◌≡◌, Some, IfOk};
 ghost use Rattle.std.specs.List.{list_all};
 ghost use Rattle.std.specs.Str.{bytes_eq};
 ghost use Rattle.hex.specs.Hex.{is_hex_digit, decode_of};
-ghost use Rattle.inspector.specs.Lines.{is_skipped, channel_of, decoded, bytes_given, given, says};
+ghost use Rattle.inspector.specs.Lines.{is_skipped, channel_of, decoded, bytes_given, given, given_by};
 ghost use Rattle.inspector.specs.Sentences.{sentence_of};
 
 use crate::words::{blanks, word};
@@ -91,7 +91,7 @@ fn is_hex(digits: &[u8]) -> bool
 }
 
 fn decode(heap: Global, channel: Channel, digits: &[u8]) -> Result<Line, AllocError>
-    ensures { IfOk result (λ l. says l ≡ decoded channel (decode_of digits.now)) }
+    ensures { IfOk result (λ l. given_by l ≡ decoded channel (decode_of digits.now)) }
 {
     match hex::decode(heap, digits) {
         Ok(bytes) => Ok(Line::Message(channel, bytes)),
@@ -102,7 +102,7 @@ fn decode(heap: Global, channel: Channel, digits: &[u8]) -> Result<Line, AllocEr
 }
 
 fn bytes_of(heap: Global, channel: Channel, digits: &[u8]) -> Result<Line, AllocError>
-    ensures { IfOk result (λ l. says l ≡ bytes_given channel digits.now) }
+    ensures { IfOk result (λ l. given_by l ≡ bytes_given channel digits.now) }
 {
     if is_text(digits, b"-") {
         return Ok(Line::Message(channel, Vec::new(heap)));
@@ -115,7 +115,7 @@ fn bytes_of(heap: Global, channel: Channel, digits: &[u8]) -> Result<Line, Alloc
 
 /// What a line says: `READER HEX`, the bytes in hex digits or `-` for none.
 pub fn parse(heap: Global, line: &[u8]) -> Result<Line, AllocError>
-    ensures { IfOk result (λ l. says l ≡ given line.now) }
+    ensures { IfOk result (λ l. given_by l ≡ given line.now) }
 {
     if is_skipped(line) {
         return Ok(Line::Skipped);

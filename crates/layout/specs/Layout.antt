@@ -1,8 +1,9 @@
 -- A message as a table of fields: which bytes are taken, which are refused and where, and what they hold.
 -- Assumes nothing.
-use Rattle.std.specs.Prelude.{◌&&◌, ◌≡◌, ℕ, ◌+◌, max, Bool, true, false, List, [], ◌∷◌, take, drop, ℤ, pos, is_some, Some, None, Option, Result, MatchResult, nat_le, nat_lt, if◌then◌else◌}
+use Rattle.std.specs.Prelude.{◌&&◌, ◌≡◌, ℕ, ◌+◌, max, Bool, true, false, List, [], ◌∷◌, take, drop, ℤ, pos, is_some, Some, None, Option, Result, MatchResult, nat_le, nat_lt, if◌then◌else◌, not}
 use Rattle.std.proofs.Common.{to_z}
 use Rattle.std.specs.Int.{w8, w32, w64}
+use Rattle.std.specs.List.{AllByRecursion, find, list_all}
 use Rattle.std.specs.Option.{option_map}
 use Rattle.codes.specs.Member.{member}
 use Rattle.codes.specs.Lists.{listed}
@@ -119,18 +120,15 @@ abbrev pub got : List ℕ → Field → Content
 got bs f = if matters bs f then content (form_of f) (part (place f) (width f) bs) else nothing
 
 abbrev pub within : ℕ → List Field → Bool
-within n [] = true
-within n (f ∷ fs) = nat_le (span f) n && within n fs
+within n fs = list_all (λ f. nat_le (span f) n) fs
 
 -- the offset of the first field that is refused
 unfoldable pub first_bad : List Field → List ℕ → Option ℕ
-first_bad [] bs = None
-first_bad (f ∷ fs) bs = if ok bs f then first_bad fs bs else Some (place f)
+first_bad fs bs = option_map place (find (λ f. not (ok bs f)) fs)
 
 -- each field is taken
 abbrev pub AllOk : List Field → List ℕ → Type 0
-AllOk [] bs = Unit {0}
-AllOk (f ∷ fs) bs = (ok bs f ≡ true) × AllOk fs bs
+AllOk fs bs = AllByRecursion (λ f. ok bs f ≡ true) fs
 
 -- each content is what its field holds
 abbrev pub Says : List Content → List Field → List ℕ → Type 0

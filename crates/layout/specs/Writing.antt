@@ -2,6 +2,7 @@
 use Rattle.std.specs.Prelude.{◌&&◌, ◌≡◌, ℕ, ◌+◌, ◌-◌, Bool, if◌then◌else◌, List, [], ◌∷◌, ◌++◌, length, take, drop, replicate, Some, None, Option, ◌==◌}
 use Rattle.std.proofs.Common.{of_z}
 use Rattle.std.specs.Int.{w8, w32, w64}
+use Rattle.std.specs.Option.{option_map_or}
 use Rattle.texts.specs.Bytes.{to_le, padded}
 use Rattle.texts.specs.Identifiers.{order_id_text}
 use Rattle.layout.specs.declared.field.Form.{Form}
@@ -12,8 +13,7 @@ use Rattle.layout.specs.Layout.{Content, place, width, form_of, words_of, order_
 
 -- an order's identifier, or nulls
 abbrev pub order_bytes : Option ℕ → List ℕ
-order_bytes None = replicate 12 0
-order_bytes (Some n) = order_id_text n
+order_bytes o = option_map_or order_id_text o (replicate 12 0)
 
 -- a form's bytes
 abbrev pub bytes_of : Form → Content → List ℕ

@@ -1,7 +1,7 @@
 -- What the requests make of the orders. Assumes nothing.
 use Rattle.std.specs.Prelude.{nat_lt, nat_le}
 use Rattle.std.proofs.Common.{◌≡◌, ℕ, zero, suc, ℤ, pos, negsuc, Bool, true, false, cond, eqb, List, length, Some, None, Option, Ok, Err, Result, refl, sym, ap, ◌∙◌, subst}
-use Rattle.std.specs.Option.{option_map}
+use Rattle.std.specs.Option.{option_map, ok_or}
 use Rattle.std.specs.Ordering.{int_eq}
 use Rattle.changes.specs.declared.change.Change.TheVariants.{Withdraw}
 use Rattle.changes.specs.declared.change.Change.TheVariants as change
@@ -32,6 +32,7 @@ use Rattle.requests.specs.Outcomes.Outcome.{Refused, Done}
 use Rattle.requests.specs.Replaces as replace
 use Rattle.requests.specs.declared.listing.Listing.{Listing}
 use Rattle.requests.specs.declared.refusal.Refusal.{Refusal}
+use Rattle.requests.specs.declared.refusal.Refusal.TheVariants.{BadTerms}
 use Rattle.requests.specs.declared.refusal.Turned.TheVariants.{NoPlace, UnknownInstrument}
 use Rattle.requests.specs.declared.replace.Replacement.{Replacement}
 use Rattle.texts.specs.Says.{says, kept}
@@ -91,11 +92,11 @@ new_if : (m : NewOrder) (b : Bool) (a : Ask) → cond b
 new_if m true a h = new_asks m (shown m.quantity m.display_quantity) a refl h
 new_if m false a h = none-some a h
 
-new_or_bad : (m : NewOrder) (o : Option Ask) (a : Ask) → new.ask_of m ≡ o → new.or_bad o ≡ Ok a → Fits m.quantity a
+new_or_bad : (m : NewOrder) (o : Option Ask) (a : Ask) → new.ask_of m ≡ o → ok_or o BadTerms ≡ Ok a → Fits m.quantity a
 new_or_bad m None a e h = absurd (cc)
 new_or_bad m (Some b) a e h = let is : b ≡ a = cc in subst (Fits m.quantity) is (new_if m _ b e)
 
-pub new_served : (m : NewOrder) (b : Bool) (e : Refusal) (a : Ask) → cond b (new.or_bad (new.ask_of m)) (Err e) ≡ Ok a
+pub new_served : (m : NewOrder) (b : Bool) (e : Refusal) (a : Ask) → cond b (ok_or (new.ask_of m) BadTerms) (Err e) ≡ Ok a
     → Fits m.quantity a
 new_served m true e a h = new_or_bad m (new.ask_of m) a refl h
 new_served m false e a h = absurd (cc)

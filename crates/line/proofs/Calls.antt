@@ -7,7 +7,7 @@ use Rattle.changes.specs.declared.change.Undone.{Undone}
 use Rattle.codes.specs.declared.report.Liquidity.TheVariants.{Added, Removed}
 use Rattle.codes.specs.declared.session.AckResponse.{AckResponse}
 use Rattle.gateway.specs.Calls.{Steps, Undoes, Loses, Hands, Handed, send_fault, live_handed, recovery_handed}
-use Rattle.gateway.specs.Hearing.{Outcome, Settled, Hears, heard, requested_as, missed_by, missed_on, logout, reader_of, firm}
+use Rattle.gateway.specs.Hearing.{Outcome, Settled, Hears, outcome_of, requested_as, missed_by, missed_on, logout, reader_of, firm}
 use Rattle.gateway.specs.Hearing.Outcome.{Answered, Reported}
 use Rattle.gateway.specs.Lines.{admitted, admits, ends_orders, ends_with, without_marked, line_closed}
 use Rattle.gateway.specs.State.{State, session}
@@ -100,40 +100,40 @@ where_on : (p : Move → Type 0) (rows : List Row) (b : Bool) (o : Outcome) (a :
 where_on p rows true o a s f e = f
 where_on p rows false o a s f e = e
 
-heard_moves : (ch : Channel) (line : ℕ) (m : Message) (t : Time) (s : State)
-    → OutMoves (By m) s.venue.rows (heard ch line m t s)
-heard_moves ch line (message.Logon m) t s = admitted_rows (admits (slice_get s.participants line) m) line s _
-heard_moves ch line (message.NewOrder m) t s =
+outcome_moves : (ch : Channel) (line : ℕ) (m : Message) (t : Time) (s : State)
+    → OutMoves (By m) s.venue.rows (outcome_of ch line m t s)
+outcome_moves ch line (message.Logon m) t s = admitted_rows (admits (slice_get s.participants line) m) line s _
+outcome_moves ch line (message.NewOrder m) t s =
     where_on _ _ (on ch (session s line)) _ _ s
     (asked_of (message.NewOrder m) s _ (new_order_moves line m t s.venue)) refl
-heard_moves ch line (message.OrderCancelRequest m) t s =
+outcome_moves ch line (message.OrderCancelRequest m) t s =
     where_on _ _ (on ch (session s line)) _ _ s
     (asked_of (message.OrderCancelRequest m) s _ (cancel_moves line m t s.venue)) refl
-heard_moves ch line (message.OrderCancelReplaceRequest m) t s =
+outcome_moves ch line (message.OrderCancelReplaceRequest m) t s =
     where_on _ _ (on ch (session s line)) _ _ s
     (asked_of (message.OrderCancelReplaceRequest m) s _ (replace_moves line m t s.venue)) refl
-heard_moves ch line (message.OrderMassCancelRequest m) t s =
+outcome_moves ch line (message.OrderMassCancelRequest m) t s =
     where_on _ _ (on ch (session s line)) _ _ s
     (asked_of (message.OrderMassCancelRequest m) s _ (mass_moves s.participants (firm s line) line m t s.venue)) refl
-heard_moves ch line (message.MissedMessageRequest m) t s =
+outcome_moves ch line (message.MissedMessageRequest m) t s =
     where_on _ _ (on ch (session s line)) _ _ s (missed_here (By (message.MissedMessageRequest m)) ch line m s) refl
-heard_moves ch line (message.Logout m) t s =
+outcome_moves ch line (message.Logout m) t s =
     where_on _ _ (on ch (session s line)) _ _ s (logout_moves (By (message.Logout m)) ch line t s (λ n e i. tt)) refl
-heard_moves ch line (message.LogonReply m) t s =
+outcome_moves ch line (message.LogonReply m) t s =
     where_on (By (message.LogonReply m)) s.venue.rows (on ch (session s line)) (Answered _ s) _ s refl refl
-heard_moves ch line (message.Heartbeat m) t s =
+outcome_moves ch line (message.Heartbeat m) t s =
     where_on (By (message.Heartbeat m)) s.venue.rows (on ch (session s line)) (Answered _ s) _ s refl refl
-heard_moves ch line (message.MissedMessageRequestAck m) t s =
+outcome_moves ch line (message.MissedMessageRequestAck m) t s =
     where_on (By (message.MissedMessageRequestAck m)) s.venue.rows (on ch (session s line)) (Answered _ s) _ s refl refl
-heard_moves ch line (message.MissedMessageReport m) t s =
+outcome_moves ch line (message.MissedMessageReport m) t s =
     where_on (By (message.MissedMessageReport m)) s.venue.rows (on ch (session s line)) (Answered _ s) _ s refl refl
-heard_moves ch line (message.Reject m) t s =
+outcome_moves ch line (message.Reject m) t s =
     where_on (By (message.Reject m)) s.venue.rows (on ch (session s line)) (Answered _ s) _ s refl refl
-heard_moves ch line (message.ExecutionReport m) t s =
+outcome_moves ch line (message.ExecutionReport m) t s =
     where_on (By (message.ExecutionReport m)) s.venue.rows (on ch (session s line)) (Answered _ s) _ s refl refl
-heard_moves ch line (message.OrderCancelReject m) t s =
+outcome_moves ch line (message.OrderCancelReject m) t s =
     where_on (By (message.OrderCancelReject m)) s.venue.rows (on ch (session s line)) (Answered _ s) _ s refl refl
-heard_moves ch line (message.OrderMassCancelReport m) t s =
+outcome_moves ch line (message.OrderMassCancelReport m) t s =
     where_on (By (message.OrderMassCancelReport m)) s.venue.rows (on ch (session s line)) (Answered _ s) _ s refl refl
 
 -- what a message of these bytes may make of an order
@@ -150,7 +150,7 @@ hears_moves ch line bs t s buffer r w after h =
     hears_by (λ z. Moving (Told ch bs) s.venue.rows z.venue.rows) s
     (still (Told ch bs) s.venue.rows) ch line bs t buffer r w after
     (λ m k reads d. wider (By m) (Told ch bs) s.venue.rows w.venue.rows (λ x may. (m, reads, may))
-    (settled (By m) s.venue.rows (heard ch line m t s) buffer r w after (heard_moves ch line m t s) d)) h
+    (settled (By m) s.venue.rows (outcome_of ch line m t s) buffer r w after (outcome_moves ch line m t s) d)) h
 
 -- ---- an event of the matcher
 

@@ -13,7 +13,7 @@ use Rattle.codes.specs.declared.session.AckResponse.TheVariants.{Successful, Lim
 use Rattle.codes.specs.declared.session.Partition.{Partition}
 use Rattle.gateway.specs.Calls.{Hands, Handed, Loses, Recovers, Sends, send_fault, live_handed, recovery_handed, recovered_bytes, sent_bytes}
 use Rattle.gateway.specs.Faults.{session_number}
-use Rattle.gateway.specs.Hearing.{Outcome, Settled, Read, Given, Hears, answered, call_fault, fronted, heard, last_of, line_fault, logout, missed, missed_by, missed_on, partition_of, reader_of, rejection, requested_as}
+use Rattle.gateway.specs.Hearing.{Outcome, Settled, Read, Given, Hears, answered, call_fault, fronted, outcome_of, last_of, line_fault, logout, missed, missed_by, missed_on, partition_of, reader_of, rejection, requested_as}
 use Rattle.gateway.specs.Hearing.Outcome.{Answered, Reported}
 use Rattle.gateway.specs.Lines.{admitted, admits, logon}
 use Rattle.gateway.specs.State.{State, session, with_session, with_venue, lasts}
@@ -201,23 +201,23 @@ module _ (line : ℕ) (P : List ℕ → SessionState → Type 0) (ch : Channel) 
         (cond (on ch (session s line)) (requested_as m s o) (Answered (rejection (session_number NotLoggedOn) m) s))
     asked m o = where_on m (on ch (session s line)) (requested_as m s o) refl (λ e. asked_makes m o)
 
-    heard_makes : (m : Message) (t : Time) → Reads (reader_of ch) bs m → Makes line P (heard ch line m t s)
-    heard_makes (message.Logon m) t reads = h.opens m
-    heard_makes (message.NewOrder m) t reads = asked (message.NewOrder m) _
-    heard_makes (message.OrderCancelRequest m) t reads = asked (message.OrderCancelRequest m) _
-    heard_makes (message.OrderCancelReplaceRequest m) t reads = asked (message.OrderCancelReplaceRequest m) _
-    heard_makes (message.OrderMassCancelRequest m) t reads = asked (message.OrderMassCancelRequest m) _
-    heard_makes (message.MissedMessageRequest m) t reads =
+    outcome_makes : (m : Message) (t : Time) → Reads (reader_of ch) bs m → Makes line P (outcome_of ch line m t s)
+    outcome_makes (message.Logon m) t reads = h.opens m
+    outcome_makes (message.NewOrder m) t reads = asked (message.NewOrder m) _
+    outcome_makes (message.OrderCancelRequest m) t reads = asked (message.OrderCancelRequest m) _
+    outcome_makes (message.OrderCancelReplaceRequest m) t reads = asked (message.OrderCancelReplaceRequest m) _
+    outcome_makes (message.OrderMassCancelRequest m) t reads = asked (message.OrderMassCancelRequest m) _
+    outcome_makes (message.MissedMessageRequest m) t reads =
         where_on (message.MissedMessageRequest m) (on ch (session s line)) _ refl (λ e. h.asks m reads e)
-    heard_makes (message.Logout m) t reads = where_on (message.Logout m) (on ch (session s line)) _ refl (λ e. h.closes t)
-    heard_makes (message.LogonReply m) t reads = silence (message.LogonReply m)
-    heard_makes (message.Heartbeat m) t reads = silence (message.Heartbeat m)
-    heard_makes (message.MissedMessageRequestAck m) t reads = silence (message.MissedMessageRequestAck m)
-    heard_makes (message.MissedMessageReport m) t reads = silence (message.MissedMessageReport m)
-    heard_makes (message.Reject m) t reads = silence (message.Reject m)
-    heard_makes (message.ExecutionReport m) t reads = silence (message.ExecutionReport m)
-    heard_makes (message.OrderCancelReject m) t reads = silence (message.OrderCancelReject m)
-    heard_makes (message.OrderMassCancelReport m) t reads = silence (message.OrderMassCancelReport m)
+    outcome_makes (message.Logout m) t reads = where_on (message.Logout m) (on ch (session s line)) _ refl (λ e. h.closes t)
+    outcome_makes (message.LogonReply m) t reads = silence (message.LogonReply m)
+    outcome_makes (message.Heartbeat m) t reads = silence (message.Heartbeat m)
+    outcome_makes (message.MissedMessageRequestAck m) t reads = silence (message.MissedMessageRequestAck m)
+    outcome_makes (message.MissedMessageReport m) t reads = silence (message.MissedMessageReport m)
+    outcome_makes (message.Reject m) t reads = silence (message.Reject m)
+    outcome_makes (message.ExecutionReport m) t reads = silence (message.ExecutionReport m)
+    outcome_makes (message.OrderCancelReject m) t reads = silence (message.OrderCancelReject m)
+    outcome_makes (message.OrderMassCancelReport m) t reads = silence (message.OrderMassCancelReport m)
 
   -- a call that takes a message
   module _ (t : Time) (buffer : List ℕ) (r : Result ℕ GatewayFault) (w : State) (out : List ℕ)
@@ -226,7 +226,7 @@ module _ (line : ℕ) (P : List ℕ → SessionState → Type 0) (ch : Channel) 
         → P (left r out) (session w line)
     read_makes (Some f) there (e, g, k) = made line P [] s w r out (left_err r _ out e) g same
     read_makes None there (m, reads, k) =
-        settled_makes line P (heard ch line m t s) buffer r w out (heard_makes (ready there) m t reads) k
+        settled_makes line P (outcome_of ch line m t s) buffer r w out (outcome_makes (ready there) m t reads) k
 
     given_makes : (o : Option GatewayFault) → call_fault (length buffer) line s ≡ o
         → Given o ch line bs t s buffer r w out → P (left r out) (session w line)

@@ -2,6 +2,7 @@
 use Rattle.std.specs.Prelude.{find, reverse, slice_get, nat_le, nat_lt}
 use Rattle.std.proofs.lemmas.Bool.{and_parts, eqb-true}
 use Rattle.std.proofs.Common.{◌≡◌, ℕ, zero, suc, ◌+◌, ◌<◌, Bool, true, false, cond, eqb, List, [], ◌∷◌, length, Some, None, Option, Ok, Err, Result, refl, sym, ap, ◌∙◌, subst, arith}
+use Rattle.std.specs.List.{AllByRecursion}
 use Rattle.answers.specs.declared.answer.Answer.{Answer}
 use Rattle.changes.specs.declared.change.Change.{Change}
 use Rattle.changes.specs.declared.change.Change.TheVariants.{Withdraw}
@@ -12,7 +13,7 @@ use Rattle.codes.specs.declared.session.AckResponse.{AckResponse}
 use Rattle.configuration.specs.declared.instrument.Instrument.{Instrument}
 use Rattle.configuration.specs.declared.participant.Participant.{Participant}
 use Rattle.gateway.specs.Calls.{Hands, Handed, send_fault, live_handed, recovery_handed}
-use Rattle.gateway.specs.Hearing.{Outcome, Settled, Hears, heard, requested_as, missed_by, missed_on, logout, firm, firm_of}
+use Rattle.gateway.specs.Hearing.{Outcome, Settled, Hears, outcome_of, requested_as, missed_by, missed_on, logout, firm, firm_of}
 use Rattle.gateway.specs.Hearing.Outcome.{Answered, Reported}
 use Rattle.gateway.specs.Lines.{admitted, admits, ends_orders, ends_with, without_marked, line_closed}
 use Rattle.gateway.specs.State.{State, session}
@@ -22,7 +23,7 @@ use Rattle.keyed.specs.Numbers.{under}
 use Rattle.line.proofs.Moving.{Moving, still, onward, adds, changes}
 use Rattle.line.proofs.Asked.{MovesTo}
 use Rattle.line.proofs.Walking.{hears_by, hands_by}
-use Rattle.line.specs.Conservation.{Move, Moved, Each}
+use Rattle.line.specs.Conservation.{Move, Moved}
 use Rattle.line.specs.Laws.{FirmOf, FirmsApart, line_of}
 use Rattle.line.specs.Runs.{Does, blank}
 use Rattle.call.specs.declared.venue_side.Done.{Done}
@@ -81,7 +82,7 @@ use Rattle.wire.specs.declared.message.Message.TheVariants as message
 -- ---- what is not touched stays
 
 untouched : (s : State) (line : ℕ) (a : List Row) (ms : List Move) (b : List Row) (n : ℕ) (r : Row) → Moved a ms b
-    → Each (λ m. FirmOf s line (under s.venue.rows m.0)) ms
+    → AllByRecursion (λ m. FirmOf s line (under s.venue.rows m.0)) ms
     → under s.venue.rows n ≡ Some r → (firm s r.terms.owner ≡ firm s line → ⊥) → under b n ≡ under a n
 untouched s line a [] b n r e each was apart = ap (λ (rows : List Row). under rows n) e
 untouched s line a (m ∷ ms) b n r (x, f, move) (mine, each) was apart =
@@ -418,26 +419,26 @@ module _ (s : State) (line : ℕ) (sound : Sound s.venue) where
   silence true a c = refl
   silence false a c = refl
 
-  heard_own : (ch : Channel) (m : Message) (t : Time) → OutOwn (heard ch line m t s)
-  heard_own ch (message.Logon m) t = admitted_own (admits (slice_get s.participants line) m) _
-  heard_own ch (message.NewOrder m) t = where_on (on ch (session s line)) _ _
+  outcome_own : (ch : Channel) (m : Message) (t : Time) → OutOwn (outcome_of ch line m t s)
+  outcome_own ch (message.Logon m) t = admitted_own (admits (slice_get s.participants line) m) _
+  outcome_own ch (message.NewOrder m) t = where_on (on ch (session s line)) _ _
       (asked_own (message.NewOrder m) _ (new_own (look_up s.venue.instruments (says m.symbol)) m t))
-  heard_own ch (message.OrderCancelRequest m) t = where_on (on ch (session s line)) _ _
+  outcome_own ch (message.OrderCancelRequest m) t = where_on (on ch (session s line)) _ _
       (asked_own (message.OrderCancelRequest m) _ (cancel_own (look_up s.venue.instruments (says m.symbol)) m t))
-  heard_own ch (message.OrderCancelReplaceRequest m) t = where_on (on ch (session s line)) _ _
+  outcome_own ch (message.OrderCancelReplaceRequest m) t = where_on (on ch (session s line)) _ _
       (asked_own (message.OrderCancelReplaceRequest m) _ (replace_own (look_up s.venue.instruments (says m.symbol)) m t))
-  heard_own ch (message.OrderMassCancelRequest m) t = where_on (on ch (session s line)) _ _
+  outcome_own ch (message.OrderMassCancelRequest m) t = where_on (on ch (session s line)) _ _
       (asked_own (message.OrderMassCancelRequest m) _ (scope_own m.scope m t))
-  heard_own ch (message.MissedMessageRequest m) t = where_on (on ch (session s line)) _ _ (missed_here ch m)
-  heard_own ch (message.Logout m) t = where_on (on ch (session s line)) _ _ (logout_own ch t)
-  heard_own ch (message.LogonReply m) t = silence (on ch (session s line)) _ _
-  heard_own ch (message.Heartbeat m) t = silence (on ch (session s line)) _ _
-  heard_own ch (message.MissedMessageRequestAck m) t = silence (on ch (session s line)) _ _
-  heard_own ch (message.MissedMessageReport m) t = silence (on ch (session s line)) _ _
-  heard_own ch (message.Reject m) t = silence (on ch (session s line)) _ _
-  heard_own ch (message.ExecutionReport m) t = silence (on ch (session s line)) _ _
-  heard_own ch (message.OrderCancelReject m) t = silence (on ch (session s line)) _ _
-  heard_own ch (message.OrderMassCancelReport m) t = silence (on ch (session s line)) _ _
+  outcome_own ch (message.MissedMessageRequest m) t = where_on (on ch (session s line)) _ _ (missed_here ch m)
+  outcome_own ch (message.Logout m) t = where_on (on ch (session s line)) _ _ (logout_own ch t)
+  outcome_own ch (message.LogonReply m) t = silence (on ch (session s line)) _ _
+  outcome_own ch (message.Heartbeat m) t = silence (on ch (session s line)) _ _
+  outcome_own ch (message.MissedMessageRequestAck m) t = silence (on ch (session s line)) _ _
+  outcome_own ch (message.MissedMessageReport m) t = silence (on ch (session s line)) _ _
+  outcome_own ch (message.Reject m) t = silence (on ch (session s line)) _ _
+  outcome_own ch (message.ExecutionReport m) t = silence (on ch (session s line)) _ _
+  outcome_own ch (message.OrderCancelReject m) t = silence (on ch (session s line)) _ _
+  outcome_own ch (message.OrderMassCancelReport m) t = silence (on ch (session s line)) _ _
 
   -- ---- the calls on a line
 
@@ -455,7 +456,7 @@ module _ (s : State) (line : ℕ) (sound : Sound s.venue) where
       (out : List ℕ) → Hears ch line bs t s buffer r w out → Moving Own s.venue.rows w.venue.rows
   hears_own ch bs t buffer r w out h =
       hears_by (λ z. Moving Own s.venue.rows z.venue.rows) s (still Own s.venue.rows) ch line bs t buffer r w out
-      (λ m k reads d. settled_own (heard ch line m t s) buffer r w out (heard_own ch m t) d) h
+      (λ m k reads d. settled_own (outcome_of ch line m t s) buffer r w out (outcome_own ch m t) d) h
 
   hands_own : (o : Option GatewayFault) (p : Handed) (buffer : List ℕ) (r : Result ℕ GatewayFault) (w : State)
       (out : List ℕ) → p.after.venue.rows ≡ s.venue.rows → Hands o p s buffer r w out

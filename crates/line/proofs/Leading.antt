@@ -1,6 +1,7 @@
 -- A relation of ledgers that holds of single steps holds of every call. Assumes nothing.
 use Rattle.std.specs.Prelude.{slice_get, nat_lt}
 use Rattle.std.proofs.Common.{◌≡◌, ℕ, zero, suc, ◌<◌, Bool, true, false, cond, List, Some, None, Option, Ok, Err, Result, length, refl, sym, ap, ◌∙◌, subst, ltb-true}
+use Rattle.std.specs.Option.{option_or}
 use Rattle.answers.specs.declared.answer.Answer.{Answer}
 use Rattle.changes.specs.Changes.{after}
 use Rattle.changes.specs.declared.change.Change.{Change}
@@ -14,8 +15,8 @@ use Rattle.codes.specs.declared.session.Partition.TheVariants.{One, Two, Three}
 use Rattle.configuration.specs.declared.instrument.Instrument.{Instrument}
 use Rattle.configuration.specs.declared.participant.Participant.{Participant}
 use Rattle.wire.specs.declared.message.TheConstants.{BUFFER}
-use Rattle.gateway.specs.Calls.{first, Steps, Undoes, Loses, Hands, Handed, send_fault, live_handed, recovery_handed}
-use Rattle.gateway.specs.Hearing.{Outcome, Settled, Hears, heard, requested_as, missed_by, missed_on, logout, call_fault, line_fault, firm}
+use Rattle.gateway.specs.Calls.{Steps, Undoes, Loses, Hands, Handed, send_fault, live_handed, recovery_handed}
+use Rattle.gateway.specs.Hearing.{Outcome, Settled, Hears, outcome_of, requested_as, missed_by, missed_on, logout, call_fault, line_fault, firm}
 use Rattle.gateway.specs.Hearing.Outcome.{Answered, Reported}
 use Rattle.gateway.specs.Lines.{admitted, admits, ends_orders, ends_with, without_marked, line_closed}
 use Rattle.gateway.specs.State.{State, session}
@@ -265,32 +266,32 @@ module _ (R : Ledger → Ledger → Type 0) (lines : ℕ) (leads : Leads R lines
     silence s true a c = refl
     silence s false a c = refl
 
-    heard_out : (ch : Channel) (m : Message) (t : Time) (s : State) → Out s (heard ch line m t s)
-    heard_out ch (message.Logon m) t s = admitted_out (admits (slice_get s.participants line) m) s _
-    heard_out ch (message.NewOrder m) t s =
+    outcome_out : (ch : Channel) (m : Message) (t : Time) (s : State) → Out s (outcome_of ch line m t s)
+    outcome_out ch (message.Logon m) t s = admitted_out (admits (slice_get s.participants line) m) s _
+    outcome_out ch (message.NewOrder m) t s =
         where_on s (on ch (session s line)) _ _
         (asked_of (message.NewOrder m) s _ (new_leads (look_up s.venue.instruments (says m.symbol)) m t s.venue))
-    heard_out ch (message.OrderCancelRequest m) t s =
+    outcome_out ch (message.OrderCancelRequest m) t s =
         where_on s (on ch (session s line)) _ _
         (asked_of (message.OrderCancelRequest m) s _
         (cancel_leads (look_up s.venue.instruments (says m.symbol)) m t s.venue))
-    heard_out ch (message.OrderCancelReplaceRequest m) t s =
+    outcome_out ch (message.OrderCancelReplaceRequest m) t s =
         where_on s (on ch (session s line)) _ _
         (asked_of (message.OrderCancelReplaceRequest m) s _
         (replace_leads (look_up s.venue.instruments (says m.symbol)) m t s.venue))
-    heard_out ch (message.OrderMassCancelRequest m) t s =
+    outcome_out ch (message.OrderMassCancelRequest m) t s =
         where_on s (on ch (session s line)) _ _
         (asked_of (message.OrderMassCancelRequest m) s _ (scope_leads m.scope s.participants (firm s line) m t s.venue))
-    heard_out ch (message.MissedMessageRequest m) t s = where_on s (on ch (session s line)) _ _ (missed_here ch m s)
-    heard_out ch (message.Logout m) t s = where_on s (on ch (session s line)) _ _ (logout_out ch t s)
-    heard_out ch (message.LogonReply m) t s = silence s (on ch (session s line)) _ _
-    heard_out ch (message.Heartbeat m) t s = silence s (on ch (session s line)) _ _
-    heard_out ch (message.MissedMessageRequestAck m) t s = silence s (on ch (session s line)) _ _
-    heard_out ch (message.MissedMessageReport m) t s = silence s (on ch (session s line)) _ _
-    heard_out ch (message.Reject m) t s = silence s (on ch (session s line)) _ _
-    heard_out ch (message.ExecutionReport m) t s = silence s (on ch (session s line)) _ _
-    heard_out ch (message.OrderCancelReject m) t s = silence s (on ch (session s line)) _ _
-    heard_out ch (message.OrderMassCancelReport m) t s = silence s (on ch (session s line)) _ _
+    outcome_out ch (message.MissedMessageRequest m) t s = where_on s (on ch (session s line)) _ _ (missed_here ch m s)
+    outcome_out ch (message.Logout m) t s = where_on s (on ch (session s line)) _ _ (logout_out ch t s)
+    outcome_out ch (message.LogonReply m) t s = silence s (on ch (session s line)) _ _
+    outcome_out ch (message.Heartbeat m) t s = silence s (on ch (session s line)) _ _
+    outcome_out ch (message.MissedMessageRequestAck m) t s = silence s (on ch (session s line)) _ _
+    outcome_out ch (message.MissedMessageReport m) t s = silence s (on ch (session s line)) _ _
+    outcome_out ch (message.Reject m) t s = silence s (on ch (session s line)) _ _
+    outcome_out ch (message.ExecutionReport m) t s = silence s (on ch (session s line)) _ _
+    outcome_out ch (message.OrderCancelReject m) t s = silence s (on ch (session s line)) _ _
+    outcome_out ch (message.OrderMassCancelReport m) t s = silence s (on ch (session s line)) _ _
 
     settled_out : (s : State) (o : Outcome) (buffer : List ℕ) (r : Result ℕ GatewayFault) (w : State) (out : List ℕ)
         → Out s o → Settled o buffer r w out → From s.venue w.venue
@@ -350,7 +351,7 @@ line_there line s e = there_or line s (nat_lt line (length s.lines)) refl e
 pub call_there : (room line : ℕ) (s : State) → call_fault room line s ≡ None → line < length s.lines
 call_there room line s e = line_there line s (short_or line s (nat_lt room BUFFER) e)
 
-pub first_none : (f g : Option GatewayFault) → first f g ≡ None → f ≡ None
+pub first_none : (f g : Option GatewayFault) → option_or f g ≡ None → f ≡ None
 first_none None g e = refl
 first_none (Some x) g e = e
 
@@ -363,8 +364,8 @@ module _ (R : Ledger → Ledger → Type 0) (s : State) (leads : Leads R (length
   hears_leads ch line bs t buffer r w out h =
       hears_by Holds s (leads.same (ledger_of s.venue)) ch line bs t buffer r w out
       (λ m k reads d. let there = call_there (length buffer) line s k in
-      settled_out R (length s.lines) leads line there s (heard ch line m t s) buffer r w out
-      (heard_out R (length s.lines) leads line there ch m t s) d) h
+      settled_out R (length s.lines) leads line there s (outcome_of ch line m t s) buffer r w out
+      (outcome_out R (length s.lines) leads line there ch m t s) d) h
 
   step_leads : (t : Time) (r : Result Step GatewayFault) (w : State) → Steps t s r w → Holds w
   step_leads t (Ok e) w (x, h, y) = stepped_leads R (length s.lines) leads t s.venue e w.venue h

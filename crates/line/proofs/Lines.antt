@@ -5,7 +5,7 @@ use Rattle.std.proofs.lemmas.List.{length-set, get_or-set_other}
 use Rattle.answers.specs.declared.answer.Answer.{Answer}
 use Rattle.codes.specs.declared.session.AckResponse.{AckResponse}
 use Rattle.gateway.specs.Calls.{Hands, Handed, send_fault, live_handed, recovery_handed}
-use Rattle.gateway.specs.Hearing.{Outcome, Settled, Hears, heard, requested_as, missed_by, missed_on, logout}
+use Rattle.gateway.specs.Hearing.{Outcome, Settled, Hears, outcome_of, requested_as, missed_by, missed_on, logout}
 use Rattle.gateway.specs.Hearing.Outcome.{Answered, Reported}
 use Rattle.gateway.specs.Lines.{admitted, admits}
 use Rattle.gateway.specs.State.{State, session}
@@ -72,27 +72,27 @@ silence : (line : ℕ) (s : State) (b : Bool) (a c : Answer) → OutSet line s (
 silence line s true a c = inl refl
 silence line s false a c = inl refl
 
-heard_set : (ch : Channel) (line : ℕ) (m : Message) (t : Time) (s : State) → OutSet line s (heard ch line m t s)
-heard_set ch line (message.Logon m) t s = admitted_set (admits (slice_get s.participants line) m) line s _
-heard_set ch line (message.NewOrder m) t s =
+outcome_set : (ch : Channel) (line : ℕ) (m : Message) (t : Time) (s : State) → OutSet line s (outcome_of ch line m t s)
+outcome_set ch line (message.Logon m) t s = admitted_set (admits (slice_get s.participants line) m) line s _
+outcome_set ch line (message.NewOrder m) t s =
     where_on line s (on ch (session s line)) _ _ (asked_set line (message.NewOrder m) s _)
-heard_set ch line (message.OrderCancelRequest m) t s =
+outcome_set ch line (message.OrderCancelRequest m) t s =
     where_on line s (on ch (session s line)) _ _ (asked_set line (message.OrderCancelRequest m) s _)
-heard_set ch line (message.OrderCancelReplaceRequest m) t s =
+outcome_set ch line (message.OrderCancelReplaceRequest m) t s =
     where_on line s (on ch (session s line)) _ _ (asked_set line (message.OrderCancelReplaceRequest m) s _)
-heard_set ch line (message.OrderMassCancelRequest m) t s =
+outcome_set ch line (message.OrderMassCancelRequest m) t s =
     where_on line s (on ch (session s line)) _ _ (asked_set line (message.OrderMassCancelRequest m) s _)
-heard_set ch line (message.MissedMessageRequest m) t s =
+outcome_set ch line (message.MissedMessageRequest m) t s =
     where_on line s (on ch (session s line)) _ _ (missed_here ch line m s)
-heard_set ch line (message.Logout m) t s = where_on line s (on ch (session s line)) _ _ (logout_set ch line t s)
-heard_set ch line (message.LogonReply m) t s = silence line s (on ch (session s line)) _ _
-heard_set ch line (message.Heartbeat m) t s = silence line s (on ch (session s line)) _ _
-heard_set ch line (message.MissedMessageRequestAck m) t s = silence line s (on ch (session s line)) _ _
-heard_set ch line (message.MissedMessageReport m) t s = silence line s (on ch (session s line)) _ _
-heard_set ch line (message.Reject m) t s = silence line s (on ch (session s line)) _ _
-heard_set ch line (message.ExecutionReport m) t s = silence line s (on ch (session s line)) _ _
-heard_set ch line (message.OrderCancelReject m) t s = silence line s (on ch (session s line)) _ _
-heard_set ch line (message.OrderMassCancelReport m) t s = silence line s (on ch (session s line)) _ _
+outcome_set ch line (message.Logout m) t s = where_on line s (on ch (session s line)) _ _ (logout_set ch line t s)
+outcome_set ch line (message.LogonReply m) t s = silence line s (on ch (session s line)) _ _
+outcome_set ch line (message.Heartbeat m) t s = silence line s (on ch (session s line)) _ _
+outcome_set ch line (message.MissedMessageRequestAck m) t s = silence line s (on ch (session s line)) _ _
+outcome_set ch line (message.MissedMessageReport m) t s = silence line s (on ch (session s line)) _ _
+outcome_set ch line (message.Reject m) t s = silence line s (on ch (session s line)) _ _
+outcome_set ch line (message.ExecutionReport m) t s = silence line s (on ch (session s line)) _ _
+outcome_set ch line (message.OrderCancelReject m) t s = silence line s (on ch (session s line)) _ _
+outcome_set ch line (message.OrderMassCancelReport m) t s = silence line s (on ch (session s line)) _ _
 
 stays_set : (line : ℕ) (s w : State) → w ≡ s → Set line s w
 stays_set line s w e = inl (ap (λ (z : State). z.lines) e)
@@ -108,7 +108,7 @@ hears_set : (ch : Channel) (line : ℕ) (bs : List ℕ) (t : Time) (s : State) (
     → Hears ch line bs t s buffer r w out → Set line s w
 hears_set ch line bs t s buffer r w out h =
     hears_by (Set line s) s (inl refl) ch line bs t buffer r w out
-    (λ m k reads d. settled_set line s (heard ch line m t s) buffer r w out (heard_set ch line m t s) d) h
+    (λ m k reads d. settled_set line s (outcome_of ch line m t s) buffer r w out (outcome_set ch line m t s) d) h
 
 hands_set : (line : ℕ) (o : Option GatewayFault) (p : Handed) (s : State) (buffer : List ℕ) (r : Result ℕ GatewayFault)
     (w : State) (out : List ℕ)

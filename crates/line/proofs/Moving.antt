@@ -2,14 +2,14 @@
 use Rattle.std.specs.Prelude.{is_some}
 use Rattle.std.proofs.Common.{◌≡◌, ℕ, zero, suc, ◌+◌, Bool, true, false, cond, eqb, List, [], ◌∷◌, ◌++◌, length, set, Some, None, Option, refl, sym, ap, ◌∙◌, subst, arith}
 use Rattle.std.proofs.lemmas.Bool.{eqb-true, eq-eqb}
-use Rattle.std.specs.List.{slice_get}
+use Rattle.std.specs.List.{slice_get, AllByRecursion}
 use Rattle.changes.specs.Changes.{after}
 use Rattle.changes.specs.Laws.{Makes}
 use Rattle.changes.specs.declared.change.Change.{Change}
 use Rattle.changes.specs.declared.change.Change.TheVariants.{Accept}
 use Rattle.keyed.proofs.Under.{none-some, under-others}
 use Rattle.keyed.specs.Numbers.{under, put_under}
-use Rattle.line.specs.Conservation.{Move, Moves, Moved, Each, of}
+use Rattle.line.specs.Conservation.{Move, Moves, Moved, of}
 use Rattle.orders.specs.Rows.{accepted, orderable}
 use Rattle.orders.specs.declared.row.Ask.{Ask}
 use Rattle.orders.specs.declared.row.Row.{Row}
@@ -20,7 +20,7 @@ use Rattle.venue.specs.Ledger.{Ledger, changed, rewritten}
 
 -- rows that become others by changes of which p holds
 abbrev pub Moving : (Move → Type 0) → List Row → List Row → Type 0
-Moving p a b = (ms : List Move) × Moved a ms b × Each p ms
+Moving p a b = (ms : List Move) × Moved a ms b × AllByRecursion p ms
 
 pub still : (p : Move → Type 0) (a : List Row) → Moving p a a
 still p a = ([], refl, tt)
@@ -30,14 +30,14 @@ pub moved_on : (a b : List Row) (ms : List Move) (c : List Row) (ns : List Move)
 moved_on a b ms c [] f g = subst (Moved a ms) (sym g) f
 moved_on a b ms c (n ∷ ns) f (x, g, h) = (x, moved_on a b ms x ns f g, h)
 
-each_both : (p : Move → Type 0) (ms ns : List Move) → Each p ms → Each p ns → Each p (ns ++ ms)
+each_both : (p : Move → Type 0) (ms ns : List Move) → AllByRecursion p ms → AllByRecursion p ns → AllByRecursion p (ns ++ ms)
 each_both p ms [] f g = f
 each_both p ms (n ∷ ns) f (x, g) = (x, each_both p ms ns f g)
 
 pub onward : (p : Move → Type 0) (a b c : List Row) → Moving p a b → Moving p b c → Moving p a c
 onward p a b c (ms, f, x) (ns, g, y) = (ns ++ ms, moved_on a b ms c ns f g, each_both p ms ns x y)
 
-each_wider : (p q : Move → Type 0) → ((m : Move) → p m → q m) → (ms : List Move) → Each p ms → Each q ms
+each_wider : (p q : Move → Type 0) → ((m : Move) → p m → q m) → (ms : List Move) → AllByRecursion p ms → AllByRecursion q ms
 each_wider p q w [] f = tt
 each_wider p q w (m ∷ ms) (x, f) = (w m x, each_wider p q w ms f)
 

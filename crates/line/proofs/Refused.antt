@@ -2,7 +2,7 @@
 use Rattle.std.specs.Prelude.{is_err}
 use Rattle.std.proofs.Common.{◌≡◌, ℕ, true, false, List, Some, None, Option, Ok, Err, Result, length, refl, sym, ap, ◌∙◌}
 use Rattle.gateway.specs.Calls.{Hands, Handed, send_fault, live_handed, recovery_handed}
-use Rattle.gateway.specs.Hearing.{Outcome, Settled, Hears, heard}
+use Rattle.gateway.specs.Hearing.{Outcome, Settled, Hears, outcome_of}
 use Rattle.gateway.specs.Hearing.Outcome.{Answered, Reported}
 use Rattle.gateway.specs.State.{State}
 use Rattle.gateway.specs.declared.fault.GatewayFault.{GatewayFault}
@@ -26,7 +26,7 @@ hears : (ch : Channel) (line : ℕ) (bs : List ℕ) (t : Time) (s : State) (buff
     (w : State) (out : List ℕ) → Hears ch line bs t s buffer r w out → is_err r ≡ true → w ≡ s
 hears ch line bs t s buffer r w out k h =
     hears_by (λ z. z ≡ s) s refl ch line bs t buffer r w out
-    (λ m f reads d. settled (heard ch line m t s) buffer r s w out d h) k
+    (λ m f reads d. settled (outcome_of ch line m t s) buffer r s w out d h) k
 
 hands : (o : Option GatewayFault) (p : Handed) (s : State) (buffer : List ℕ) (r : Result ℕ GatewayFault) (w : State)
     (out : List ℕ) → Hands o p s buffer r w out → is_err r ≡ true → w ≡ s

@@ -1,7 +1,7 @@
 -- The ways that a call can end: what holds of the state before it, and of what it made of it. Assumes nothing.
 use Rattle.std.proofs.Common.{◌≡◌, ℕ, List, Some, None, Option, Result, length, refl, sym, subst}
 use Rattle.gateway.specs.Calls.{Hands, Handed}
-use Rattle.gateway.specs.Hearing.{Settled, Read, Given, Hears, heard, call_fault, reader_of}
+use Rattle.gateway.specs.Hearing.{Settled, Read, Given, Hears, outcome_of, call_fault, reader_of}
 use Rattle.gateway.specs.State.{State}
 use Rattle.gateway.specs.declared.fault.GatewayFault.{GatewayFault}
 use Rattle.layout.specs.declared.fault.Fault.{Fault}
@@ -18,7 +18,7 @@ module _ (P : State → Type 0) (s : State) (same : P s) where
   module _ (ch : Channel) (line : ℕ) (bs : List ℕ) (t : Time) (buffer : List ℕ) (r : Result ℕ GatewayFault) (w : State)
       (out : List ℕ)
       (does : (m : Message) → call_fault (length buffer) line s ≡ None → Reads (reader_of ch) bs m
-      → Settled (heard ch line m t s) buffer r w out → P w) where
+      → Settled (outcome_of ch line m t s) buffer r w out → P w) where
     read_by : (o : Option Fault) → call_fault (length buffer) line s ≡ None → Read o ch line bs t s buffer r w out → P w
     read_by (Some f) k (x, e, y) = unchanged w e
     read_by None k (m, reads, h) = does m k reads h

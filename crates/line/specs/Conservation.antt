@@ -1,5 +1,6 @@
 -- What a run makes of the orders, and what is kept of each. Assumes nothing.
 use Rattle.std.specs.Prelude.{◌≡◌, ◌≢◌, ◌⊎◌, ℕ, List, [], ◌∷◌, ◌++◌, pos, Some, Ok, Option, Result, is_some, true, ◌==◌, if◌then◌else◌}
+use Rattle.std.specs.List.{AllByRecursion}
 use Rattle.changes.specs.Changes.{after}
 use Rattle.changes.specs.Laws.{Conserved}
 use Rattle.changes.specs.declared.change.Change.{Change}
@@ -33,10 +34,6 @@ pub record Moves (m : Move) (before after_ : List Row) : Type 0 where
 abbrev pub Moved : List Row → List Move → List Row → Type 0
 Moved a [] b = b ≡ a
 Moved a (m ∷ ms) b = (x : List Row) × Moved a ms x × Moves m x b
-
-abbrev pub Each : (Move → Type 0) → List Move → Type 0
-Each p [] = Unit {0}
-Each p (m ∷ ms) = p m × Each p ms
 
 -- what a message may make of an order
 abbrev pub MayBy : Message → Change → Type 0
@@ -76,7 +73,7 @@ abbrev pub Made : State → List Done → State → List Move → Type 0
 Made s [] w ms = (w ≡ s) × (ms ≡ [])
 Made s (d ∷ ds) w ms =
     (x : State) × (now : List Move) × (later : List Move)
-    × Does s d x × Moved s.venue.rows now x.venue.rows × Each (May s d) now × Made x ds w later × (ms ≡ later ++ now)
+    × Does s d x × Moved s.venue.rows now x.venue.rows × AllByRecursion (May s d) now × Made x ds w later × (ms ≡ later ++ now)
 
 -- those of one order
 abbrev pub of : ℕ → List Move → List Change

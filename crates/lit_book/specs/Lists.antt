@@ -1,7 +1,7 @@
 -- Lists of the book's orders: who is found under a number, the best of those at rest, a change of one order. Assumes
 -- nothing.
 use Rattle.std.specs.Prelude.{◌≡◌, ℕ, ◌<◌, Bool, true, if◌then◌else◌, not, ◌&&◌, List, [], ◌∷◌, ◌++◌, fold, length, take, Some, None, Option, ◌==◌, slice_index_or}
-use Rattle.std.specs.List.{find}
+use Rattle.std.specs.List.{find, list_all}
 use Rattle.keyed.specs.Look.{Found, distinct, keyed}
 use Rattle.matching.specs.declared.matcher.Held.{Held}
 use Rattle.matching.specs.Meaning.{Orders}
@@ -63,8 +63,7 @@ changed n w (o ∷ os) = if o.number == n then remains o w ++ os else o ∷ chan
 
 -- no order of the list crosses o
 abbrev pub clear_of : Order → List Order → Bool
-clear_of o [] = true
-clear_of o (x ∷ xs) = not (crosses x o) && clear_of o xs
+clear_of o xs = list_all (λ x. not (crosses x o)) xs
 
 -- only orders that rest are at rest, and none crosses one that rested before it
 abbrev pub settled : List Order → Bool

@@ -1,5 +1,6 @@
 -- The identifiers of a report's message: the order's, the one that is referred to, and its own. Assumes nothing.
 use Rattle.std.specs.Prelude.{ℕ, List, [], Some, None, Option}
+use Rattle.std.specs.Option.{option_map_or}
 use Rattle.codes.specs.Session.{partition_code}
 use Rattle.codes.specs.declared.session.Partition.{Partition}
 use Rattle.texts.specs.Identifiers.{order_id_text, execution_id_text}
@@ -11,12 +12,10 @@ use Rattle.reports.specs.declared.report.Report.TheVariants.{Execution, CancelRe
 
 -- an identifier, or nothing
 abbrev pub order_text : Option OrderId → List ℕ
-order_text None = []
-order_text (Some i) = said (order_id_text i.number)
+order_text o = option_map_or (λ i. said (order_id_text i.number)) o []
 
 abbrev pub reference_text : Option ExecutionId → List ℕ
-reference_text None = []
-reference_text (Some i) = said (execution_id_text i.partition i.sequence)
+reference_text o = option_map_or (λ i. said (execution_id_text i.partition i.sequence)) o []
 
 -- the report's own Execution ID
 abbrev pub own_text : Partition → ℕ → List ℕ

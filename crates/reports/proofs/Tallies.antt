@@ -2,12 +2,13 @@
 use Rattle.std.proofs.Common.{◌≡◌, ℕ, zero, suc, ◌<◌, ◌≤◌, Bool, true, false, cond, eqb, List, [], ◌∷◌, ◌++◌, take, Some, None, Option, sym, refl, ap, ◌∙◌, add-one, arith}
 use Rattle.std.proofs.lemmas.Bool.{eq-eqb, cond-true, cond-false}
 use Rattle.std.specs.List.{fold as fold_each}
+use Rattle.std.specs.Result.{result_unwrap_or}
 use Rattle.codes.specs.declared.session.Partition.{Partition}
 use Rattle.reports.specs.declared.report.Entry.{Entry}
 use Rattle.keyed.specs.Numbers.{under}
 use Rattle.reports.specs.Told.{told_of}
 use Rattle.reports.specs.Fold.{Knowledge, nothing_known, fold}
-use Rattle.reports.specs.Tally.{is_of, kept, tally_one, tally_to, own}
+use Rattle.reports.specs.Tally.{is_of, tally_one, tally_to, own}
 use Rattle.reports.specs.Laws.{Laws, TallyLaws}
 
 never : {A : Type 0} (e : Entry) → ◌≡◌ {A = Option Entry} None (Some e) → A
@@ -79,9 +80,9 @@ module _ (p : Partition) (o : ℕ) where
 
   -- the tally of the owner's own reports
   own-one : (t : Knowledge) (e : Entry) (l : List Entry) (b : Bool) → b ≡ eqb e.owner o
-      → ((u : Knowledge) → from u l ≡ from u (own o l)) → from (cond b (kept t (fold p (told_of e.report) t)) t) l
+      → ((u : Knowledge) → from u l ≡ from u (own o l)) → from (cond b (result_unwrap_or (fold p (told_of e.report) t) t) t) l
       ≡ from t (cond b (e ∷ own o l) (own o l))
-  own-one t e l true q h = h _ ∙ ap (λ (c : Bool). from (cond c (kept t (fold p (told_of e.report) t)) t) (own o l))
+  own-one t e l true q h = h _ ∙ ap (λ (c : Bool). from (cond c (result_unwrap_or (fold p (told_of e.report) t) t) t) (own o l))
       q ∙ sym (from_cons t e (own o l))
   own-one t e l false q h = h t
 
@@ -91,7 +92,7 @@ module _ (p : Partition) (o : ℕ) where
 
   next-own : (l : List Entry) (m n : ℕ) (e : Entry) → m < n → ((k : ℕ) → m < k → k < n → is_of o (under l k) ≡ false)
       → under l n ≡ Some e → e.owner ≡ o → tally_to p o l n
-      ≡ kept (tally_to p o l m) (fold p (told_of e.report) (tally_to p o l m))
+      ≡ result_unwrap_or (fold p (told_of e.report) (tally_to p o l m)) (tally_to p o l m)
   next-own l m zero e lt h at mine = absurd (let no : ⊥ = omega arith in no)
   next-own l m (suc n) e lt h at mine =
       let t = nothing_known in

@@ -1,6 +1,6 @@
 -- What a New Order gets. Assumes nothing.
 use Rattle.std.specs.Prelude.{ℕ, ◌&&◌, pos, Some, None, Ok, Err, Option, Result, nat_lt, if◌then◌else◌}
-use Rattle.std.specs.Option.{option_map}
+use Rattle.std.specs.Option.{option_map, ok_or}
 use Rattle.codes.specs.declared.report.Status.TheVariants as status
 use Rattle.matching.specs.Meaning.{serves}
 use Rattle.order_messages.specs.declared.new_order.NewOrder.{NewOrder}
@@ -42,13 +42,9 @@ ask_of m =
     then option_map (asks m) (shown m.quantity m.display_quantity)
     else None
 
-abbrev pub or_bad : Option Ask → Result Ask Refusal
-or_bad None = Err BadTerms
-or_bad (Some a) = Ok a
-
 -- why it is not accepted, before the orders and the matcher are asked for room
 abbrev pub asked : NewOrder → View → Result Ask Refusal
-asked m v = if serves v.market (book_of m.target) then or_bad (ask_of m) else Err BookNotServed
+asked m v = if serves v.market (book_of m.target) then ok_or (ask_of m) BadTerms else Err BookNotServed
 
 abbrev pub terms_of : ℕ → ℕ → NewOrder → Terms
 terms_of line place m = record {

@@ -7,6 +7,7 @@ use Rattle.std.proofs.lemmas.List.Sums.{fold-append}
 use Rattle.std.specs.List.{fold as fold_each}
 use Rattle.std.specs.FinMap.{get, insert, len, contains_key, len-insert}
 use Rattle.std.specs.Cmp.{nat_cmp_total}
+use Rattle.std.specs.Result.{result_unwrap_or}
 use Rattle.codes.specs.declared.session.Partition.{Partition}
 use Rattle.codes.specs.declared.session.Partition.TheVariants.{One, Two, Three}
 use Rattle.texts.specs.declared.values.Time.{Time}
@@ -26,7 +27,7 @@ use Rattle.reports.specs.declared.report.Report.TheVariants.{Execution}
 use Rattle.reports.specs.declared.standings.FoldRefusal.{FoldRefusal}
 use Rattle.reports.specs.Fold.{Knowledge, nothing_known, fold}
 use Rattle.reports.specs.Told.{told_of}
-use Rattle.reports.specs.Tally.{tally, tally_one, kept as kept_by}
+use Rattle.reports.specs.Tally.{tally, tally_one}
 use Rattle.store.specs.Kept.{Kept}
 use Rattle.changes.specs.declared.change.Change.{Change}
 use Rattle.changes.specs.Changes.{after}
@@ -114,7 +115,7 @@ module _ (p : Partition) (o : ℕ) where
     where
       go : (b : Bool) (f : Result Knowledge FoldRefusal)
           → ((j : Knowledge) → told (Ok j) l ≡ Ok k' → fold_each (tally_one p o) j l ≡ k') → told (cond b f (Ok k)) l
-          ≡ Ok k' → fold_each (tally_one p o) (cond b (kept_by k f) k) l ≡ k'
+          ≡ Ok k' → fold_each (tally_one p o) (cond b (result_unwrap_or f k) k) l ≡ k'
       go false f rest h = rest k h
       go true (Ok j) rest h = rest j h
       go true (Err x) rest h =

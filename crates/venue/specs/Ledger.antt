@@ -2,6 +2,7 @@
 use Rattle.std.specs.Prelude.{◌≡◌, ℕ, ◌+◌, ◌<◌, ◌≤◌, Bool, true, ◌&&◌, List, [], ◌∷◌, ◌++◌, length, map, Some, None, Ok, Err, Option, Result, ◌==◌, slice_get, if◌then◌else◌}
 use Rattle.std.specs.List.{fold as fold_each}
 use Rattle.std.specs.FinMap.{get, len}
+use Rattle.std.specs.Option.{option_map_or}
 use Rattle.codes.specs.declared.session.Partition.{Partition}
 use Rattle.codes.specs.Session.{partition_code}
 use Rattle.texts.specs.declared.values.Time.{Time}
@@ -37,8 +38,7 @@ entries_of o es = map (λ (e : ExecutionReport). record { owner = o; report = Ex
 
 -- more reports in a partition, in their order
 abbrev pub appended : Kept → Partition → List Entry → Kept
-appended k p [] = k
-appended k p (e ∷ es) = appended (grown k p e) p es
+appended k p es = fold_each (λ j e. grown j p e) k es
 
 abbrev pub told_at : Instrument → Time → Told
 told_at i t = record { symbol = i.symbol; time = t }
@@ -84,12 +84,10 @@ report_count (Undo u) = 2
 
 -- the number of the next report in the partition of an order
 abbrev pub next_in : Option Instrument → Kept → ℕ
-next_in None k = 0
-next_in (Some i) k = length (at k i.partition) + 1
+next_in o k = option_map_or (λ i. length (at k i.partition) + 1) o 0
 
 abbrev pub next_told : List Instrument → Option Row → Kept → ℕ
-next_told is None k = 0
-next_told is (Some r) k = next_in (slice_get is r.terms.instrument) k
+next_told is o k = option_map_or (λ r. next_in (slice_get is r.terms.instrument) k) o 0
 
 abbrev pub next_report : List Instrument → ℕ → Ledger → ℕ
 next_report is n l = next_told is (under l.rows n) l.kept

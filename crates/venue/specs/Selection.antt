@@ -1,6 +1,7 @@
 -- Open orders that are withdrawn together. Assumes nothing.
 use Rattle.std.specs.Prelude.{◌≡◌, ℕ, zero, suc, ◌+◌, ◌≤◌, Bool, true, false, not, ◌&&◌, ◌||◌, ◌==◌, List, Some, None, Option}
 use Rattle.std.specs.Prelude.{length, slice_get, nat_lt, if◌then◌else◌}
+use Rattle.std.specs.Option.{option_map_or}
 use Rattle.configuration.specs.declared.instrument.Instrument.{Instrument as Listed}
 use Rattle.texts.specs.declared.values.Time.{Time}
 use Rattle.keyed.specs.Numbers.{under}
@@ -40,8 +41,7 @@ picks is s = meant (is_owner s.owners) (in_scope is s.scope) s.marked
 
 -- of which orders p is true; no row is there for a number that none has
 abbrev pub picks_at : (Row → Bool) → Option Row → Bool
-picks_at p None = false
-picks_at p (Some r) = p r
+picks_at p o = option_map_or p o false
 
 abbrev pub withdrawn_for : Cause → Time → ℕ → View → View
 withdrawn_for (Request c) t n v = withdrawn t n Cancelled c v

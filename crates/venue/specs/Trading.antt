@@ -1,5 +1,6 @@
 -- What a trade of the matcher does to the orders. Assumes nothing.
 use Rattle.std.specs.Prelude.{◌≡◌, ℕ, ◌+◌, ◌≤◌, slice_get, true, List, [], ◌∷◌, ◌++◌, length, is_some, Some, None, Option, false}
+use Rattle.std.specs.Option.{option_map_or}
 use Rattle.codes.specs.Session.{partition_code}
 use Rattle.codes.specs.declared.report.Liquidity.{Liquidity}
 use Rattle.codes.specs.declared.report.Liquidity.TheVariants.{Added, Removed}
@@ -86,12 +87,10 @@ Stepped t v (Traded n p a q x) w =
 
 -- the number of the partition of an order's instrument
 abbrev pub partition_in : Option Instrument → ℕ
-partition_in None = 0
-partition_in (Some i) = partition_code i.partition
+partition_in o = option_map_or (λ i. partition_code i.partition) o 0
 
 abbrev pub partition_of : List Instrument → Option Row → ℕ
-partition_of is None = 0
-partition_of is (Some r) = partition_in (slice_get is r.terms.instrument)
+partition_of is o = option_map_or (λ r. partition_in (slice_get is r.terms.instrument)) o 0
 
 -- a side's fill, named by the report that told it
 abbrev pub undoing : List Instrument → ℕ → Side → Ledger → Undone

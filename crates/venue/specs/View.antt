@@ -2,6 +2,7 @@
 use Rattle.std.specs.Prelude.{◌≡◌, ℕ, ◌+◌, ◌≤◌, ◌<◌, true, List, [], length, is_some, Some, None, Option, ◌==◌, nat_lt, if◌then◌else◌}
 use Rattle.std.specs.List.{sum_by}
 use Rattle.std.specs.FinMap.{get}
+use Rattle.std.specs.Option.{option_map_or}
 use Rattle.keyed.specs.Numbers.{under}
 use Rattle.matching.specs.declared.matcher.Held.{Held}
 use Rattle.matching.specs.Meaning.{Meaning}
@@ -35,8 +36,7 @@ open_of None = None
 open_of (Some r) = if nat_lt 0 r.leaves then Some (held_as r) else None
 
 abbrev pub executed_of : Option Row → ℕ
-executed_of None = 0
-executed_of (Some r) = r.executed
+executed_of o = option_map_or (λ r. r.executed) o 0
 
 -- how much of an order a side of a trade has filled
 abbrev pub side_of : ℕ → ℕ → Option Fill → ℕ
