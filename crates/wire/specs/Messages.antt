@@ -7,9 +7,22 @@ use Rattle.layout.specs.declared.put.TheConstants.{START}
 use Rattle.layout.specs.Layout.{Content, part, fault_of, Says, text_places}
 use Rattle.layout.specs.Writing.{header, encode}
 use Rattle.layout.specs.Holding.{HoldsIn}
-use Rattle.session_messages.specs.Session.{logon_contents, logon_places, logon_reply_contents, logon_reply_places, logout_contents, logout_places, heartbeat_contents, heartbeat_places, missed_message_request_contents, missed_message_request_places, missed_message_request_ack_contents, missed_message_request_ack_places, missed_message_report_contents, missed_message_report_places, reject_contents, reject_places}
-use Rattle.order_messages.specs.Requests.{new_order_contents, new_order_places, order_cancel_request_contents, order_cancel_request_places, order_cancel_replace_request_contents, order_cancel_replace_request_places, order_mass_cancel_request_contents, order_mass_cancel_request_places}
-use Rattle.order_messages.specs.Reports.{execution_report_contents, execution_report_places, order_cancel_reject_contents, order_cancel_reject_places, order_mass_cancel_report_contents, order_mass_cancel_report_places}
+use Rattle.layout.specs.declared.framed.Framed.{Ghosts}
+use Rattle.order_messages.specs.contracts.execution_report.ExecutionReportFramed.TheImpl as execution_report
+use Rattle.session_messages.specs.contracts.heartbeat.HeartbeatFramed.TheImpl as heartbeat
+use Rattle.session_messages.specs.contracts.logon.LogonFramed.TheImpl as logon
+use Rattle.session_messages.specs.contracts.logon_reply.LogonReplyFramed.TheImpl as logon_reply
+use Rattle.session_messages.specs.contracts.logout.LogoutFramed.TheImpl as logout
+use Rattle.session_messages.specs.contracts.missed_message_report.MissedMessageReportFramed.TheImpl as missed_message_report
+use Rattle.session_messages.specs.contracts.missed_message_request.MissedMessageRequestFramed.TheImpl as missed_message_request
+use Rattle.session_messages.specs.contracts.missed_message_request_ack.MissedMessageRequestAckFramed.TheImpl as missed_message_request_ack
+use Rattle.order_messages.specs.contracts.new_order.NewOrderFramed.TheImpl as new_order
+use Rattle.order_messages.specs.contracts.order_cancel_reject.OrderCancelRejectFramed.TheImpl as order_cancel_reject
+use Rattle.order_messages.specs.contracts.order_cancel_replace_request.OrderCancelReplaceRequestFramed.TheImpl as order_cancel_replace_request
+use Rattle.order_messages.specs.contracts.order_cancel_request.OrderCancelRequestFramed.TheImpl as order_cancel_request
+use Rattle.order_messages.specs.contracts.order_mass_cancel_report.OrderMassCancelReportFramed.TheImpl as order_mass_cancel_report
+use Rattle.order_messages.specs.contracts.order_mass_cancel_request.OrderMassCancelRequestFramed.TheImpl as order_mass_cancel_request
+use Rattle.session_messages.specs.contracts.reject.RejectFramed.TheImpl as reject
 use Rattle.wire.specs.declared.kinds.Channel.{Channel}
 use Rattle.wire.specs.declared.kinds.Kind.{Kind}
 use Rattle.wire.specs.declared.kinds.Kind.TheVariants as kind
@@ -26,66 +39,26 @@ pub record Whole : Type 0 where
   pub contents : List Content
   pub places : List ℕ
 
+abbrev pub framed : {M : Type 0} → Kind → Ghosts M → M → Whole
+framed k g m = record { kind = k; contents = g.contents m; places = g.places m }
+
+-- each as its message's own file says
 abbrev pub whole : Message → Whole
-whole (message.Logon m) = record { kind = kind.Logon; contents = logon_contents m; places = logon_places m }
-whole (message.LogonReply m) =
-    record { kind = kind.LogonReply; contents = logon_reply_contents m; places = logon_reply_places m }
-whole (message.Logout m) = record { kind = kind.Logout; contents = logout_contents m; places = logout_places m }
-whole (message.Heartbeat m) =
-    record { kind = kind.Heartbeat; contents = heartbeat_contents m; places = heartbeat_places m }
-whole (message.MissedMessageRequest m) =
-    record {
-      kind = kind.MissedMessageRequest;
-      contents = missed_message_request_contents m;
-      places = missed_message_request_places m;
-    }
-whole (message.MissedMessageRequestAck m) =
-    record {
-      kind = kind.MissedMessageRequestAck;
-      contents = missed_message_request_ack_contents m;
-      places = missed_message_request_ack_places m;
-    }
-whole (message.MissedMessageReport m) =
-    record {
-      kind = kind.MissedMessageReport;
-      contents = missed_message_report_contents m;
-      places = missed_message_report_places m;
-    }
-whole (message.Reject m) = record { kind = kind.Reject; contents = reject_contents m; places = reject_places m }
-whole (message.NewOrder m) =
-    record { kind = kind.NewOrder; contents = new_order_contents m; places = new_order_places m }
-whole (message.OrderCancelRequest m) =
-    record {
-      kind = kind.OrderCancelRequest;
-      contents = order_cancel_request_contents m;
-      places = order_cancel_request_places m;
-    }
-whole (message.OrderCancelReplaceRequest m) =
-    record {
-      kind = kind.OrderCancelReplaceRequest;
-      contents = order_cancel_replace_request_contents m;
-      places = order_cancel_replace_request_places m;
-    }
-whole (message.OrderMassCancelRequest m) =
-    record {
-      kind = kind.OrderMassCancelRequest;
-      contents = order_mass_cancel_request_contents m;
-      places = order_mass_cancel_request_places m;
-    }
-whole (message.ExecutionReport m) =
-    record { kind = kind.ExecutionReport; contents = execution_report_contents m; places = execution_report_places m }
-whole (message.OrderCancelReject m) =
-    record {
-      kind = kind.OrderCancelReject;
-      contents = order_cancel_reject_contents m;
-      places = order_cancel_reject_places m;
-    }
-whole (message.OrderMassCancelReport m) =
-    record {
-      kind = kind.OrderMassCancelReport;
-      contents = order_mass_cancel_report_contents m;
-      places = order_mass_cancel_report_places m;
-    }
+whole (message.Logon m) = framed kind.Logon logon.ghosts m
+whole (message.LogonReply m) = framed kind.LogonReply logon_reply.ghosts m
+whole (message.Logout m) = framed kind.Logout logout.ghosts m
+whole (message.Heartbeat m) = framed kind.Heartbeat heartbeat.ghosts m
+whole (message.MissedMessageRequest m) = framed kind.MissedMessageRequest missed_message_request.ghosts m
+whole (message.MissedMessageRequestAck m) = framed kind.MissedMessageRequestAck missed_message_request_ack.ghosts m
+whole (message.MissedMessageReport m) = framed kind.MissedMessageReport missed_message_report.ghosts m
+whole (message.Reject m) = framed kind.Reject reject.ghosts m
+whole (message.NewOrder m) = framed kind.NewOrder new_order.ghosts m
+whole (message.OrderCancelRequest m) = framed kind.OrderCancelRequest order_cancel_request.ghosts m
+whole (message.OrderCancelReplaceRequest m) = framed kind.OrderCancelReplaceRequest order_cancel_replace_request.ghosts m
+whole (message.OrderMassCancelRequest m) = framed kind.OrderMassCancelRequest order_mass_cancel_request.ghosts m
+whole (message.ExecutionReport m) = framed kind.ExecutionReport execution_report.ghosts m
+whole (message.OrderCancelReject m) = framed kind.OrderCancelReject order_cancel_reject.ghosts m
+whole (message.OrderMassCancelReport m) = framed kind.OrderMassCancelReport order_mass_cancel_report.ghosts m
 
 abbrev pub kind_of : Message → Kind
 kind_of m = (whole m).kind
