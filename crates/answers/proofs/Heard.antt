@@ -23,6 +23,7 @@ use Rattle.reports.specs.declared.report.Report.{Report}
 use Rattle.reports.specs.declared.report.Report.TheVariants as report
 use Rattle.report_messages.specs.Back.{report_in}
 use Rattle.report_messages.specs.Telling.{told_as, kind_told, report_bytes}
+use Rattle.report_messages.proofs.Takes.{follower_takes}
 use Rattle.answers.specs.Bytes.{end_bytes}
 use Rattle.answers.specs.Sent.{Sent}
 use Rattle.answers.specs.Told.{Told, place_in, Reports, ReportTold, Ends, EndTold}
@@ -115,11 +116,6 @@ int32_at i e = ap (λ ws. int32_of (slice_index_or ws i nothing)) e
 at_place : (q p : Partition) (z : ℤ) (n : ℕ) → partition_code q ≡ partition_code p → z ≡ pos n
     → ◌≡◌ {A = Option (Partition × ℤ)} (Some (q, z)) (Some (p, pos n))
 at_place q p z n a b = let f = partition_one q p a in cc
-
-follower_takes : (r : Report) → takes Follower (letter_of (kind_told r)) ≡ Some (kind_told r)
-follower_takes (report.Execution e) = refl
-follower_takes (report.CancelReject e) = refl
-follower_takes (report.MassCancel e) = refl
 
 placed : (p : Partition) (n : ℕ) (r : Report) (m : Message) → report_in m ≡ Some r → contents_of m ≡ told_as p n r
     → place_in m ≡ Some (p, pos n)

@@ -1,5 +1,5 @@
 -- The bytes of what a gateway answers and sends. Assumes nothing.
-use Rattle.std.specs.Prelude.{ℕ, List, [], ◌∷◌, pos, Some, None, Option}
+use Rattle.std.specs.Prelude.{ℕ, List, [], ◌∷◌, pos, Option}
 use Rattle.std.specs.Option.{option_map_or}
 use Rattle.codes.specs.Session.{ack_response_code, report_response_code}
 use Rattle.codes.specs.declared.session.ReportResponse.{ReportResponse}

@@ -1,5 +1,5 @@
 // A report, or the end of a download, written to the front of a caller's buffer that has room for any message.
-ghost use Rattle.std.specs.Prelude.{◌≡◌, ◌<◌, ◌≤◌, length};
+ghost use Rattle.std.specs.Prelude.{◌<◌, ◌≤◌, length};
 ghost use Rattle.report_messages.specs.declared.telling.TheConstants.{NUMBERS};
 ghost use Rattle.wire.specs.Messages.{written, Holdable, GivenBack};
 ghost use Rattle.wire.specs.declared.message.TheConstants.{BUFFER};

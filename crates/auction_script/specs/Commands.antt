@@ -2,22 +2,15 @@
 -- nothing.
 use Rattle.std.specs.Prelude.{◌≡◌, ℕ, List, [], length, Ok, Err, codes, Result, slice_index_or}
 use Rattle.codes.specs.declared.order.Book.TheVariants.{Integrated}
-use Rattle.codes.specs.declared.order.OrderType.{OrderType as Kind}
 use Rattle.codes.specs.declared.order.OrderType.TheVariants as kind
 use Rattle.terms.specs.declared.pricing.Pricing.{Pricing}
 use Rattle.terms.specs.declared.pricing.Pricing.TheVariants.{Market, Limit}
-use Rattle.texts.specs.declared.values.Price.{Price as Money}
 use Rattle.auction_script.specs.declared.command.Command.{Command}
 use Rattle.auction_script.specs.declared.command.Command.TheVariants.{Enter, Cancel, Amend, Run, Show}
 use Rattle.auction_script.specs.declared.command.Misread.{Misread}
 use Rattle.auction_script.specs.declared.command.Misread.TheVariants.{Text, Call, Number, Instrument, Side, OrderType, TimeInForce, Price, Quantity}
 use Rattle.script_words.specs.Lines.{Words}
 use Rattle.auction_script.specs.Words.{ForceRead, IsNumber, IsPrice, KindRead, Neither, NumberRead, OneOf, PriceRead, SideRead}
-
--- an order's price by its type; a market order keeps none
-abbrev pub pricing_of : Kind → Money → Pricing
-pricing_of kind.Market p = Market
-pricing_of kind.Limit p = Limit p
 
 -- the words of a price by the word of the order's type; a market order's is read and not kept
 abbrev pub PricingRead : List ℕ → List ℕ → Pricing → Type 0
@@ -47,7 +40,8 @@ AmendWrong n q p Price = IsNumber 64 n × IsNumber 32 q × (IsPrice p → ⊥)
 abbrev pub AmendRead : List ℕ → List ℕ → List ℕ → Result Command Misread → Type 0
 AmendRead n q p (Ok (Enter m t)) = ⊥
 AmendRead n q p (Ok (Cancel m)) = ⊥
-AmendRead n q p (Ok (Amend m r z)) = NumberRead 64 Number n (Ok m) × NumberRead 32 Quantity q (Ok r) × PriceRead p (Ok z)
+AmendRead n q p (Ok (Amend m r z)) = NumberRead 64 Number n (Ok m) × NumberRead 32 Quantity q (Ok r)
+    × PriceRead p (Ok z)
 AmendRead n q p (Ok Run) = ⊥
 AmendRead n q p (Ok Show) = ⊥
 AmendRead n q p (Err e) = AmendWrong n q p e

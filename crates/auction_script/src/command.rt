@@ -1,10 +1,10 @@
 // The calls that a script makes, each read from the words of a line.
 ghost use Rattle.std.specs.Prelude.{◌≡◌, Some};
-ghost use Rattle.auction_script.specs.Commands.{AmendRead, CancelRead, EnterRead, WordsRead, pricing_of};
+ghost use Rattle.auction_script.specs.Commands.{AmendRead, CancelRead, EnterRead, WordsRead};
 ghost use Rattle.auction_script.specs.Texts.{misread_text};
 
 use crate::words;
-use codes::order::{Book, OrderType};
+use codes::order::Book;
 use matching::matcher::Terms;
 use std::fmt;
 use terms::pricing::Pricing;
@@ -68,16 +68,6 @@ impl fmt::Display for Misread {
     }
 }
 
-// An order's price by its type; a market order keeps none.
-fn pricing(kind: OrderType, price: Price) -> Pricing
-    ensures { result ≡ pricing_of kind price }
-{
-    match kind {
-        OrderType::Market => Pricing::Market,
-        OrderType::Limit => Pricing::Limit(price),
-    }
-}
-
 // The words after `enter`. Of several that cannot be read the first is answered.
 fn enter(
     number: &str,
@@ -102,7 +92,7 @@ fn enter(
         Terms {
             instrument,
             side,
-            pricing: pricing(kind, price),
+            pricing: Pricing::new(kind, price),
             time_in_force,
             quantity,
             book: Book::Integrated,

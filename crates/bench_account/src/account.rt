@@ -1,5 +1,5 @@
 // What the calls of a script came to.
-ghost use Rattle.std.specs.Prelude.{◌≡◌, length, replicate, slice_index, Some};
+ghost use Rattle.std.specs.Prelude.{◌≡◌, slice_index, Some};
 ghost use Rattle.bench_account.specs.Accounts.{account_text, counted, more, no_calls, with_refusal};
 
 use crate::answer::Answer;

@@ -1,6 +1,6 @@
 // The table of a drill: a line for each run, at whose end the cable is cut, and what the recovery brought.
 ghost use Rattle.std.specs.Prelude.{◌≡◌, Some};
-ghost use Rattle.bench_account.specs.Cuts.{agreed, cut_text, drilled_text, no_cuts, passes, with_cut};
+ghost use Rattle.bench_account.specs.Cuts.{cut_text, drilled_text, no_cuts, passes, with_cut};
 
 use crate::verdict::Verdict;
 use std::fmt;

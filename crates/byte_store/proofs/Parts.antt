@@ -25,13 +25,15 @@ part-grown b more p h =
 
 pub part-new : (b bs : List ℕ) (p : Place) → p.start ≡ length b → p.len ≡ length bs → part (b ++ bs) p ≡ bs
 part-new b bs p s l =
-    ap (λ k. take p.len (drop k (b ++ bs))) s ∙ ap (take p.len) (drop-append_seam b bs) ∙ take_all p.len bs (omega arith)
+    ap (λ k. take p.len (drop k (b ++ bs))) s ∙ ap (take p.len) (drop-append_seam b bs)
+    ∙ take_all p.len bs (omega arith)
 
 parts : (n : ℕ) (p : Place) (ps : List Place) → all_within n (p ∷ ps) ≡ true → (p.start + p.len ≤ n)
     × (all_within n ps ≡ true)
 parts n p ps h = let q = and_parts (leb (p.start + p.len) n) (all_within n ps) h in (leb-true _ _ q.0, q.1)
 
-join : (n : ℕ) (p : Place) (ps : List Place) → p.start + p.len ≤ n → all_within n ps ≡ true → all_within n (p ∷ ps) ≡ true
+join : (n : ℕ) (p : Place) (ps : List Place) → p.start + p.len ≤ n → all_within n ps ≡ true
+    → all_within n (p ∷ ps) ≡ true
 join n p ps a b = and_from _ _ (le-leb _ _ a) b
 
 pub within_none : (n : ℕ) → all_within n [] ≡ true

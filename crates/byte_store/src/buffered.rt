@@ -1,5 +1,5 @@
 // A store of bytes: one buffer, in which the entries stand as they were appended, and the places of each partition's.
-ghost use Rattle.std.specs.Prelude.{◌≡◌, ℕ, ◌+◌, ◌<◌, ◌≤◌, true, List, length, IfOk, vec_len, vec_capacity};
+ghost use Rattle.std.specs.Prelude.{◌≡◌, ℕ, ◌+◌, ◌<◌, ◌≤◌, List, length, IfOk, vec_len, vec_capacity};
 ghost use Rattle.limits.specs.declared.TheConstants.{REPORTS as MOST};
 ghost use Rattle.partitions.specs.Series.{total};
 ghost use Rattle.byte_store.specs.Places.{Within};

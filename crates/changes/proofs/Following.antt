@@ -44,7 +44,8 @@ insert_again k n s =
 
 known : (p : Partition) (t : Tells) (k : Knowledge) (m n : ℕ) (s s' : Standing) → m ≡ n → get k n ≡ Some s
     → changed t s ≡ Some s' → fold_order p t k m (get k m) ≡ Ok (insert k n s')
-known p t k m n s s' e g c = ap (λ i. fold_order p t k i (get k i)) e ∙ ap (fold_order p t k n) g ∙ ap (fold_known k n) c
+known p t k m n s s' e g c = ap (λ i. fold_order p t k i (get k i)) e ∙ ap (fold_order p t k n) g
+    ∙ ap (fold_known k n) c
 
 new : (p : Partition) (t : Tells) (k : Knowledge) (n : ℕ) (s : Standing) → get k n ≡ None → added p t ≡ Some s
     → len k < ORDERS → fold_order p t k n (get k n) ≡ Ok (insert k n s)

@@ -1,5 +1,5 @@
 -- The codes of sessions and of downloads: each enum's values and their bytes. Assumes nothing.
-use Rattle.std.specs.Prelude.{ℕ, List, [], ◌∷◌}
+use Rattle.std.specs.Prelude.{ℕ, Bool, List, [], ◌∷◌, ◌==◌}
 use Rattle.codes.specs.declared.session.Version.{Version}
 use Rattle.codes.specs.declared.session.Version.TheVariants as version
 use Rattle.codes.specs.declared.session.Partition.{Partition}
@@ -24,6 +24,9 @@ abbrev pub partition_code : Partition → ℕ
 partition_code partition.One = 1
 partition_code partition.Two = 2
 partition_code partition.Three = 3
+
+abbrev pub same_partition : Partition → Partition → Bool
+same_partition p q = partition_code p == partition_code q
 
 -- the answer to a Missed Message Request
 abbrev pub ack_responses : List AckResponse

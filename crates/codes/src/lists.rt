@@ -1,5 +1,5 @@
 // The lists of codes, by name: what a field may hold, and what makes another field matter.
-ghost use Rattle.std.specs.Prelude.{◌≡◌, true, false};
+ghost use Rattle.std.specs.Prelude.{◌≡◌};
 ghost use Rattle.codes.specs.Member.{member};
 ghost use Rattle.codes.specs.Lists.{alpha, listed};
 

@@ -1,5 +1,5 @@
 // The codes of an order's terms.
-ghost use Rattle.std.specs.Prelude.{◌≡◌, ℕ, true, false, Some};
+ghost use Rattle.std.specs.Prelude.{◌≡◌, Some};
 ghost use Rattle.codes.specs.Order.{side_text};
 ghost use Rattle.std.proofs.Common.{arith};
 ghost use Rattle.codes.specs.declared.lists.Codes.TheVariants as lists;

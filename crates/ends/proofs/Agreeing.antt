@@ -8,7 +8,7 @@ use Rattle.std.proofs.lemmas.Bool.{eqb-true, eq-eqb}
 use Rattle.codes.specs.declared.session.Partition.{Partition}
 use Rattle.codes.specs.declared.session.Partition.TheVariants.{One, Two, Three}
 use Rattle.configuration.specs.declared.participant.Participant.{Participant}
-use Rattle.ends.proofs.Carrying.{Flows, Grows}
+use Rattle.ends.proofs.Carrying.{Flows}
 use Rattle.ends.proofs.Caught.{begins, shown}
 use Rattle.ends.proofs.Flights.{Passed}
 use Rattle.ends.proofs.Follows.{up_of, to_up, to_ready, to_away, Went, same_ok, ok_err, given_live_keeps, given_recovered_keeps}
@@ -42,7 +42,7 @@ use Rattle.gateway.specs.Calls.{send_fault, recovery_handed}
 use Rattle.gateway.specs.State.{State, session, fresh as fresh_state}
 use Rattle.limits.specs.declared.TheConstants.{ORDERS}
 use Rattle.line.proofs.Effects.{effect_realtime, effect_recovery, effect_lost, effect_send, effect_recover, effect_other, stays_sound}
-use Rattle.line.proofs.Growing.{only_appends}
+use Rattle.line.proofs.Growing.{only_appends, Grows}
 use Rattle.line.proofs.Walking.{hands_by}
 use Rattle.line.specs.Laws.{line_of}
 use Rattle.line.specs.Runs as venue
@@ -324,7 +324,8 @@ module _ (c : ℕ) (s : State) (d : Desk) (x : Line) (t : Taking) (k : Keeps c s
 
   asked_for : (n : ℕ) (p : Partition) → asking d.follower d.token n (length blank) ≡ Ok p
       → ReadBack p (at d.follower.sides p).place → (token : Pending) → (m : List ℕ) → m
-      ≡ request p (at d.follower.sides p).place → Keeps c s (asked_desk p token) (record x { asked = x.asked ++ m ∷ [] }) t
+      ≡ request p (at d.follower.sides p).place
+      → Keeps c s (asked_desk p token) (record x { asked = x.asked ++ m ∷ [] }) t
   asked_for n p e back token m is =
       let fr = free_of n p e in
       let (r, u) = up_of c s.venue.kept (session s c) d.follower (place d) x t x.ready x.up (k.up ∙ fr.up) k.phase in
@@ -566,7 +567,8 @@ module _ (c : ℕ) (xs : List Done) (w : State) (e : Desk) (l : Line) (k : Keeps
       }
     where
       above : (j : ℕ) → place e p < j → (b : Bool) → is_hers c w p j ≡ b → (y : ℕ)
-          → Passed c (at w.venue.kept p) (place e p) y → (⊥ ⊎ Took p j xs → j ≤ max (place e p) y) → is_hers c w p j ≡ false
+          → Passed c (at w.venue.kept p) (place e p) y → (⊥ ⊎ Took p j xs → j ≤ max (place e p) y)
+          → is_hers c w p j ≡ false
       above j lt true q y ps taken = let le = taken (inr (all j q)) in ps j lt (omega (arith, lt, le))
       above j lt false q y ps taken = q
 

@@ -5,6 +5,7 @@ use Rattle.codes.specs.declared.session.Partition.{Partition}
 use Rattle.codes.specs.declared.session.Partition.TheVariants.{One, Two, Three}
 use Rattle.codes.specs.declared.session.ReportResponse.{ReportResponse}
 use Rattle.codes.specs.declared.session.ReportResponse.TheVariants as ending
+use Rattle.line.proofs.Growing.{Grows}
 use Rattle.ends.proofs.Flights.{Passed, Next, there_within, next_within, stays_under, hers_grown, passed_grown, next_grown, longer, not_passed, passed_on, next_from, next_above, next_either}
 use Rattle.follower.specs.Hearing.{heard_in}
 use Rattle.follower.specs.declared.heard.Heard.TheVariants.{Report, End}
@@ -67,9 +68,6 @@ abbrev pub Flows : ℕ → Kept → PerPartition ℕ → PerPartition ℕ → Li
 Flows c k sent y [] = (p : Partition) → Ahead c (at k p) (at y p) (at sent p)
 Flows c k sent y (m ∷ ms) =
     (p : Partition) × (n : ℕ) × Brings c (at k p) p n m × Next c (at k p) (at y p) n × Flows c k sent (with_at y p n) ms
-
-abbrev pub Grows : Kept → Kept → Type 0
-Grows k k' = (p : Partition) → Grown (at k p) (at k' p)
 
 ahead_grown : (c : ℕ) (l l' : List Entry) (y sent : ℕ) → Grown l l' → Ahead c l y sent → Ahead c l' y sent
 ahead_grown c l l' y sent g h = record {

@@ -11,7 +11,7 @@ use Rattle.std.specs.Result.{result_unwrap_or}
 use Rattle.changes.specs.Laws.{standing_of}
 use Rattle.codes.specs.declared.report.Status.{Status}
 use Rattle.codes.specs.declared.session.Partition.{Partition}
-use Rattle.codes.specs.declared.session.Partition.TheVariants.{One, Two, Three}
+use Rattle.codes.specs.Session.{same_partition}
 use Rattle.configuration.specs.declared.instrument.Instrument.{Instrument}
 use Rattle.ends.specs.Tallied.{there, Tallied}
 use Rattle.keyed.proofs.Keyed.{same, put-here, put-apart}
@@ -35,8 +35,8 @@ use Rattle.reports.specs.declared.standings.FoldRefusal.TheVariants.{Unfit, Full
 use Rattle.sessions.specs.Laws.{Grown}
 use Rattle.store.specs.Kept.{Kept}
 use Rattle.texts.specs.declared.identifiers.OrderId.{OrderId}
-use Rattle.venue.proofs.Recording.{same_or_apart}
-use Rattle.venue.specs.Ledger.{Recorded, all_told, is_at, standing, standing_in, told_one}
+use Rattle.venue.proofs.Recording.{same_or_apart, same_self}
+use Rattle.venue.specs.Ledger.{Recorded, all_told, standing, standing_in, told_one}
 
 -- ---- cases that cannot be
 
@@ -52,35 +52,30 @@ no_entry e h = absurd (cc)
 -- ---- partitions
 
 -- a test of partitions tells whether they are the same
-at_self : (p : Partition) → is_at p p ≡ true
-at_self One = refl
-at_self Two = refl
-at_self Three = refl
-
-at_same : (p q : Partition) → is_at p q ≡ true → p ≡ q
+at_same : (p q : Partition) → same_partition p q ≡ true → p ≡ q
 at_same p q h = by_case (same_or_apart p q)
   where
-    by_case : (p ≡ q) ⊎ (is_at p q ≡ false) → p ≡ q
+    by_case : (p ≡ q) ⊎ (same_partition p q ≡ false) → p ≡ q
     by_case (inl e) = e
     by_case (inr a) = never (sym a ∙ h)
 
-at_apart : (p q : Partition) → p ≢ q → is_at p q ≡ false
+at_apart : (p q : Partition) → p ≢ q → same_partition p q ≡ false
 at_apart p q ne = by_case (same_or_apart p q)
   where
-    by_case : (p ≡ q) ⊎ (is_at p q ≡ false) → is_at p q ≡ false
+    by_case : (p ≡ q) ⊎ (same_partition p q ≡ false) → same_partition p q ≡ false
     by_case (inl e) = absurd (ne e)
     by_case (inr a) = a
 
 -- a standing is seen in its own partition, and in no other
 there_here : (p : Partition) (s : Standing) → s.partition ≡ p → there p (Some s) ≡ Some s
-there_here p s e = cond-true _ _ _ (ap (λ u. is_at u p) e ∙ at_self p)
+there_here p s e = cond-true _ _ _ (ap (λ u. same_partition u p) e ∙ same_self p)
 
 there_apart : (p : Partition) (s : Standing) → s.partition ≢ p → there p (Some s) ≡ None
 there_apart p s ne = cond-false _ _ _ (at_apart s.partition p ne)
 
 -- what is seen in a partition is of it
 there_of : (p : Partition) (s s' : Standing) → there p (Some s) ≡ Some s' → s.partition ≡ p
-there_of p s s' h = at_same s.partition p (by_test (is_at s.partition p) h)
+there_of p s s' h = at_same s.partition p (by_test (same_partition s.partition p) h)
   where
     by_test : (b : Bool) → cond b (Some s) None ≡ Some s' → b ≡ true
     by_test true e = refl
@@ -125,7 +120,8 @@ module _ {V : Type 0} where
   fewer : (N : ℕ) (m : FinMap nat_cmp V) (i : ℕ) (v : V) → ((n : ℕ) → is_some (get m n) ≡ true → (0 < n) × (n ≤ N))
       → (0 < i) × (i ≤ N) → get m i ≡ None → len m < N
   fewer N m i v h inside none =
-      let grown : len (insert m i v) ≡ len m + 1 = len-insert nat_cmp_total m i v ∙ cond-false _ _ _ (ap is_some none) in
+      let grown : len (insert m i v) ≡ len m + 1 = len-insert nat_cmp_total m i v
+      ∙ cond-false _ _ _ (ap is_some none) in
       let most = counted N (insert m i v) (λ n k. within n (cases_eq n i) k) in
       omega arith
     where
@@ -258,7 +254,8 @@ module _ (p : Partition) (o : ℕ) where
 
   -- the owner's next report, over the tally of those before it
   taken_next : (k k' : Knowledge) (l : List Entry) (m n : ℕ) (e : Entry) → m < n
-      → ((j : ℕ) → m < j → j < n → is_of o (under l j) ≡ false) → under l n ≡ Some e → e.owner ≡ o → told (Ok k) l ≡ Ok k'
+      → ((j : ℕ) → m < j → j < n → is_of o (under l j) ≡ false) → under l n ≡ Some e → e.owner ≡ o
+      → told (Ok k) l ≡ Ok k'
       → fold p (told_of e.report) (from k (take m l))
       ≡ Ok (result_unwrap_or (fold p (told_of e.report) (from k (take m l))) (from k (take m l)))
   taken_next k k' l m zero e lt h found mine t = absurd (omega arith)
@@ -443,7 +440,8 @@ one_place is c p q None h g = never h
 one_place is c p q (Some r) h g = by_instrument (slice_get is r.terms.instrument) h g
   where
     located : (i : Instrument) (u : Partition) → is_some (standing_in c u r (Some i)) ≡ true → i.partition ≡ u
-    located i u e = at_same i.partition u (by_test (eqb r.terms.owner c) (is_at i.partition u) (standing_of u r) e)
+    located i u e = at_same i.partition u
+        (by_test (eqb r.terms.owner c) (same_partition i.partition u) (standing_of u r) e)
       where
         by_test : (a b : Bool) (s : Standing) → is_some (cond (a && b) (Some s) None) ≡ true → b ≡ true
         by_test true true s x = refl
@@ -471,7 +469,8 @@ module _ (is : List Instrument) (rows : List Row) (kept : Kept) (c : ℕ) (s : R
 
   module _ (k : Knowledge) (place : Partition → ℕ) (w : Tallied c kept k place) where
     -- what is known is the number of a row that is told of in its partition
-    standing_told : (n : ℕ) (x : Standing) → get k n ≡ Some x → is_some (standing is c x.partition (under rows n)) ≡ true
+    standing_told : (n : ℕ) (x : Standing) → get k n ≡ Some x
+        → is_some (standing is c x.partition (under rows n)) ≡ true
     standing_told n x e =
         row_told x.partition (place x.partition) n
         (ap is_some (sym (w x.partition n) ∙ ap (there x.partition) e ∙ there_here x.partition x refl))

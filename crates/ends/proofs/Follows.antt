@@ -174,10 +174,12 @@ module _ (c : ℕ) (s : State) (d : Desk) (x : Line) (t : Taking) (sound : Sound
     comes : (y : PerPartition ℕ) → Flows c s.venue.kept (session s c).sent y x.live → Comes y
     comes y fl = by (subst (λ z. Flows c s.venue.kept (session s c).sent y z) front fl)
       where
-        part : (i j : Partition) (a b : Held) (r : Result Heard Fault) → r ≡ Ok (Report i a) → r ≡ Ok (Report j b) → j ≡ i
+        part : (i j : Partition) (a b : Held) (r : Result Heard Fault) → r ≡ Ok (Report i a) → r ≡ Ok (Report j b)
+            → j ≡ i
         part i j a b r e g = cc
 
-        told : (i j : Partition) (a b : Held) (r : Result Heard Fault) → r ≡ Ok (Report i a) → r ≡ Ok (Report j b) → a ≡ b
+        told : (i j : Partition) (a b : Held) (r : Result Heard Fault) → r ≡ Ok (Report i a) → r ≡ Ok (Report j b)
+            → a ≡ b
         told i j a b r e g = cc
 
         moved_as : (q : Partition) (n : ℕ) → q ≡ p → (b : Brings c (at s.venue.kept q) q n m) → h ≡ held n b.entry
@@ -291,9 +293,11 @@ module _ (c : ℕ) (s : State) (d : Desk) (x : Line) (t : Taking) (sound : Sound
                     quiet = quiet;
                     layered = k.layered;
                     placed = λ q. subst (λ (g : Following). (place_in g q ≡ 0) ⊎ (is_hers c s q (place_in g q) ≡ true))
-                        (sym fell) (subst (λ z. (z ≡ 0) ⊎ (is_hers c s q z ≡ true)) (sym (turned_places q)) (k.placed q));
+                        (sym fell) (subst (λ z. (z ≡ 0) ⊎ (is_hers c s q z ≡ true)) (sym (turned_places q))
+                        (k.placed q));
                     known = subst (λ (g : Following). Tallied c s.venue.kept g.standings (place_in g)) (sym fell)
-                        (tallied_as c s.venue.kept f.standings (place_in f) (place_in (turned false f)) turned_places k.known);
+                        (tallied_as c s.venue.kept f.standings (place_in f)
+                        (place_in (turned false f)) turned_places k.known);
                     hers = hers_on u.y w (lived f (Report p h));
                     sound = λ q. sound;
                     few = λ q. few;
@@ -388,7 +392,8 @@ module _ (c : ℕ) (s : State) (d : Desk) (x : Line) (t : Taking) (sound : Sound
   -- where both ends stand after it, and the follower is up still
   gone_on : {y : Line} (a : Step Recovered) (u : Taking) → f.up ≡ true → y.ready ≡ x.ready → y.up ≡ x.up
       → Recovers c s.venue (session s c) sound few f a y (or_one c s.venue.kept (session s c) t u) → Quiet a.after
-      → ((p : Partition) (n : ℕ) → u p n → is_hers c s p n ≡ true) → Goes c s a y (or_one c s.venue.kept (session s c) t u)
+      → ((p : Partition) (n : ℕ) → u p n → is_hers c s p n ≡ true)
+      → Goes c s a y (or_one c s.venue.kept (session s c) t u)
   gone_on {y} a u up er eu (fits, same_up, st) quiet hers = record {
     fits = fits;
     keeps = λ token. record {

@@ -8,7 +8,6 @@ use Rattle.std.proofs.lemmas.Slice.Eq.{bytes_eq-Decides}
 use Rattle.codes.specs.declared.session.AckResponse.{AckResponse}
 use Rattle.codes.specs.declared.session.AckResponse.TheVariants.{Successful, LimitReached, InvalidAppId, ServiceUnavailable}
 use Rattle.codes.specs.declared.session.Partition.{Partition}
-use Rattle.codes.specs.declared.session.Partition.TheVariants.{One, Two, Three}
 use Rattle.codes.specs.declared.session.ReportResponse.{ReportResponse}
 use Rattle.codes.specs.declared.session.ReportResponse.TheVariants as ending
 use Rattle.ends.proofs.Carrying.{held, Brings, Flows, Holding, Loads, Over, at_written, holding_down}
@@ -19,7 +18,7 @@ use Rattle.ends.specs.Agreement.{is_unfit}
 use Rattle.ends.specs.Allowed.{Line}
 use Rattle.ends.specs.Laws.{is_full}
 use Rattle.ends.specs.Tallied.{Tallied}
-use Rattle.follower.specs.Following.{Following, Step, turned, answered, refused, folded, folded_to, held as held_step, overrun, live_by, lived, no_download, acked, acked_of, same, recovered_of, reported, levelled, completed, ended, ended_of, rejected}
+use Rattle.follower.specs.Following.{Following, Step, turned, answered, refused, folded, folded_to, held as held_step, overrun, live_by, lived, no_download, acked, acked_of, recovered_of, reported, levelled, completed, ended, ended_of, rejected}
 use Rattle.follower.specs.Hearing.{heard_in}
 use Rattle.follower.specs.Numbers.{number_of}
 use Rattle.follower.specs.declared.answer.Live.{Live}
@@ -44,6 +43,7 @@ use Rattle.reports.specs.Tally.{is_of}
 use Rattle.reports.specs.declared.report.Entry.{Entry}
 use Rattle.sessions.specs.declared.session.SessionState.{SessionState}
 use Rattle.venue.specs.View.{View, Sound}
+use Rattle.venue.proofs.Recording.{same_self}
 
 pub same_bytes : (a b : List ℕ) → bytes_eq a b ≡ true → a ≡ b
 same_bytes a b h = (bytes_eq-Decides a b).0 h
@@ -173,11 +173,6 @@ module _ (c : ℕ) (v : View) (s : SessionState) (sound : Sound v) (few : length
       taken q i (inl h) = a.up.flowing.taken q i h
       taken q i (inr h) = took q i h
 
-  same_self : (p : Partition) → same p p ≡ true
-  same_self One = refl
-  same_self Two = refl
-  same_self Three = refl
-
   -- a report of the download comes, which the place has reached
   loaded_of : (f : Following) (x : Line) (m : List ℕ) (rest : List (List ℕ)) (t u : Taking) (p : Partition) (n : ℕ)
       (b : Brings c (at v.kept p) p n m) (only : Only c v.kept s p n u)
@@ -255,7 +250,8 @@ module _ (c : ℕ) (v : View) (s : SessionState) (sound : Sound v) (few : length
     nothing_taken q i h = absurd (none q i h)
 
     -- the download is over, with nothing behind its end
-    over : x.asked ≡ [] → rest ≡ [] → s.download ≡ None → Stands c v s (no_download f) other_line (or_one c v.kept s t u)
+    over : x.asked ≡ [] → rest ≡ [] → s.download ≡ None
+        → Stands c v s (no_download f) other_line (or_one c v.kept s t u)
     over k e o = with_stage f x other_line t u Idle a refl nothing_taken (k, e, refl, o)
 
     tail_is : (m' : List ℕ) (ms : List (List ℕ)) → x.recovered ≡ m' ∷ ms → ms ≡ rest
@@ -335,7 +331,8 @@ module _ (c : ℕ) (v : View) (s : SessionState) (sound : Sound v) (few : length
         → Passed c (at v.kept p) sd.place (max sd.place b) → SidedBy st c (at v.kept p) sd y b
         → Holding c (at v.kept p) sd.place sd.hold y
     holds_from p Level b y sd ps (e, h) = subst (λ hs. Holding c (at v.kept p) sd.place hs y) (sym e) h
-    holds_from p Behind b y sd ps h = holding_down c (at v.kept p) sd.place (max sd.place b) sd.hold y (omega arith) ps h
+    holds_from p Behind b y sd ps h = holding_down c (at v.kept p) sd.place (max sd.place b) sd.hold y
+        (omega arith) ps h
 
     passed_to : (l : List Entry) (z k b e : ℕ) → z ≤ k → b ≤ e → Passed c l z e → Passed c l k (max k b)
     passed_to l z k b e zk be h = λ j lt le. h j (omega (arith, zk, lt)) (omega (arith, be, lt, le))
@@ -365,7 +362,8 @@ module _ (c : ℕ) (v : View) (s : SessionState) (sound : Sound v) (few : length
           refl,
           record {
             known = r.known (place_in g) (ap (λ (y : Side). y.place) (at_written f.sides p (completed_side n)))
-                (by_partition (λ q y. p ≢ q → y.place ≡ place_in f q) f.sides p (completed_side n) (λ ne. absurd (ne refl))
+                (by_partition (λ q y. p ≢ q → y.place ≡ place_in f q) f.sides p (completed_side n)
+                (λ ne. absurd (ne refl))
                 (λ q ne i. refl));
             placed = or_as_it_was (λ q y. (y.place ≡ 0) ⊎ (is_of c (under (at v.kept q) y.place) ≡ true)) f.sides p
                 (completed_side n) r.placed a.placed;

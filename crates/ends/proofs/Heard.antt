@@ -14,13 +14,13 @@ use Rattle.follower.proofs.Written.{written_heard, reports_heard}
 use Rattle.follower.specs.Hearing.{heard_in, heard_from, heard_unless, heard_opened}
 use Rattle.follower.specs.declared.heard.Heard.{Heard}
 use Rattle.follower.specs.declared.heard.Heard.TheVariants as heard
-use Rattle.layout.specs.Layout.{Content, got, fault_of, part, taken}
+use Rattle.layout.specs.Layout.{Content, got, fault_of, taken}
 use Rattle.layout.specs.Writing.{header}
 use Rattle.layout.specs.declared.fault.Fault.{Fault}
 use Rattle.layout.specs.declared.fault.Fault.TheVariants.{Short}
 use Rattle.reports.specs.Told.{told_of}
 use Rattle.reports.specs.declared.report.Report.{Report}
-use Rattle.texts.specs.Bytes.{le}
+use Rattle.texts.specs.Bytes.{le, part}
 use Rattle.wire.proofs.Headers.{opened_by}
 use Rattle.wire.proofs.Sound.{kinds_same}
 use Rattle.wire.specs.Kinds.{letter_of, total_of, table_of}

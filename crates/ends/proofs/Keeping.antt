@@ -2,7 +2,7 @@
 use Rattle.std.proofs.Common.{◌≡◌, ◌⊎◌, inl, inr, ℕ, ◌≤◌, max, Bool, true, false, List, [], ◌∷◌, None, Ok, Err, Option, Result, length, refl, arith}
 use Rattle.codes.specs.declared.session.AckResponse.TheVariants.{Successful, LimitReached, InvalidAppId, ServiceUnavailable}
 use Rattle.codes.specs.declared.session.Partition.{Partition}
-use Rattle.ends.proofs.Carrying.{Brings, Flows, Grows, Holding, Loads, brings_grown, holding_grown, loads_grown, loads_cut}
+use Rattle.ends.proofs.Carrying.{Brings, Flows, Holding, Loads, brings_grown, holding_grown, loads_grown, loads_cut}
 use Rattle.ends.proofs.Flights.{Passed, there_within, hers_grown, passed_grown}
 use Rattle.ends.specs.Agreement.{place, is_hers}
 use Rattle.ends.specs.Allowed.{Line}
@@ -22,6 +22,7 @@ use Rattle.follower.specs.declared.stage.Stage.TheVariants.{Idle, Asked, Running
 use Rattle.gateway.specs.State.{State, session}
 use Rattle.keyed.specs.Numbers.{under}
 use Rattle.layout.specs.declared.fault.Fault.{Fault}
+use Rattle.line.proofs.Growing.{Grows}
 use Rattle.limits.specs.declared.TheConstants.{ORDERS}
 use Rattle.partitions.specs.PerPartition.{at}
 use Rattle.partitions.specs.declared.per_partition.PerPartition.{PerPartition}
@@ -151,7 +152,8 @@ pub staged_up : (t : Stage) (c : ℕ) (k : Kept) (place place' : Partition → �
     (o : Option Download) (x : Line) → ((p : Partition) → place p ≤ place' p) → Staged t c k place b o x
     → Staged t c k place' b o x
 staged_up Idle c k place place' b o x g h = h
-staged_up (Asked p) c k place place' b o x g (a, h) = (a, asked_up c (at k p) p (at b p) (place p) (place' p) o x (g p) h)
+staged_up (Asked p) c k place place' b o x g (a, h) =
+    (a, asked_up c (at k p) p (at b p) (place p) (place' p) o x (g p) h)
 staged_up (Running p) c k place place' b o x g (a, r, z, le, h) =
     (a, repeats_up c (at k p) p (place p) (place' p) x.again (g p) r, z, (let q = g p in omega (arith, le, q)), h)
 
@@ -167,7 +169,8 @@ pub staged_cut : (t : Stage) (c : ℕ) (k : Kept) (place : Partition → ℕ) (b
     (x : Line) → Staged t c k place b o x → Staged t c k place b None x
 staged_cut Idle c k place b o x (a, r, g, e) = (a, r, g, refl)
 staged_cut (Asked p) c k place b o x (a, h) = (a, asked_cut c (at k p) p (at b p) (place p) o x h)
-staged_cut (Running p) c k place b o x (a, r, z, le, h) = (a, r, z, le, loads_cut c (at k p) p (at b p) o z x.recovered h)
+staged_cut (Running p) c k place b o x (a, r, z, le, h) =
+    (a, r, z, le, loads_cut c (at k p) p (at b p) o z x.recovered h)
 
 -- what is under way live is nothing to it
 pub staged_live : (t : Stage) (c : ℕ) (k : Kept) (place : Partition → ℕ) (b : PerPartition ℕ) (o : Option Download)

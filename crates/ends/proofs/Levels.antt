@@ -8,13 +8,14 @@ use Rattle.codes.specs.declared.session.Partition.{Partition}
 use Rattle.codes.specs.declared.session.Partition.TheVariants.{One, Two, Three}
 use Rattle.codes.specs.declared.session.ReportResponse.{ReportResponse}
 use Rattle.codes.specs.declared.session.ReportResponse.TheVariants as ending
+use Rattle.codes.specs.Session.{same_partition}
 use Rattle.ends.specs.Laws.{StaysLevel, StaysBehind, state_of, is_full, gives}
 use Rattle.ends.specs.Runs.{Desk, Does, Runs, fresh, blank}
 use Rattle.call.specs.declared.both_ends.Done.{Done}
 use Rattle.call.specs.declared.both_ends.Done.TheVariants as done
 use Rattle.follower.specs.Asking.{asks_of, asking}
 use Rattle.follower.specs.Folding.{Reached, reached, caught_up}
-use Rattle.follower.specs.Following.{Following, Step, turned, answered, folded, folded_to, held, overrun, live_by, lived, acked, acked_of, same, recovered_of, reported, levelled, ended, ended_of, rejected, recovering, live_step, recovered_step, refused}
+use Rattle.follower.specs.Following.{Following, Step, turned, answered, folded, folded_to, held, overrun, live_by, lived, acked, acked_of, recovered_of, reported, levelled, ended, ended_of, rejected, recovering, live_step, recovered_step, refused}
 use Rattle.follower.specs.Numbers.{number_of}
 use Rattle.follower.specs.declared.answer.Live.TheVariants as live
 use Rattle.follower.specs.declared.answer.Recovered.{Recovered}
@@ -124,9 +125,9 @@ module _ (p : Partition) where
       → LevelAt (reported f s q h).after p
   reported_level f Idle q h l = l
   reported_level f (Asked u) q h l =
-      either {A = Recovered} p f (same q u) (refused fault.OutOfTurn f) (refused fault.Partition f) l l
+      either {A = Recovered} p f (same_partition q u) (refused fault.OutOfTurn f) (refused fault.Partition f) l l
   reported_level f (Running u) q h l =
-      either {A = Recovered} p f (same q u) (recovered_of f q h) (refused fault.Partition f)
+      either {A = Recovered} p f (same_partition q u) (recovered_of f q h) (refused fault.Partition f)
       (either {A = Recovered} p f (nat_le (number_of h) (at f.sides q).place) (answered recovered.Already f)
       (folded recovered.Folded f q h) l (folded_level p recovered.Folded f q (number_of h) _ l)) l
 

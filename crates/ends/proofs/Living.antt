@@ -4,6 +4,7 @@ use Rattle.std.proofs.Common.{◌≡◌, ◌≢◌, ◌⊎◌, inl, inr, ℕ, �
 use Rattle.std.proofs.lemmas.Bool.{leb-true, le-leb}
 use Rattle.codes.specs.declared.session.Partition.{Partition}
 use Rattle.codes.specs.declared.session.Partition.TheVariants.{One, Two, Three}
+use Rattle.codes.specs.Session.{same_partition}
 use Rattle.ends.proofs.Carrying.{held, Flows, Holding, at_written, holding_up, holding_more, holding_on}
 use Rattle.ends.proofs.Caught.{Folded, folds}
 use Rattle.ends.proofs.Flights.{Passed, Next, next_within, passed_less}
@@ -28,7 +29,6 @@ use Rattle.reports.specs.declared.standings.FoldRefusal.{FoldRefusal}
 use Rattle.sessions.specs.declared.session.SessionState.{SessionState}
 use Rattle.std.specs.FinMap.{get}
 use Rattle.store.specs.Kept.{Kept}
-use Rattle.venue.specs.Ledger.{is_at}
 use Rattle.venue.specs.View.{View, Sound}
 
 -- the number of the last report that was folded in a partition
@@ -105,7 +105,8 @@ module _ (c : ℕ) (v : View) (sound : Sound v) (few : length v.rows ≤ ORDERS)
     pub placed : Placed c v.kept (place_in (after_fold f p n after))
 
   pub moves : (f : Following) (p : Partition) (n : ℕ) (e : Entry) → Tallied c v.kept f.standings (place_in f)
-      → Placed c v.kept (place_in f) → Next c (at v.kept p) (place_in f p) n → under (at v.kept p) n ≡ Some e → e.owner ≡ c
+      → Placed c v.kept (place_in f) → Next c (at v.kept p) (place_in f p) n → under (at v.kept p) n ≡ Some e
+      → e.owner ≡ c
       → Moved f p n e
   moves f p n e t pl x s o =
       let h = folds v.instruments v.rows v.kept c f.standings
@@ -172,7 +173,8 @@ module _ (c : ℕ) (k : Kept) (s : SessionState) where
   pub flowing_popped : (place : Partition → ℕ) (x : Line) (m : List ℕ) (rest : List (List ℕ)) (t u : Taking)
       (y : PerPartition ℕ) (p : Partition) (n : ℕ) → Next c (at k p) (at y p) n → Flows c k s.sent (with_at y p n) rest
       → Only p n u
-      → Flowing c k s.sent place x t y → Flowing c k s.sent place (record x { live = rest }) (or_one t u) (with_at y p n)
+      → Flowing c k s.sent place x t y
+      → Flowing c k s.sent place (record x { live = rest }) (or_one t u) (with_at y p n)
   flowing_popped place x m rest t u y p n next flows only h = record {
     within = or_as_it_was (λ q z. z ≤ length (at k q)) y p n (next_within c (at k p) (at y p) n next) h.within;
     flows = flows;
@@ -236,7 +238,8 @@ module _ (c : ℕ) (k : Kept) (s : SessionState) where
       (e : Entry) (a : Up c k s f (place_in f) x t) → (at f.sides p).state ≡ Behind → under (at k p) n ≡ Some e
       → e.owner ≡ c
       → Next c (at k p) (at a.y p) n → Flows c k s.sent (with_at a.y p n) rest → Only p n u
-      → Up c k s (with_hold f p (held n e)) (place_in (with_hold f p (held n e))) (record x { live = rest }) (or_one t u)
+      → Up c k s (with_hold f p (held n e)) (place_in (with_hold f p (held n e))) (record x { live = rest })
+      (or_one t u)
   up_held f x m rest t u p n e a st sd o next flows only =
       let g = with_hold f p (held n e) in
       let same = hold_places f p (held n e) in
@@ -247,7 +250,8 @@ module _ (c : ℕ) (k : Kept) (s : SessionState) where
         flowing = record {
           within = fl.within;
           flows = fl.flows;
-          taken = λ q i h. let w = fl.taken q i h in let z : place_in g q ≡ place_in f q = same q in omega (arith, w, z);
+          taken = λ q i h. let w = fl.taken q i h in let z : place_in g q
+              ≡ place_in f q = same q in omega (arith, w, z);
         };
         bases = a.bases;
         sides =
@@ -271,7 +275,7 @@ pub tallied_as : (c : ℕ) (k : Kept) (w : Knowledge) (pl pl' : Partition → �
 tallied_as c k w pl pl' e t q m = t q m ∙ ap (λ z. get (tally_to q c (at k q) z) m) (sym (e q))
 
 abbrev moved_to : (Partition → ℕ) → Partition → ℕ → Partition → ℕ
-moved_to pl p n q = cond (is_at p q) n (pl q)
+moved_to pl p n q = cond (same_partition p q) n (pl q)
 
 moved_here : (pl : Partition → ℕ) (p : Partition) (n : ℕ) → moved_to pl p n p ≡ n
 moved_here pl One n = refl

@@ -3,11 +3,10 @@ use Rattle.std.proofs.Common.{◌≡◌, ℕ, List, [], ◌∷◌, ◌++◌, Non
 use Rattle.codes.specs.Session.{partition_code}
 use Rattle.codes.specs.declared.session.Partition.{Partition}
 use Rattle.follower.specs.Asking.{request, ReadBack}
-use Rattle.layout.specs.Layout.{part}
 use Rattle.layout.specs.Layout.Content.{figure, int8}
 use Rattle.layout.specs.Writing.{header, encode}
 use Rattle.layout.specs.declared.fault.Fault.{Fault}
-use Rattle.texts.specs.Bytes.{le}
+use Rattle.texts.specs.Bytes.{le, part}
 use Rattle.wire.proofs.Headers.{opened_by}
 use Rattle.wire.proofs.Sound.{kinds_same}
 use Rattle.wire.specs.Kinds.{letter_of, total_of, table_of}

@@ -32,7 +32,11 @@ stay : (c : ℕ) (l : List Entry) (s : ℕ) → s ≤ length l → Moves c l s s
 stay c l s w = record { from = omega arith; within = w; passed = λ j lt le. absurd (omega (arith, lt, le)) }
 
 pass : (c : ℕ) (l : List Entry) (s : ℕ) → s ≤ length l → Lowest l c s None → Moves c l s (max s (length l))
-pass c l s w h = record { from = omega arith; within = omega (arith, w); passed = passed_all c l s (max s (length l)) h }
+pass c l s w h = record {
+  from = omega arith;
+  within = omega (arith, w);
+  passed = passed_all c l s (max s (length l)) h;
+}
 
 module _ (c : ℕ) (k : Kept) (s : PerPartition ℕ) (w : (p : Partition) → at s p ≤ length (at k p)) where
   looks : (r1 r2 r3 : Option ℕ) → Lowest k.one c s.one r1 → Lowest k.two c s.two r2 → Lowest k.three c s.three r3

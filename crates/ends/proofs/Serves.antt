@@ -11,7 +11,7 @@ use Rattle.codes.specs.declared.session.AckResponse.{AckResponse}
 use Rattle.codes.specs.declared.session.AckResponse.TheVariants.{Successful, LimitReached, InvalidAppId, ServiceUnavailable}
 use Rattle.codes.specs.declared.session.Partition.{Partition}
 use Rattle.codes.specs.declared.session.Partition.TheVariants.{One, Two, Three}
-use Rattle.ends.proofs.Carrying.{held, Brings, Flows, Ahead, Moves, Sent, Grows, Loads, flows_grown, flows_on, flows_more, loads_more, loads_end}
+use Rattle.ends.proofs.Carrying.{held, Brings, Flows, Ahead, Moves, Sent, Loads, flows_grown, flows_on, flows_more, loads_more, loads_end}
 use Rattle.ends.proofs.Caught.{grows}
 use Rattle.ends.proofs.Flights.{Passed, Next, there_within, hers_grown, longer, hers_is}
 use Rattle.ends.proofs.Follows.{to_up, to_ready, to_away, next_is, same_ok, ok_err}
@@ -38,6 +38,7 @@ use Rattle.layout.specs.declared.fault.Fault.{Fault}
 use Rattle.limits.specs.declared.TheConstants.{ORDERS}
 use Rattle.line.proofs.Effects.{Stays, Closes, Opens, RealTimeDoes, Grants, RecoveryDoes, SendDoes, RecoverDoes}
 use Rattle.line.specs.Runs.{blank}
+use Rattle.line.proofs.Growing.{Grows}
 use Rattle.session_messages.specs.declared.missed_message_request.MissedMessageRequest.{MissedMessageRequest}
 use Rattle.partitions.specs.PerPartition.{at, with_at}
 use Rattle.partitions.specs.declared.per_partition.PerPartition.{PerPartition}
@@ -219,7 +220,8 @@ module _ (c : ℕ) (s : State) (d : Desk) (x : Line) (t : Taking) (k : Keeps c s
   -- ---- the real-time channel
 
   -- nothing was sent
-  sent_nothing : (bytes : List ℕ) → bytes ≡ [] → Keeps c w d x t → Keeps c w d (record x { live = behind x.live bytes }) t
+  sent_nothing : (bytes : List ℕ) → bytes ≡ [] → Keeps c w d x t
+      → Keeps c w d (record x { live = behind x.live bytes }) t
   sent_nothing bytes e h = subst (λ z. Keeps c w d (record x { live = behind x.live z }) t) (sym e) h
 
   sent_within : (p : Partition) → (y : PerPartition ℕ) (ms : List (List ℕ)) → Flows c old (session s c).sent y ms
@@ -258,7 +260,8 @@ module _ (c : ℕ) (s : State) (d : Desk) (x : Line) (t : Taking) (k : Keeps c s
       → Keeps c w d (record x { live = ms }) t
   goes_live ms ed on = goes_on (record x { live = ms }) refl refl on_ready on_up
     where
-      on_ready : Ready c old (session s c) (place d) x t → Ready c new (session w c) (place d) (record x { live = ms }) t
+      on_ready : Ready c old (session s c) (place d) x t
+          → Ready c new (session w c) (place d) (record x { live = ms }) t
       on_ready r =
           record { y = r.y; flowing = on r.y r.flowing; still = (let (a, b, e, o) = r.still in (a, b, e, ed ∙ o)) }
 
@@ -276,7 +279,8 @@ module _ (c : ℕ) (s : State) (d : Desk) (x : Line) (t : Taking) (k : Keeps c s
       }
 
   sends_by : (o : Option (Partition × ℕ)) (sent' : PerPartition ℕ) (bytes : List ℕ)
-      → ((y : PerPartition ℕ) → Flowing c old (session s c).sent (place d) x t y → SentBy c old (session s c).sent sent' o)
+      → ((y : PerPartition ℕ) → Flowing c old (session s c).sent (place d) x t y
+      → SentBy c old (session s c).sent sent' o)
       → bytes ≡ sent_bytes old o → (session w c).sent ≡ sent' → (session w c).download ≡ (session s c).download
       → SentTold old o
       → Keeps c w d (record x { live = behind x.live bytes }) t
@@ -351,7 +355,8 @@ module _ (c : ℕ) (s : State) (d : Desk) (x : Line) (t : Taking) (k : Keeps c s
         → AskedAs c (at new p) p b (place d p) (session w c).download answer_line
 
     request_answered : (session w c).sent ≡ (session s c).sent → Answers → Keeps c w d answer_line t
-    request_answered es ans = goes_recovered (x.recovered ++ reply ∷ []) rest es (λ st. no_asked m rest front st.0) staged
+    request_answered es ans = goes_recovered (x.recovered ++ reply ∷ []) rest es
+        (λ st. no_asked m rest front st.0) staged
       where
         by : (g : Stage) (b : PerPartition ℕ) → ((p : Partition) → at b p ≤ length (at old p))
             → Staged g c new (place d) b (session s c).download x

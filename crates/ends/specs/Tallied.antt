@@ -2,17 +2,17 @@
 use Rattle.std.specs.Prelude.{◌≡◌, ℕ, Some, None, Option, if◌then◌else◌}
 use Rattle.std.specs.FinMap.{get}
 use Rattle.codes.specs.declared.session.Partition.{Partition}
+use Rattle.codes.specs.Session.{same_partition}
 use Rattle.partitions.specs.PerPartition.{at}
 use Rattle.reports.specs.declared.standing.Standing.{Standing}
 use Rattle.reports.specs.Fold.{Knowledge}
 use Rattle.reports.specs.Tally.{tally_to}
 use Rattle.store.specs.Kept.{Kept}
-use Rattle.venue.specs.Ledger.{is_at}
 
 -- a standing, where it is of the partition
 abbrev pub there : Partition → Option Standing → Option Standing
 there p None = None
-there p (Some s) = if is_at s.partition p then Some s else None
+there p (Some s) = if same_partition s.partition p then Some s else None
 
 -- what is known of a partition's orders is the tally of the owner's reports there up to a place
 abbrev pub Tallied : ℕ → Kept → Knowledge → (Partition → ℕ) → Type 0

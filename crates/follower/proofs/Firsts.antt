@@ -92,7 +92,8 @@ further from ks i b None s e g = record {
 further from ks i b (Some k) s e g =
     let w = bettered from ks b k s.stands g in
     record {
-      past = λ j x lt f. past_more from ks i b k s (sym e) w j x (eq-or-lt_of_le (let le : j ≤ i = omega arith in le)) f;
+      past = λ j x lt f. past_more from ks i b k s (sym e) w j x
+          (eq-or-lt_of_le (let le : j ≤ i = omega arith in le)) f;
       stands = w.stands;
     }
 

@@ -1,7 +1,12 @@
 -- What is heard in a message is what its contents, and so its bytes, say. Assumes nothing.
-use Rattle.std.proofs.Common.{◌≡◌, ℕ, List, [], ◌∷◌, map, Some, None, Ok, Err, Result, refl, sym, ap, ◌∙◌}
+use Rattle.std.proofs.Common.{◌≡◌, ℕ, List, Some, None, Ok, Err, Result, refl, sym, ap, ◌∙◌}
 use Rattle.codes.specs.Report.{exec_types, exec_type_code, statuses, status_code}
 use Rattle.codes.specs.Session.{partitions, partition_code, ack_responses, ack_response_code, report_responses, report_response_code}
+use Rattle.codes.specs.contracts.report.ExecTypeCode.TheImpl.Laws as exec_law
+use Rattle.codes.specs.contracts.report.StatusCode.TheImpl.Laws as status_law
+use Rattle.codes.specs.contracts.session.PartitionCode.TheImpl.Laws as partition_law
+use Rattle.codes.specs.contracts.session.AckResponseCode.TheImpl.Laws as ack_law
+use Rattle.codes.specs.contracts.session.ReportResponseCode.TheImpl.Laws as ending_law
 use Rattle.codes.specs.declared.report.ExecType.{ExecType}
 use Rattle.codes.specs.declared.report.ExecType.TheVariants as exec
 use Rattle.codes.specs.declared.report.Status.{Status}
@@ -14,9 +19,9 @@ use Rattle.codes.specs.declared.session.ReportResponse.{ReportResponse}
 use Rattle.codes.specs.declared.session.ReportResponse.TheVariants as ending
 use Rattle.terms.specs.Execution.{kind_of as exec_of}
 use Rattle.layout.specs.declared.fault.Fault.{Fault}
-use Rattle.layout.specs.declared.field.Field.{Field}
-use Rattle.layout.specs.Layout.{Content, got, fault_of, Says}
+use Rattle.layout.specs.Layout.{Content, fault_of, Says, value_of}
 use Rattle.layout.specs.Layout.Content.{figure}
+use Rattle.layout.proofs.Values.{all_got, value_back}
 use Rattle.wire.specs.declared.kinds.Channel.TheVariants.{Follower}
 use Rattle.wire.specs.declared.kinds.Kind.{Kind}
 use Rattle.wire.specs.declared.message.Message.{Message}
@@ -24,45 +29,29 @@ use Rattle.wire.specs.declared.message.Message.TheVariants as message
 use Rattle.wire.specs.Kinds.{table_of}
 use Rattle.wire.specs.Messages.{kind_of, contents_of, opening, after_opening, verdict, Reads}
 use Rattle.follower.specs.declared.heard.Heard.{Heard}
-use Rattle.follower.specs.Hearing.{heard, heard_from, heard_in, heard_opened, heard_unless, value_of}
+use Rattle.follower.specs.Hearing.{heard, heard_from, heard_in, heard_opened, heard_unless}
 
 -- a value by its byte
 exec_back : (x : ExecType) → value_of exec_type_code exec_types exec.Unspecified (figure (exec_type_code x)) ≡ x
-exec_back exec.Unspecified = refl
-exec_back exec.New = refl
-exec_back exec.Cancelled = refl
-exec_back exec.Replaced = refl
-exec_back exec.Rejected = refl
-exec_back exec.Expired = refl
-exec_back exec.Restated = refl
-exec_back exec.Trade = refl
-exec_back exec.TradeCancel = refl
+exec_back x = value_back exec_type_code exec_types exec.Unspecified x (exec_law.every-law x) (λ y. exec_law.one-law y x)
 
 status_back : (x : Status) → value_of status_code statuses status.New (figure (status_code x)) ≡ x
-status_back status.New = refl
-status_back status.PartiallyFilled = refl
-status_back status.Filled = refl
-status_back status.Cancelled = refl
-status_back status.Expired = refl
-status_back status.Rejected = refl
+status_back x = value_back status_code statuses status.New x (status_law.every-law x) (λ y. status_law.one-law y x)
 
 pub partition_back : (x : Partition) → value_of partition_code partitions partition.One (figure (partition_code x)) ≡ x
-partition_back partition.One = refl
-partition_back partition.Two = refl
-partition_back partition.Three = refl
+partition_back x =
+    value_back partition_code partitions partition.One x (partition_law.every-law x) (λ y. partition_law.one-law y x)
 
 ack_back : (x : AckResponse) → value_of ack_response_code ack_responses ack.ServiceUnavailable
     (figure (ack_response_code x)) ≡ x
-ack_back ack.Successful = refl
-ack_back ack.LimitReached = refl
-ack_back ack.InvalidAppId = refl
-ack_back ack.ServiceUnavailable = refl
+ack_back x =
+    value_back ack_response_code ack_responses ack.ServiceUnavailable x (ack_law.every-law x) (λ y. ack_law.one-law y x)
 
 ending_back : (x : ReportResponse) → value_of report_response_code report_responses ending.Complete
     (figure (report_response_code x)) ≡ x
-ending_back ending.Complete = refl
-ending_back ending.MessageLimit = refl
-ending_back ending.ServiceUnavailable = refl
+ending_back x =
+    value_back report_response_code report_responses ending.Complete x (ending_law.every-law x)
+    (λ y. ending_law.one-law y x)
 
 -- what a message's contents say is what is heard in it
 pub contents_say : (m : Message) → heard_from (kind_of m) (contents_of m) ≡ heard m
@@ -85,13 +74,6 @@ contents_say (message.NewOrder m) = refl
 contents_say (message.OrderCancelRequest m) = refl
 contents_say (message.OrderCancelReplaceRequest m) = refl
 contents_say (message.OrderMassCancelRequest m) = refl
-
--- contents that bytes hold are those that are got from them
-all_got : (fs : List Field) (vs : List Content) (bs : List ℕ) → Says vs fs bs → map (got bs) fs ≡ vs
-all_got [] [] bs h = refl
-all_got [] (v ∷ vs) bs h = absurd h
-all_got (f ∷ fs) [] bs h = absurd h
-all_got (f ∷ fs) (v ∷ vs) bs h = let a = sym h.0 in let b = all_got fs vs bs h.1 in cc
 
 no_fault : (bs : List ℕ) (k : Kind) → verdict Follower bs ≡ None → opening Follower bs ≡ Ok k
     → fault_of (table_of k) bs ≡ None

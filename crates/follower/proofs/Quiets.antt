@@ -6,6 +6,7 @@ use Rattle.codes.specs.declared.session.AckResponse.{AckResponse}
 use Rattle.codes.specs.declared.session.AckResponse.TheVariants.{Successful, LimitReached, InvalidAppId, ServiceUnavailable}
 use Rattle.codes.specs.declared.session.ReportResponse.{ReportResponse}
 use Rattle.codes.specs.declared.session.ReportResponse.TheVariants as ending
+use Rattle.codes.specs.Session.{same_partition}
 use Rattle.layout.specs.declared.fault.Fault.{Fault}
 use Rattle.partitions.specs.declared.per_partition.PerPartition.{PerPartition}
 use Rattle.partitions.specs.PerPartition.{at, with_at}
@@ -28,7 +29,7 @@ use Rattle.follower.specs.declared.stage.Stage.{Stage}
 use Rattle.follower.specs.declared.stage.Stage.TheVariants.{Idle, Asked, Running}
 use Rattle.follower.specs.Numbers.{number_of}
 use Rattle.follower.specs.Folding.{Reached, reached, caught_up}
-use Rattle.follower.specs.Following.{Following, Step, start, turned, answered, refused, folded, folded_to, held, overrun, live_by, lived, acked_of, acked, same, recovered_of, reported, levelled, ended_of, ended, rejected, recovering, live_step, recovered_step}
+use Rattle.follower.specs.Following.{Following, Step, start, turned, answered, refused, folded, folded_to, held, overrun, live_by, lived, acked_of, acked, recovered_of, reported, levelled, ended_of, ended, rejected, recovering, live_step, recovered_step}
 use Rattle.follower.specs.Asking.{asks_of, asks, asking, asking_of, partition_of}
 use Rattle.follower.specs.Quiet.{HoldsNothing, Quiet, StaysQuiet}
 
@@ -122,9 +123,9 @@ module _ (f : Following) (u : f.up ≡ true) (quiet : Quiet f) where
 
   report : (s : Stage) (p : Partition) (h : Held) → Leaves (reported f s p h)
   report Idle p h = quiet
-  report (Asked q) p h = either (same p q) (refused fault.OutOfTurn f) (refused fault.Partition f) quiet quiet
+  report (Asked q) p h = either (same_partition p q) (refused fault.OutOfTurn f) (refused fault.Partition f) quiet quiet
   report (Running q) p h =
-      either (same p q) (recovered_of f p h) (refused fault.Partition f) (recovers_of p h) quiet
+      either (same_partition p q) (recovered_of f p h) (refused fault.Partition f) (recovers_of p h) quiet
 
   level : (p : Partition) (r : Result Reached FoldRefusal) → Leaves (levelled f p r)
   level p (Err e) = quiet

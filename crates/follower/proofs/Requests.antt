@@ -27,8 +27,10 @@ module _ (p : Partition) (n : ℕ) (m : MissedMessageRequest) (a : m.partition �
   -- no other message is like it
   same_request : (r : Message) → plain r ≡ plain (message.MissedMessageRequest m) → IsRequest p n r
   same_request (message.MissedMessageRequest r) e =
-      let same : r ≡ m = cc in
-      (ap (λ (x : MissedMessageRequest). x.partition) same ∙ a, ap (λ (x : MissedMessageRequest). x.last.value) same ∙ b)
+      let same : r ≡ m = cc in (
+        ap (λ (x : MissedMessageRequest). x.partition) same ∙ a,
+        ap (λ (x : MissedMessageRequest). x.last.value) same ∙ b,
+      )
   same_request (message.Logon r) e = absurd cc
   same_request (message.LogonReply r) e = absurd cc
   same_request (message.Logout r) e = absurd cc
@@ -55,4 +57,5 @@ module _ (p : Partition) (n : ℕ) (m : MissedMessageRequest) (a : m.partition �
   pub wrote : (len : ℕ) (before after : List ℕ) → len ≡ total_of Request → after
       ≡ written (message.MissedMessageRequest m) ++ drop len before → after ≡ request p n
       ++ drop (total_of Request) before
-  wrote len before after l w = w ∙ ap (λ bs. bs ++ drop len before) written_as ∙ ap (λ k. request p n ++ drop k before) l
+  wrote len before after l w = w ∙ ap (λ bs. bs ++ drop len before) written_as
+      ∙ ap (λ k. request p n ++ drop k before) l

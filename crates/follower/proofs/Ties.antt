@@ -5,6 +5,7 @@ use Rattle.codes.specs.declared.session.AckResponse.{AckResponse}
 use Rattle.codes.specs.declared.session.AckResponse.TheVariants.{Successful, LimitReached, InvalidAppId, ServiceUnavailable}
 use Rattle.codes.specs.declared.session.ReportResponse.{ReportResponse}
 use Rattle.codes.specs.declared.session.ReportResponse.TheVariants as ending
+use Rattle.codes.specs.Session.{same_partition}
 use Rattle.layout.specs.declared.fault.Fault.{Fault}
 use Rattle.partitions.specs.PerPartition.{at}
 use Rattle.reports.specs.Fold.{Knowledge, fold}
@@ -26,7 +27,7 @@ use Rattle.follower.specs.declared.stage.Stage.{Stage}
 use Rattle.follower.specs.declared.stage.Stage.TheVariants.{Idle, Asked, Running}
 use Rattle.follower.specs.Numbers.{number_of}
 use Rattle.follower.specs.Folding.{Reached, reached, caught_up}
-use Rattle.follower.specs.Following.{Following, Step, answered, refused, folded, folded_to, held, overrun, live_by, lived, acked_of, acked, same, recovered_of, reported, levelled, ended_of, ended, rejected, recovering, live_step, recovered_step}
+use Rattle.follower.specs.Following.{Following, Step, answered, refused, folded, folded_to, held, overrun, live_by, lived, acked_of, acked, recovered_of, reported, levelled, ended_of, ended, rejected, recovering, live_step, recovered_step}
 use Rattle.follower.specs.Asking.{asks_of, asks, asking}
 use Rattle.follower.specs.Owing.{Tied, awaited, after_live, after_recovered}
 
@@ -104,9 +105,11 @@ recovered_tied_of f p h =
 report_tied : (f : Following) (s : Stage) (p : Partition) (h : Held) → Recovers f (reported f s p h)
 report_tied f Idle p h = λ t e. e
 report_tied f (Asked q) p h =
-    recovered_either f (same p q) (refused fault.OutOfTurn f) (refused fault.Partition f) (λ t e. e) (λ t e. e)
+    recovered_either f (same_partition p q) (refused fault.OutOfTurn f) (refused fault.Partition f) (λ t e. e)
+    (λ t e. e)
 report_tied f (Running q) p h =
-    recovered_either f (same p q) (recovered_of f p h) (refused fault.Partition f) (recovered_tied_of f p h) (λ t e. e)
+    recovered_either f (same_partition p q) (recovered_of f p h) (refused fault.Partition f) (recovered_tied_of f p h)
+    (λ t e. e)
 
 levelled_tied : (f : Following) (p : Partition) (r : Result Reached FoldRefusal) → Recovers f (levelled f p r)
 levelled_tied f p (Ok r) t e = refl

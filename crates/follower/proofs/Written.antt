@@ -18,6 +18,7 @@ use Rattle.reports.specs.declared.report.Report.TheVariants as report
 use Rattle.reports.specs.Told.{told_of}
 use Rattle.report_messages.specs.Back.{report_in}
 use Rattle.report_messages.specs.Telling.{told_as, kind_told}
+use Rattle.report_messages.proofs.Takes.{follower_takes}
 use Rattle.follower.specs.declared.heard.Heard.{Heard}
 use Rattle.follower.specs.declared.heard.Heard.TheVariants as heard
 use Rattle.follower.specs.Hearing.{heard as heard_of, heard_from}
@@ -64,7 +65,8 @@ begins p n (report.Execution e) =
     ap (λ q. heard.Report q (record { sequence = pos n; told = told_by p n (report.Execution e) })) (partition_back p)
 begins p n (report.CancelReject e) =
     ap (λ q. heard.Report q (record { sequence = pos n; told = None })) (partition_back p)
-begins p n (report.MassCancel e) = ap (λ q. heard.Report q (record { sequence = pos n; told = None })) (partition_back p)
+begins p n (report.MassCancel e) = ap (λ q. heard.Report q (record { sequence = pos n; told = None }))
+    (partition_back p)
 
 -- what a message tells by its contents
 said : (p : Partition) (n : ℕ) (r : Report) (m : Message) → Tells p n r m → heard_of m
@@ -79,11 +81,7 @@ told p n r m t =
     (option_and_then told_of) t.back in
     said p n r m t ∙ begins p n r ∙ ap (λ x. heard.Report p (record { sequence = pos n; told = x })) same
 
-taken : (r : Report) → takes Follower (letter_of (kind_told r)) ≡ Some (kind_told r)
-taken (report.Execution e) = refl
-taken (report.CancelReject e) = refl
-taken (report.MassCancel e) = refl
-
 pub reports_heard : ReportsHeard
 reports_heard p n r m t h =
-    written_heard m (subst (λ j. takes Follower (letter_of j) ≡ Some j) (sym t.kind) (taken r)) h ∙ ap Ok (told p n r m t)
+    written_heard m (subst (λ j. takes Follower (letter_of j) ≡ Some j) (sym t.kind) (follower_takes r)) h
+    ∙ ap Ok (told p n r m t)

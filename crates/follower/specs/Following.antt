@@ -1,6 +1,6 @@
 -- What a follower is, and what each of its calls answers and leaves. Assumes nothing.
-use Rattle.std.specs.Prelude.{ℕ, Bool, false, ◌∷◌, [], ◌++◌, length, Ok, Err, Result, Some, None, Option, ◌==◌, nat_le, nat_lt, if◌then◌else◌}
-use Rattle.codes.specs.Session.{partition_code}
+use Rattle.std.specs.Prelude.{ℕ, Bool, false, ◌∷◌, [], ◌++◌, length, Ok, Err, Result, Some, None, Option, nat_le, nat_lt, if◌then◌else◌}
+use Rattle.codes.specs.Session.{same_partition}
 use Rattle.codes.specs.declared.session.Partition.{Partition}
 use Rattle.codes.specs.declared.session.AckResponse.{AckResponse}
 use Rattle.codes.specs.declared.session.AckResponse.TheVariants.{Successful, LimitReached, InvalidAppId, ServiceUnavailable}
@@ -119,9 +119,6 @@ acked f Idle r = refused fault.OutOfTurn f
 acked f (Asked p) r = acked_of f p r
 acked f (Running p) r = refused fault.OutOfTurn f
 
-abbrev pub same : Partition → Partition → Bool
-same p q = partition_code p == partition_code q
-
 -- a report of a download that runs
 abbrev pub recovered_of : Following → Partition → Held → Step Recovered
 recovered_of f p h =
@@ -131,8 +128,8 @@ recovered_of f p h =
 -- a report: with a download it has to be of its partition, and the download has to run
 abbrev pub reported : Following → Stage → Partition → Held → Step Recovered
 reported f Idle p h = refused fault.OutOfTurn f
-reported f (Asked q) p h = if same p q then refused fault.OutOfTurn f else refused fault.Partition f
-reported f (Running q) p h = if same p q then recovered_of f p h else refused fault.Partition f
+reported f (Asked q) p h = if same_partition p q then refused fault.OutOfTurn f else refused fault.Partition f
+reported f (Running q) p h = if same_partition p q then recovered_of f p h else refused fault.Partition f
 
 -- what was held is folded behind the reports of the download, and the partition is level, unless one is refused
 abbrev pub levelled : Following → Partition → Result Reached FoldRefusal → Step Recovered

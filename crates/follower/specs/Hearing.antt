@@ -1,6 +1,6 @@
 -- What a follower hears in a message, and in the bytes of one. Assumes nothing.
-use Rattle.std.specs.Prelude.{ℕ, ℤ, List, map, Some, None, Ok, Err, Option, Result, ◌==◌, find, slice_index_or}
-use Rattle.std.specs.Option.{unwrap_or, option_and_then}
+use Rattle.std.specs.Prelude.{ℕ, ℤ, List, map, Some, None, Ok, Err, Option, Result}
+use Rattle.std.specs.Option.{option_and_then}
 use Rattle.codes.specs.Report.{exec_types, exec_type_code, statuses, status_code}
 use Rattle.codes.specs.Session.{partitions, partition_code, ack_responses, ack_response_code, report_responses, report_response_code}
 use Rattle.codes.specs.declared.report.ExecType.TheVariants as exec
@@ -9,8 +9,7 @@ use Rattle.codes.specs.declared.session.Partition.TheVariants as partition
 use Rattle.codes.specs.declared.session.AckResponse.TheVariants as ack
 use Rattle.codes.specs.declared.session.ReportResponse.TheVariants as ending
 use Rattle.layout.specs.declared.fault.Fault.{Fault}
-use Rattle.layout.specs.Layout.{Content, got, fault_of, words_of, figure_of, int32_of}
-use Rattle.layout.specs.Layout.Content.{nothing}
+use Rattle.layout.specs.Layout.{Content, got, fault_of, words_of, int32_of, nth, value_of}
 use Rattle.wire.specs.declared.kinds.Channel.TheVariants.{Follower}
 use Rattle.wire.specs.declared.kinds.Kind.{Kind}
 use Rattle.wire.specs.declared.kinds.Kind.TheVariants as kind
@@ -39,14 +38,6 @@ heard (message.MissedMessageRequestAck m) = Ack m.response
 heard (message.MissedMessageReport m) = End m.response
 heard (message.Reject m) = Reject
 heard m = Nothing
-
--- the content at a place of a message's contents
-abbrev pub nth : ℕ → List Content → Content
-nth i vs = slice_index_or vs i nothing
-
--- the value of a byte, or another one where none has it
-abbrev pub value_of : {V : Type 0} → (V → ℕ) → List V → V → Content → V
-value_of code values other c = unwrap_or (find (λ v. code v == figure_of c) values) other
 
 -- what the contents of an Execution Report tell
 abbrev pub told_from : List Content → Told

@@ -1,5 +1,4 @@
 // Folding the reports of a partition in turn.
-ghost use Rattle.std.specs.Prelude.{◌≡◌};
 ghost use Rattle.reports.specs.Known.{known};
 ghost use Rattle.queue.specs.Queues.{elements};
 ghost use Rattle.follower.specs.Folding.{reached, caught_one, caught_at, caught_up, CatchesUp};

@@ -3,7 +3,8 @@ ghost use Rattle.std.specs.Prelude.{◌≡◌, ◌==◌, nat_le, Ok};
 ghost use Rattle.partitions.specs.PerPartition.{at};
 ghost use Rattle.follower.specs.declared.side.State.TheVariants.{Behind};
 ghost use Rattle.follower.specs.Numbers.{number_of};
-ghost use Rattle.follower.specs.Following.{turned, state_for, lived, live_by, folded, no_download, same, acked, reported, recovered_of, completed, ended, rejected, recovering};
+ghost use Rattle.codes.specs.Session.{same_partition};
+ghost use Rattle.follower.specs.Following.{turned, state_for, lived, live_by, folded, no_download, acked, reported, recovered_of, completed, ended, rejected, recovering};
 
 use crate::answer::{Live, Recovered};
 use crate::fault::FollowerFault;
@@ -14,7 +15,7 @@ use crate::state::Follower;
 use codes::session::{AckResponse, Partition, ReportResponse};
 
 fn same(a: Partition, b: Partition) -> bool
-    ensures { result ≡ same a b }
+    ensures { result ≡ same_partition a b }
 {
     a as u8 == b as u8
 }

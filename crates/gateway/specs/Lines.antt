@@ -1,5 +1,5 @@
 -- What happens to a line. Assumes nothing.
-use Rattle.std.specs.Prelude.{ℕ, ◌-◌, Bool, ◌&&◌, length, pos, slice_get, Some, None, Ok, Err, Option, Result, ◌==◌, true, false}
+use Rattle.std.specs.Prelude.{ℕ, ◌-◌, Bool, ◌&&◌, length, pos, slice_get, Ok, Err, Option, Result, ◌==◌, true, false}
 use Rattle.std.specs.Str.{bytes_eq}
 use Rattle.std.specs.Option.{option_map_or}
 use Rattle.answers.specs.declared.answer.Answer.{Answer}

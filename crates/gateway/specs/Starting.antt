@@ -19,7 +19,8 @@ abbrev pub is_new : Meaning → Kept → Bool
 is_new m k = len m.orders == 0 && is_unused k
 
 -- a new day over the matcher and the store, or both given back
-abbrev pub Starts : {M S : Type 0} → Bool → List Participant → View → M → S → Result State (StartRefusal × M × S) → Type 0
+abbrev pub Starts : {M S : Type 0} → Bool → List Participant → View → M → S → Result State (StartRefusal × M × S)
+    → Type 0
 Starts new ps v m s (Ok g) = (new ≡ true) × (g ≡ fresh ps v)
 Starts new ps v m s (Err (NotEmpty, m', s')) = (new ≡ false) × (m' ≡ m) × (s' ≡ s)
 Starts new ps v m s (Err (NoMemory, m', s')) = (new ≡ true) × (m' ≡ m) × (s' ≡ s)

@@ -2,7 +2,7 @@
 ghost use Rattle.std.specs.Prelude.{◌≡◌, ◌<◌, ◌≤◌, length, Some};
 ghost use Rattle.wire.specs.declared.message.TheConstants.{BUFFER};
 ghost use Rattle.answers.specs.Sent.{Sent};
-ghost use Rattle.gateway.specs.Calls.{Steps, Undoes, Loses, Sends, Recovers, stored_bytes, step_fault};
+ghost use Rattle.gateway.specs.Calls.{Steps, Undoes, Loses, Sends, Recovers, stored_bytes};
 ghost use Rattle.gateway.specs.Hearing.{Hears};
 ghost use Rattle.gateway.specs.Telling.{RecoverTold, SendTold, StoredTold};
 ghost use Rattle.sessions.specs.declared.session.Channel.TheVariants.{RealTime, Recovery};

@@ -3,7 +3,7 @@ ghost use Rattle.std.specs.Prelude.{◌≡◌, ◌<◌, ◌≤◌, true, length}
 ghost use Rattle.wire.specs.declared.message.TheConstants.{BUFFER};
 ghost use Rattle.sessions.specs.Sessions.{on};
 ghost use Rattle.gateway.specs.State.{session};
-ghost use Rattle.gateway.specs.Hearing.{Took, Understands, Hears, answer_for, client_of, fault_rejection, firm_of, firm, outcome_of, last_of, logout, missed_on, partition_of, reader_of, rejection, taken, type_told};
+ghost use Rattle.gateway.specs.Hearing.{Took, Understands, Hears, answer_for, client_of, fault_rejection, firm, outcome_of, last_of, logout, missed_on, partition_of, reader_of, rejection, taken, type_told};
 
 use crate::fault::{GatewayFault, SessionFault};
 use crate::gateway::Gateway;

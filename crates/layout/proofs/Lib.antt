@@ -4,3 +4,4 @@ pub mod Overs
 pub mod Parts
 pub mod Tables
 pub mod Wholes
+pub mod Values

@@ -1,14 +1,13 @@
 -- A message as a table of fields: which bytes are taken, which are refused and where, and what they hold.
 -- Assumes nothing.
-use Rattle.std.specs.Prelude.{◌&&◌, ◌≡◌, ℕ, ◌+◌, max, Bool, true, false, List, [], ◌∷◌, take, drop, ℤ, pos, is_some, Some, None, Option, Result, MatchResult, nat_le, nat_lt, if◌then◌else◌, not}
+use Rattle.std.specs.Prelude.{◌&&◌, ◌≡◌, ℕ, ◌+◌, max, Bool, true, false, List, [], ◌∷◌, take, drop, ℤ, pos, is_some, Some, None, Option, Result, MatchResult, nat_le, nat_lt, if◌then◌else◌, not, slice_index_or, ◌==◌}
 use Rattle.std.proofs.Common.{to_z}
 use Rattle.std.specs.Int.{w8, w32, w64}
 use Rattle.std.specs.List.{AllByRecursion, find, list_all}
-use Rattle.std.specs.Option.{option_map}
+use Rattle.std.specs.Option.{option_map, unwrap_or}
 use Rattle.codes.specs.Member.{member}
 use Rattle.codes.specs.Lists.{listed}
-use Rattle.texts.specs.Bytes as bytes
-use Rattle.texts.specs.Bytes.{le, all_null, said, is_text, named}
+use Rattle.texts.specs.Bytes.{le, all_null, said, is_text, named, part}
 use Rattle.texts.specs.Identifiers.{number_of}
 use Rattle.layout.specs.declared.fault.Fault.{Fault}
 use Rattle.layout.specs.declared.fault.Fault.TheVariants as fault
@@ -17,10 +16,6 @@ use Rattle.layout.specs.declared.field.Form.TheVariants.{Text, Name, Order, UInt
 use Rattle.layout.specs.declared.field.Field.{Field}
 use Rattle.layout.specs.declared.field.Field.TheVariants.{Always, When}
 use Rattle.layout.specs.declared.sequence.TheConstants.{SEQUENCE_LIMIT}
-
--- the bytes of the field at a place, of a width
-abbrev pub part : ℕ → ℕ → List ℕ → List ℕ
-part at width bs = bytes.part at width bs
 
 -- a byte that is listed; shut, so that a proof takes it as one test
 unfoldable pub taken : ℕ → List ℕ → Bool
@@ -175,6 +170,14 @@ order_of _ = None
 abbrev pub figure_of : Content → ℕ
 figure_of (figure n) = n
 figure_of _ = 0
+
+-- the value of a byte, or another one where none has it
+abbrev pub value_of : {V : Type 0} → (V → ℕ) → List V → V → Content → V
+value_of code values other c = unwrap_or (find (λ v. code v == figure_of c) values) other
+
+-- the content at a place of a message's contents
+abbrev pub nth : ℕ → List Content → Content
+nth i vs = slice_index_or vs i nothing
 
 abbrev pub int8_of : Content → ℤ
 int8_of (int8 z) = z

@@ -1,5 +1,5 @@
 -- A message's bytes, from its table and what its fields hold. Assumes nothing.
-use Rattle.std.specs.Prelude.{◌&&◌, ◌≡◌, ℕ, ◌+◌, ◌-◌, Bool, if◌then◌else◌, List, [], ◌∷◌, ◌++◌, length, take, drop, replicate, Some, None, Option, ◌==◌}
+use Rattle.std.specs.Prelude.{◌&&◌, ◌≡◌, ℕ, ◌+◌, ◌-◌, Bool, if◌then◌else◌, List, [], ◌∷◌, ◌++◌, length, take, drop, replicate, Option, ◌==◌}
 use Rattle.std.proofs.Common.{of_z}
 use Rattle.std.specs.Int.{w8, w32, w64}
 use Rattle.std.specs.Option.{option_map_or}

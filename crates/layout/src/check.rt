@@ -1,6 +1,7 @@
 // The check of bytes against a message's layout.
-ghost use Rattle.std.specs.Prelude.{◌≡◌, ℕ, ◌+◌, ◌≤◌, true, length};
-ghost use Rattle.layout.specs.Layout.{ok_form, ok, matters, wide, within, span, Checked, part};
+ghost use Rattle.std.specs.Prelude.{◌≡◌, ◌+◌, ◌≤◌, true, length};
+ghost use Rattle.texts.specs.Bytes.{part};
+ghost use Rattle.layout.specs.Layout.{ok_form, ok, matters, wide, within, span, Checked};
 
 use crate::fault::Fault;
 use crate::field::{Field, Form};

@@ -96,7 +96,8 @@ new_or_bad : (m : NewOrder) (o : Option Ask) (a : Ask) → new.ask_of m ≡ o �
 new_or_bad m None a e h = absurd (cc)
 new_or_bad m (Some b) a e h = let is : b ≡ a = cc in subst (Fits m.quantity) is (new_if m _ b e)
 
-pub new_served : (m : NewOrder) (b : Bool) (e : Refusal) (a : Ask) → cond b (ok_or (new.ask_of m) BadTerms) (Err e) ≡ Ok a
+pub new_served : (m : NewOrder) (b : Bool) (e : Refusal) (a : Ask)
+    → cond b (ok_or (new.ask_of m) BadTerms) (Err e) ≡ Ok a
     → Fits m.quantity a
 new_served m true e a h = new_or_bad m (new.ask_of m) a refl h
 new_served m false e a h = absurd (cc)
@@ -107,7 +108,8 @@ accepts_moves : (o : Option AcceptRefusal) (line : ℕ) (a : Ask) (l : Listing) 
 accepts_moves (Some e) line a l m t v f = still (By (message.NewOrder m)) v.rows
 accepts_moves None line a l m t v f = adds (By (message.NewOrder m)) v.rows (new.terms_of line l.place m) a f.0 f.1
 
-ordered_moves : (r : Result Ask Refusal) (line : ℕ) (l : Listing) (m : NewOrder) (t : Time) (v : View) → new.asked m v ≡ r
+ordered_moves : (r : Result Ask Refusal) (line : ℕ) (l : Listing) (m : NewOrder) (t : Time) (v : View)
+    → new.asked m v ≡ r
     → MovesTo (By (message.NewOrder m)) v.rows (new.ordered r line l m t v)
 ordered_moves (Err e) line l m t v h = still (By (message.NewOrder m)) v.rows
 ordered_moves (Ok a) line l m t v h = accepts_moves (accept_fault v) line a l m t v (new_served m _ _ a h)
@@ -238,7 +240,8 @@ to_moves : (p : Move → Type 0) (q : Row → Bool) (c : Cause) (t : Time) (n : 
 to_moves p q c t zero v may = still p v.rows
 to_moves p q c t (suc n) v may =
     let u = withdrawn_to q c t n v in
-    onward p v.rows u.rows _ (to_moves p q c t n v may) (if_moves p (picks_at q (under u.rows (suc n))) c t (suc n) u may)
+    onward p v.rows u.rows _ (to_moves p q c t n v may)
+    (if_moves p (picks_at q (under u.rows (suc n))) c t (suc n) u may)
 
 pub all_moves : (p : Move → Type 0) (q : Row → Bool) (c : Cause) (t : Time) (v : View) → Withdrawals p
     → Moving p v.rows (withdrawn_all q c t v).rows
@@ -287,7 +290,8 @@ in_all_moves owner within line m t v =
 
 segment_moves : (s : List ℕ) (owner : ℕ → Bool) (line : ℕ) (m : OrderMassCancelRequest) (t : Time) (v : View)
     → MovesTo (By (message.OrderMassCancelRequest m)) v.rows (in_segment s owner line m t v)
-segment_moves s owner line m t v = where_known _ v.rows (has_segment v.instruments s) _ (in_all_moves owner _ line m t v)
+segment_moves s owner line m t v = where_known _ v.rows (has_segment v.instruments s) _
+    (in_all_moves owner _ line m t v)
 
 scope_moves : (x : Scope) (ps : List Participant) (firm line : ℕ) (m : OrderMassCancelRequest) (t : Time) (v : View)
     → MovesTo (By (message.OrderMassCancelRequest m)) v.rows (in_scope x ps firm line m t v)

@@ -160,7 +160,8 @@ filled_moves : (p : Move → Type 0) (v : View) (t : Time) (d : Deal) (first sec
     → Moving p l.rows (both_filled v.instruments t d first second l).rows
 filled_moves p v t d None None l f g = still p l.rows
 filled_moves p v t d (Some n) None l f g = changes p v.instruments t n (Fill (filling d Added)) l (λ k. refl) (f n refl)
-filled_moves p v t d None (Some m) l f g = changes p v.instruments t m (Fill (filling d Removed)) l (λ k. refl) (g m refl)
+filled_moves p v t d None (Some m) l f g = changes p v.instruments t m (Fill (filling d Removed)) l (λ k. refl)
+    (g m refl)
 filled_moves p v t d (Some n) (Some m) l f g =
     let x = passive_filled v.instruments t d (Some n) l in
     onward p l.rows x.rows _ (changes p v.instruments t n (Fill (filling d Added)) l (λ k. refl) (f n refl))

@@ -209,7 +209,8 @@ module _ (line : ℕ) (P : List ℕ → SessionState → Type 0) (ch : Channel) 
     outcome_makes (message.OrderMassCancelRequest m) t reads = asked (message.OrderMassCancelRequest m) _
     outcome_makes (message.MissedMessageRequest m) t reads =
         where_on (message.MissedMessageRequest m) (on ch (session s line)) _ refl (λ e. h.asks m reads e)
-    outcome_makes (message.Logout m) t reads = where_on (message.Logout m) (on ch (session s line)) _ refl (λ e. h.closes t)
+    outcome_makes (message.Logout m) t reads = where_on (message.Logout m) (on ch (session s line)) _ refl
+        (λ e. h.closes t)
     outcome_makes (message.LogonReply m) t reads = silence (message.LogonReply m)
     outcome_makes (message.Heartbeat m) t reads = silence (message.Heartbeat m)
     outcome_makes (message.MissedMessageRequestAck m) t reads = silence (message.MissedMessageRequestAck m)
@@ -447,7 +448,8 @@ module _ (line : ℕ) (s : State) (sound : Sound (session s line)) where
   recovery_on_sound there known false = second_on_sound there known (session s line).real_time refl
 
   opens_sound : (ch : Channel) → line < length s.lines → (m : Logon) → Makes line Keeps (answered (logon ch line m s))
-  opens_sound RealTime there m = real_on_sound there (admits (slice_get s.participants line) m) (session s line).real_time
+  opens_sound RealTime there m = real_on_sound there (admits (slice_get s.participants line) m)
+      (session s line).real_time
   opens_sound Recovery there m = recovery_on_sound there (admits (slice_get s.participants line) m)
       (session s line).recovery
 
@@ -455,7 +457,8 @@ module _ (line : ℕ) (s : State) (sound : Sound (session s line)) where
       → Makes line Keeps (missed_on ch line m s)
   asks_sound RealTime there m e = sound
   asks_sound Recovery there m e =
-      missed_makes line Keeps s m there sound (λ a g. sound) (λ p named none few. (omega (arith, few), sound.1, (λ f. e)))
+      missed_makes line Keeps s m there sound (λ a g. sound)
+      (λ p named none few. (omega (arith, few), sound.1, (λ f. e)))
 
   closes_sound : (ch : Channel) → line < length s.lines → (t : Time) → Makes line Keeps (logout ch line t s)
   closes_sound RealTime there t = placed line Keeps s [] (closed (session s line)) there shut_sound
@@ -495,7 +498,8 @@ module _ (line : ℕ) (s : State) (sound : Sound (session s line)) where
       (sound.0, sound.1, (λ f. sound.2 (runs_before (session s line).download f)))) k
 
 -- the line is the call's, or its session is as it was
-by_line : (b : Bool) (c line : ℕ) (s : State) (d : Done) (w : State) → eqb line c ≡ b → line_of d ≡ Some line → Does s d w
+by_line : (b : Bool) (c line : ℕ) (s : State) (d : Done) (w : State) → eqb line c ≡ b → line_of d ≡ Some line
+    → Does s d w
     → (Sound (session s line) → Sound (session w line)) → Sound (session s c) → Sound (session w c)
 by_line true c line s d w e f k keeps sound =
     let same : line ≡ c = eqb-true line c e in

@@ -288,7 +288,8 @@ module _ (s : State) (line : ℕ) (sound : Sound s.venue) where
   expired_own : (t : Time) (n : ℕ) (v : View) (o : Option Row) → FirmOf s line (under s.venue.rows n)
       → Moving Own v.rows (expired_as v.instruments t n o (ledger_of v)).rows
   expired_own t n v None may = still Own v.rows
-  expired_own t n v (Some r) may = changes Own v.instruments t n (Withdraw Expired r.client) (ledger_of v) (λ k. refl) may
+  expired_own t n v (Some r) may = changes Own v.instruments t n (Withdraw Expired r.client) (ledger_of v)
+      (λ k. refl) may
 
   for_own : (c : Cause) (t : Time) (n : ℕ) (v : View) → FirmOf s line (under s.venue.rows n)
       → Moving Own v.rows (withdrawn_for c t n v).rows
@@ -426,7 +427,8 @@ module _ (s : State) (line : ℕ) (sound : Sound s.venue) where
   outcome_own ch (message.OrderCancelRequest m) t = where_on (on ch (session s line)) _ _
       (asked_own (message.OrderCancelRequest m) _ (cancel_own (look_up s.venue.instruments (says m.symbol)) m t))
   outcome_own ch (message.OrderCancelReplaceRequest m) t = where_on (on ch (session s line)) _ _
-      (asked_own (message.OrderCancelReplaceRequest m) _ (replace_own (look_up s.venue.instruments (says m.symbol)) m t))
+      (asked_own (message.OrderCancelReplaceRequest m) _
+      (replace_own (look_up s.venue.instruments (says m.symbol)) m t))
   outcome_own ch (message.OrderMassCancelRequest m) t = where_on (on ch (session s line)) _ _
       (asked_own (message.OrderMassCancelRequest m) _ (scope_own m.scope m t))
   outcome_own ch (message.MissedMessageRequest m) t = where_on (on ch (session s line)) _ _ (missed_here ch m)

@@ -147,7 +147,8 @@ module _ (R : Ledger → Ledger → Type 0) (lines : ℕ) (leads : Leads R lines
     replaced_leads : (x : Result Replacement Refusal) (l : Listing) (m : OrderCancelReplaceRequest) (t : Time)
         (v : View) → To v (replaces.replaced x line l m t v)
     replaced_leads (Err e) l m t v = one_note v _ _ there
-    replaced_leads (Ok r) l m t v = leads.change v.instruments t r.number (change.Replace r.ask) (ledger_of v) (λ k. refl)
+    replaced_leads (Ok r) l m t v = leads.change v.instruments t r.number (change.Replace r.ask) (ledger_of v)
+        (λ k. refl)
 
     replace_leads : (o : Option Listing) (m : OrderCancelReplaceRequest) (t : Time) (v : View)
         → To v (replaces.replace_in o line m t v)
@@ -387,7 +388,8 @@ module _ (R : Ledger → Ledger → Type 0) (s : State) (leads : Leads R (length
       (out : List ℕ) → h.after.venue ≡ s.venue → Hands o h s buffer r w out → Holds w
   hands_leads o h buffer r w out k d =
       let same = leads.same (ledger_of s.venue) in
-      hands_by Holds s same o h buffer r w out (subst (λ (z : View). R (ledger_of s.venue) (ledger_of z)) (sym k) same) d
+      hands_by Holds s same o h buffer r w out
+      (subst (λ (z : View). R (ledger_of s.venue) (ledger_of z)) (sym k) same) d
 
   pub call_leads : (d : Done) (w : State) → Does s d w → Holds w
   call_leads (done.RealTime line bs t r) w h = hears_leads RealTime line bs.now t blank r.answer w r.buffer h

@@ -30,14 +30,16 @@ pub moved_on : (a b : List Row) (ms : List Move) (c : List Row) (ns : List Move)
 moved_on a b ms c [] f g = subst (Moved a ms) (sym g) f
 moved_on a b ms c (n ∷ ns) f (x, g, h) = (x, moved_on a b ms x ns f g, h)
 
-each_both : (p : Move → Type 0) (ms ns : List Move) → AllByRecursion p ms → AllByRecursion p ns → AllByRecursion p (ns ++ ms)
+each_both : (p : Move → Type 0) (ms ns : List Move) → AllByRecursion p ms → AllByRecursion p ns
+    → AllByRecursion p (ns ++ ms)
 each_both p ms [] f g = f
 each_both p ms (n ∷ ns) f (x, g) = (x, each_both p ms ns f g)
 
 pub onward : (p : Move → Type 0) (a b c : List Row) → Moving p a b → Moving p b c → Moving p a c
 onward p a b c (ms, f, x) (ns, g, y) = (ns ++ ms, moved_on a b ms c ns f g, each_both p ms ns x y)
 
-each_wider : (p q : Move → Type 0) → ((m : Move) → p m → q m) → (ms : List Move) → AllByRecursion p ms → AllByRecursion q ms
+each_wider : (p q : Move → Type 0) → ((m : Move) → p m → q m) → (ms : List Move) → AllByRecursion p ms
+    → AllByRecursion q ms
 each_wider p q w [] f = tt
 each_wider p q w (m ∷ ms) (x, f) = (w m x, each_wider p q w ms f)
 

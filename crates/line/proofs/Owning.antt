@@ -7,6 +7,7 @@ use Rattle.changes.specs.Laws.{reports_of}
 use Rattle.changes.specs.declared.change.Change.{Change}
 use Rattle.changes.specs.declared.change.Change.TheVariants.{Accept, Replace, Withdraw, Fill, Undo}
 use Rattle.codes.specs.declared.session.Partition.{Partition}
+use Rattle.codes.specs.Session.{same_partition}
 use Rattle.configuration.specs.declared.instrument.Instrument.{Instrument}
 use Rattle.keyed.proofs.Under.{none-some, under-others}
 use Rattle.keyed.specs.Numbers.{under, put_under}
@@ -25,7 +26,7 @@ use Rattle.reports.specs.declared.report.Report.TheVariants.{Execution}
 use Rattle.store.specs.Kept.{Kept}
 use Rattle.texts.specs.declared.values.Time.{Time}
 use Rattle.venue.proofs.Recording.{same_or_apart, appended-here, appended-apart}
-use Rattle.venue.specs.Ledger.{Ledger, appended, entries_of, told_at, told_in, rewritten, is_at}
+use Rattle.venue.specs.Ledger.{Ledger, appended, entries_of, told_at, told_in, rewritten}
 use Rattle.venue.specs.Steps.{ledger_of}
 
 -- ---- a change keeps the terms
@@ -75,7 +76,7 @@ told_of lines o es l i e h = subst (λ x. x < lines) (sym (told_owner o es i e h
 abbrev AllOf : ℕ → Kept → Type 0
 AllOf lines k = (p : Partition) → Of lines (at k p)
 
-appended_at : (lines : ℕ) (k : Kept) (q p : Partition) (es : List Entry) → (q ≡ p) ⊎ (is_at q p ≡ false)
+appended_at : (lines : ℕ) (k : Kept) (q p : Partition) (es : List Entry) → (q ≡ p) ⊎ (same_partition q p ≡ false)
     → AllOf lines k → Of lines es → Of lines (at (appended k q es) p)
 appended_at lines k q p es (inl e) f g =
     subst (Of lines) (sym (subst (λ u. at (appended k q es) u ≡ at k u ++ es) e (appended-here k q es)))
@@ -129,7 +130,8 @@ changed_stay lines is t n c l (Some b) (Some r) k e h f =
     (f.orders n b e) in
     record {
       orders = λ m x g. row_of lines l.rows n b r e owner f.orders m x (eqb m n) refl g;
-      reports = numbered lines _ (told_all lines t c r (slice_get is r.terms.instrument) l.kept owner (placed lines l f));
+      reports = numbered lines _
+          (told_all lines t c r (slice_get is r.terms.instrument) l.kept owner (placed lines l f));
     }
 
 new_row : (lines : ℕ) (rows : List Row) (r : Row) → r.terms.owner < lines
@@ -142,7 +144,8 @@ new_row lines (y ∷ ys) r l f (suc zero) x h = f 1 x h
 new_row lines (y ∷ ys) r l f (suc (suc i)) x h = new_row lines ys r l (behind lines y ys f) (suc i) x h
   where
     behind : (lines : ℕ) (y : Row) (ys : List Row)
-        → ((m : ℕ) (x : Row) → under (y ∷ ys) m ≡ Some x → x.terms.owner < lines) → (m : ℕ) (x : Row) → under ys m ≡ Some x
+        → ((m : ℕ) (x : Row) → under (y ∷ ys) m ≡ Some x → x.terms.owner < lines) → (m : ℕ) (x : Row)
+        → under ys m ≡ Some x
         → x.terms.owner < lines
     behind lines y ys f zero x h = none-some x h
     behind lines y ys f (suc m) x h = f (suc (suc m)) x h

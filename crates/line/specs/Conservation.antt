@@ -73,7 +73,8 @@ abbrev pub Made : State → List Done → State → List Move → Type 0
 Made s [] w ms = (w ≡ s) × (ms ≡ [])
 Made s (d ∷ ds) w ms =
     (x : State) × (now : List Move) × (later : List Move)
-    × Does s d x × Moved s.venue.rows now x.venue.rows × AllByRecursion (May s d) now × Made x ds w later × (ms ≡ later ++ now)
+    × Does s d x × Moved s.venue.rows now x.venue.rows × AllByRecursion (May s d) now × Made x ds w later
+    × (ms ≡ later ++ now)
 
 -- those of one order
 abbrev pub of : ℕ → List Move → List Change

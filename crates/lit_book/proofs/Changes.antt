@@ -10,7 +10,7 @@ use Rattle.lit_book.specs.declared.order.Order.{Order}
 use Rattle.lit_book.specs.Orders.{with_quantity}
 use Rattle.lit_book.specs.Lists.{FoundOrder, changed, order_held, order_number, remains}
 
-abbrev at : List Order → ℕ → Option Held
+abbrev pub at : List Order → ℕ → Option Held
 at os n = look order_number order_held os n
 
 -- one order further
@@ -107,7 +107,8 @@ shorter (x ∷ xs) zero (suc k) n f lt =
     omega arith
 shorter (x ∷ xs) (suc i) (suc k) n f lt =
     let p = past x xs i n f in
-    let e = ap length (cond-false (eqb x.number n) (remains x None ++ take k xs) (x ∷ changed n None (take k xs)) p.0) in
+    let e = ap length (cond-false (eqb x.number n) (remains x None ++ take k xs)
+    (x ∷ changed n None (take k xs)) p.0) in
     let h = shorter xs i k n p.1 (omega arith) in
     omega arith
 

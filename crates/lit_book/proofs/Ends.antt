@@ -49,7 +49,8 @@ still_known m n q (x ∷ xs) = go (eqb x.number m) (still_known m n q xs)
     more true v w e = refl
     more false v w e = e
 
-    same : (b : Bool) (v : Option _) → is_some (cond b (Some (order_held x)) v) ≡ is_some (cond b (Some (order_held x)) v)
+    same : (b : Bool) (v : Option _)
+        → is_some (cond b (Some (order_held x)) v) ≡ is_some (cond b (Some (order_held x)) v)
     same b v = refl
 
     go : (b : Bool) → known (changed m (Some q) xs) n ≡ known xs n

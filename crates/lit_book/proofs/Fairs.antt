@@ -15,9 +15,10 @@ use Rattle.keyed.proofs.Looks.{passes}
 use Rattle.matching.specs.declared.event.Event.{Event}
 use Rattle.terms.specs.declared.pricing.Pricing.{Pricing}
 use Rattle.terms.specs.declared.pricing.Pricing.TheVariants.{Market, Limit}
+use Rattle.terms.specs.Pricing.{price_of}
 use Rattle.texts.specs.declared.values.Price.{Price}
 use Rattle.lit_book.specs.declared.order.Order.{Order}
-use Rattle.lit_book.specs.Orders.{accepts, crosses, lasting, limit, opposes, prefers, price, rests, takes}
+use Rattle.lit_book.specs.Orders.{accepts, crosses, lasting, opposes, prefers, price, rests, takes}
 use Rattle.lit_book.specs.Laws.{Fair, FirstServed, NoBetter, Served, Uncrossed, Worse, alike, at_rest_for, before}
 use Rattle.lit_book.specs.Lists.{all_apart, best, clear_of, order_held, order_in, order_number, settled}
 use Rattle.lit_book.specs.Rules.{Lit, next, order_under}
@@ -64,7 +65,7 @@ mid_before (x ∷ xs) ys o h =
 
 -- ---- the price of a trade
 
-takes_price : (s : Side) (t u : Pricing) → takes s t u ≡ true → accepts s t (limit u) ≡ true
+takes_price : (s : Side) (t u : Pricing) → takes s t u ≡ true → accepts s t (price_of u) ≡ true
 takes_price s t Market h = absurd (both_ways false refl h)
 takes_price s t (Limit p) h = h
 
@@ -128,7 +129,7 @@ better_one_way Buy p q h = grind (arith, ints)
 better_one_way Sell p q h = grind (arith, ints)
 
 refuses : (s : Side) (u t : Pricing) (f : TimeInForce) → lasting t f ≡ true → takes s u t ≡ false
-    → accepts s u (limit t) ≡ false
+    → accepts s u (price_of t) ≡ false
 refuses s u Market f h k = absurd (both_ways false refl h)
 refuses s u (Limit p) f h k = k
 

@@ -7,7 +7,7 @@ use Rattle.std.specs.FinMap.{get}
 use Rattle.std.specs.List.{All, slice_get}
 use Rattle.std.specs.Option.{option_map}
 use Rattle.std.proofs.lemmas.Bool.{cond-true}
-use Rattle.keyed.specs.Look.{look, Distinct}
+use Rattle.keyed.specs.Look.{Distinct}
 use Rattle.keyed.proofs.Keyed.{put-apart}
 use Rattle.keyed.proofs.Looks.{distinct_from, look_at, passes}
 use Rattle.matching.specs.Meaning.{Allowed, Meaning, filled, instrument_of, left, quantity_of, resized, with_order}
@@ -20,11 +20,8 @@ use Rattle.lit_book.specs.Rules.{Lit, altered, left_of, size_of, traded}
 use Rattle.lit_book.specs.Books.{lit_up}
 use Rattle.lit_book.specs.Steps.{remaining}
 use Rattle.lit_book.proofs.Bests.{best_some}
-use Rattle.lit_book.proofs.Changes.{rest_absent}
+use Rattle.lit_book.proofs.Changes.{at, rest_absent}
 use Rattle.lit_book.proofs.Tables.{head_is, held, lists}
-
-abbrev at : List Order → ℕ → Option Held
-at os n = look order_number order_held os n
 
 some_none : {X : Type 0} (x : X) → ◌≡◌ {A = Option X} None (Some x) → ⊥
 some_none x e = let z : ◌≡◌ {A = ℕ} 0 1 = cc in omega arith
@@ -110,7 +107,8 @@ pub still_oldest : (xs : List Order) (k i : ℕ) (a o : Order) (w : Option ℕ) 
 still_oldest xs k i a o w b t e f =
     ap (λ (x : Lit). slice_get x.waiting 0) f
     ∙ ap (λ (l : List Order). slice_get (changed o.number w l) 0) (head_is (drop k xs) a e)
-    ∙ ap (λ (l : List Order). slice_get l 0) (cond-false (eqb a.number o.number) _ _ (ne_eqb _ _ (λ q. t.apart (sym q))))
+    ∙ ap (λ (l : List Order). slice_get l 0)
+    (cond-false (eqb a.number o.number) _ _ (ne_eqb _ _ (λ q. t.apart (sym q))))
 
 -- what is left, as the meaning of an engine has it
 remaining_filled : (m : Meaning) (n q : ℕ) (h : Held) → get m.orders n ≡ Some h → remaining m n (left_of q h.quantity)

@@ -51,7 +51,8 @@ none_waits (w ∷ ws) e = absurd (clash w (sym e))
 pub idle_event : (rs ws : List Order) → slice_get ws 0 ≡ None → (next_of rs ws).0 ≡ Nothing
 idle_event rs ws e = ap (λ (x : Event × Lit). x.0) (next_idle (record { resting = rs; waiting = ws }) e)
 
-pub idle_lists : (rs ws : List Order) → slice_get ws 0 ≡ None → (next_of rs ws).1 ≡ record { resting = rs; waiting = ws }
+pub idle_lists : (rs ws : List Order) → slice_get ws 0 ≡ None
+    → (next_of rs ws).1 ≡ record { resting = rs; waiting = ws }
 idle_lists rs ws e = ap (λ (x : Event × Lit). x.1) (next_idle (record { resting = rs; waiting = ws }) e)
 
 pub expire_event : (rs ws : List Order) (a : Order) → slice_get ws 0 ≡ Some a → best a rs ≡ None → rests a ≡ false

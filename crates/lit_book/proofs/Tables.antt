@@ -150,7 +150,8 @@ front_lit xs i k n u f lt le = parts_lit xs (remove xs i) k (k - 1) n None (remo
 pub front_settled : (xs : List Order) (i k n : ℕ) → all_apart xs ≡ true → FoundOrder xs n (Some i) → i < k
     → k ≤ length xs → settled (take k xs) ≡ true
     → settled (take (k - 1) (remove xs i)) ≡ true
-front_settled xs i k n u f lt le s = parts_settled xs (remove xs i) k (k - 1) n None (removed_front xs i k n u f lt le) s
+front_settled xs i k n u f lt le s = parts_settled xs (remove xs i) k (k - 1) n None
+    (removed_front xs i k n u f lt le) s
 
 pub front_turn : (xs : List Order) (i k n : ℕ) (ns : List ℕ) → all_apart xs ≡ true → FoundOrder xs n (Some i) → i < k
     → k ≤ length xs

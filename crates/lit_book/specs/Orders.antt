@@ -1,11 +1,12 @@
 -- When an order trades with another, and which it prefers. Assumes nothing.
-use Rattle.std.specs.Prelude.{ℕ, Bool, true, false, if◌then◌else◌, ◌&&◌, ◌||◌, pos, Some, None, Option, ◌==◌, nat_lt, int_le, int_lt}
+use Rattle.std.specs.Prelude.{ℕ, Bool, true, false, if◌then◌else◌, ◌&&◌, ◌||◌, Some, None, Option, ◌==◌, nat_lt, int_le, int_lt}
 use Rattle.codes.specs.declared.order.Side.{Side}
 use Rattle.codes.specs.declared.order.Side.TheVariants.{Buy, Sell}
 use Rattle.codes.specs.declared.order.TimeInForce.{TimeInForce}
 use Rattle.codes.specs.declared.order.TimeInForce.TheVariants.{Day, GoodTillCancel, ImmediateOrCancel, FillOrKill, GoodTillDate, GoodTillTime}
 use Rattle.terms.specs.declared.pricing.Pricing.{Pricing}
 use Rattle.terms.specs.declared.pricing.Pricing.TheVariants.{Market, Limit}
+use Rattle.terms.specs.Pricing.{price_of}
 use Rattle.texts.specs.declared.values.Price.{Price}
 use Rattle.lit_book.specs.declared.order.Order.{Order}
 
@@ -31,12 +32,8 @@ abbrev pub crosses : Order → Order → Bool
 crosses a o = a.instrument == o.instrument && (opposes a.side o.side && takes a.side a.pricing o.pricing)
 
 -- the limit; a market order has none, and never rests
-abbrev pub limit : Pricing → Price
-limit Market = record { raw = pos 0 }
-limit (Limit p) = p
-
 abbrev pub price : Order → Price
-price o = limit o.pricing
+price o = price_of o.pricing
 
 -- whether a side would rather trade at the price p than at q
 abbrev pub prefers : Side → Price → Price → Bool

@@ -57,7 +57,7 @@ fn left(open: u32, traded: u32) -> Option<u32>
 }
 
 impl LitBook {
-    ghost use Rattle.std.specs.Prelude.{◌≡◌, ◌+◌, ◌<◌, ◌≤◌, true, false, [], ◌∷◌, ◌++◌, length, drop, is_some, IfOk, IfSome, Some, None, vec_len};
+    ghost use Rattle.std.specs.Prelude.{◌≡◌, ◌+◌, ◌<◌, ◌≤◌, true, false, [], ◌∷◌, ◌++◌, drop, is_some, IfOk, IfSome, Some, None, vec_len};
     ghost use Rattle.std.specs.FinMap.{get};
     ghost use Rattle.std.specs.List.{slice_get};
     ghost use Rattle.matching.specs.Meaning.{Allowed, closed, happened, opened, resized};
@@ -66,7 +66,7 @@ impl LitBook {
     ghost use Rattle.lit_book.specs.Laws.{Enough, LastRefused, Worked, open_orders};
     ghost use Rattle.lit_book.specs.Lists.{BestAt, FoundOrder, best, order_held};
     ghost use Rattle.lit_book.specs.Orders.{rests};
-    ghost use Rattle.lit_book.specs.Rules.{altered, amended, entered, left_of, next, order_under, trade_of, traded};
+    ghost use Rattle.lit_book.specs.Rules.{altered, amended, entered, left_of, next, order_under, traded};
     ghost use Rattle.lit_book.specs.Steps.{TurnIs, remaining};
     ghost use Rattle.limits.specs.declared.TheConstants.{ORDERS};
 

@@ -1,6 +1,6 @@
 // An order of the book, and the questions that matching asks of it.
-ghost use Rattle.std.specs.Prelude.{◌≡◌, ◌&&◌, Some};
-ghost use Rattle.lit_book.specs.Lists.{BestAt, BestSoFar, order_number};
+ghost use Rattle.std.specs.Prelude.{◌≡◌, Some};
+ghost use Rattle.lit_book.specs.Lists.{BestAt, order_number};
 ghost use Rattle.lit_book.specs.Orders.{accepts, better_at, crosses, goes_back, opposes, prefers, price, reprices, rests, with_limit};
 ghost use Rattle.lit_book.specs.Rules.{order_of};
 ghost use Rattle.lit_book.specs.Texts.{order_text, pricing_text};
@@ -117,10 +117,7 @@ impl Order {
     pub fn price(&self) -> Price
         ensures { result ≡ price self.now }
     {
-        match self.pricing {
-            Pricing::Market => Price { raw: 0 },
-            Pricing::Limit(at) => at,
-        }
+        self.pricing.price()
     }
 
     // Whether it would rather trade at one price than at another.

@@ -14,7 +14,8 @@ use Rattle.matching.specs.Meaning.{Orders, closed, filled, left, opened, resized
 use Rattle.matching.specs.TapeRows.{FoundRow, all_apart, orders_of, row_held, row_number}
 use Rattle.matching.specs.Tapes.{taped}
 
-pub found : (rows : List Row) (n : ℕ) (r : Option ℕ) → r ≡ position (λ row. nat_eq row.number n) rows → FoundRow rows n r
+pub found : (rows : List Row) (n : ℕ) (r : Option ℕ) → r ≡ position (λ row. nat_eq row.number n) rows
+    → FoundRow rows n r
 found rows n r e = position-found row_number row_held rows n r e
 
 pub found_known : (rows : List Row) (n : ℕ) (r : Option ℕ) → r ≡ position (λ row. nat_eq row.number n) rows
@@ -49,7 +50,8 @@ own : (rows : List Row) (i n : ℕ) (row : Row) → FoundRow rows n (Some i) →
     ≡ n
 own rows i n row f read = ap row_number read ∙ f.2 row
 
-pub requantified : (rows : List Row) (i n q : ℕ) (row : Row) → FoundRow rows n (Some i) → row ≡ slice_index_or rows i row
+pub requantified : (rows : List Row) (i n q : ℕ) (row : Row) → FoundRow rows n (Some i)
+    → row ≡ slice_index_or rows i row
     → taped (orders_of (slice_set rows i (with_quantity row q))) ≡ resized (taped (orders_of rows)) n q
 requantified rows i n q row f read =
     ap taped

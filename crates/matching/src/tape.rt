@@ -54,8 +54,8 @@ pub struct Tape {
 impl Tape {
     ghost use Rattle.std.specs.Prelude.{◌≡◌, ◌<◌, ◌≤◌, true, false, is_some, Some, None, vec_len, IfOk, MatchOption};
     ghost use Rattle.std.specs.FinMap.{empty, get};
-    ghost use Rattle.matching.specs.Meaning.{closed, filled, happened, open_quantity, opened, resized};
-    ghost use Rattle.matching.specs.TapeRows.{FoundRow, orders_of, row_held};
+    ghost use Rattle.matching.specs.Meaning.{closed, filled, happened, opened, resized};
+    ghost use Rattle.matching.specs.TapeRows.{FoundRow, row_held};
     ghost use Rattle.matching.specs.Tapes.{NextLine, ahead, fits, played, tape_meaning, trade};
     ghost use Rattle.matching.specs.declared.tape.TheConstants as limit;
 

@@ -1,5 +1,5 @@
 // Order Cancel Reject: type 9, 63 bytes.
-ghost use Rattle.std.specs.Prelude.{◌≡◌, ◌≤◌, length, refl};
+ghost use Rattle.std.specs.Prelude.{◌≡◌, refl};
 ghost use Rattle.std.proofs.Common.{rules};
 ghost use Rattle.order_messages.specs.declared.order_cancel_reject.TheConstants.{LETTER, TABLE, TOTAL};
 

@@ -1,5 +1,5 @@
 // Order Cancel Replace Request: type G, 112 bytes.
-ghost use Rattle.std.specs.Prelude.{◌≡◌, ◌≤◌, length, refl};
+ghost use Rattle.std.specs.Prelude.{◌≡◌, refl};
 ghost use Rattle.std.proofs.Common.{rules};
 ghost use Rattle.order_messages.specs.declared.order_cancel_replace_request.TheConstants.{LETTER, TABLE, TOTAL};
 

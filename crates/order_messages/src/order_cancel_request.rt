@@ -1,5 +1,5 @@
 // Order Cancel Request: type F, 73 bytes.
-ghost use Rattle.std.specs.Prelude.{◌≡◌, ◌≤◌, length, refl};
+ghost use Rattle.std.specs.Prelude.{◌≡◌, refl};
 ghost use Rattle.std.proofs.Common.{rules};
 ghost use Rattle.order_messages.specs.declared.order_cancel_request.TheConstants.{LETTER, TABLE, TOTAL};
 

@@ -1,5 +1,5 @@
 // Order Mass Cancel Report: type r, 56 bytes.
-ghost use Rattle.std.specs.Prelude.{◌≡◌, ◌≤◌, length, refl};
+ghost use Rattle.std.specs.Prelude.{◌≡◌, refl};
 ghost use Rattle.std.proofs.Common.{rules};
 ghost use Rattle.order_messages.specs.declared.order_mass_cancel_report.TheConstants.{LETTER, TABLE, TOTAL};
 

@@ -1,1 +1,2 @@
+pub mod Takes
 pub mod Texts

@@ -1,5 +1,5 @@
 -- The identifiers of a report's message: the order's, the one that is referred to, and its own. Assumes nothing.
-use Rattle.std.specs.Prelude.{ℕ, List, [], Some, None, Option}
+use Rattle.std.specs.Prelude.{ℕ, List, [], None, Option}
 use Rattle.std.specs.Option.{option_map_or}
 use Rattle.codes.specs.Session.{partition_code}
 use Rattle.codes.specs.declared.session.Partition.{Partition}

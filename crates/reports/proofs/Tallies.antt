@@ -80,9 +80,11 @@ module _ (p : Partition) (o : ℕ) where
 
   -- the tally of the owner's own reports
   own-one : (t : Knowledge) (e : Entry) (l : List Entry) (b : Bool) → b ≡ eqb e.owner o
-      → ((u : Knowledge) → from u l ≡ from u (own o l)) → from (cond b (result_unwrap_or (fold p (told_of e.report) t) t) t) l
+      → ((u : Knowledge) → from u l ≡ from u (own o l))
+      → from (cond b (result_unwrap_or (fold p (told_of e.report) t) t) t) l
       ≡ from t (cond b (e ∷ own o l) (own o l))
-  own-one t e l true q h = h _ ∙ ap (λ (c : Bool). from (cond c (result_unwrap_or (fold p (told_of e.report) t) t) t) (own o l))
+  own-one t e l true q h = h _
+      ∙ ap (λ (c : Bool). from (cond c (result_unwrap_or (fold p (told_of e.report) t) t) t) (own o l))
       q ∙ sym (from_cons t e (own o l))
   own-one t e l false q h = h t
 

@@ -1,5 +1,5 @@
 -- What a CompID's reports of a partition say of its orders, up to a number. Assumes nothing.
-use Rattle.std.specs.Prelude.{ℕ, Bool, false, List, take, Some, None, Option, ◌==◌, filter, if◌then◌else◌}
+use Rattle.std.specs.Prelude.{ℕ, Bool, false, List, take, Option, ◌==◌, filter, if◌then◌else◌}
 use Rattle.std.specs.List.{fold as fold_each}
 use Rattle.std.specs.Result.{result_unwrap_or}
 use Rattle.std.specs.Option.{option_map_or}

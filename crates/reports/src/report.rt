@@ -1,6 +1,6 @@
 // The reports that a store keeps. Partition and sequence number are the store's to give, and the Execution ID follows
 // from them.
-ghost use Rattle.std.specs.Prelude.{◌≡◌, ℕ};
+ghost use Rattle.std.specs.Prelude.{◌≡◌};
 
 use crate::standing::Told;
 use codes::order::{Book, Side};

@@ -58,8 +58,3 @@ told_capacity capacity.RisklessPrincipal = told.RisklessPrincipal
 told_capacity capacity.Principal = told.Principal
 told_capacity capacity.Agency = told.Agency
 told_capacity capacity.CfdGiveUp = told.Principal
-
--- the price that an order's record has: 0 where it has no limit
-abbrev pub price_of : Pricing → Price
-price_of Market = record { raw = pos 0 }
-price_of (Limit p) = p

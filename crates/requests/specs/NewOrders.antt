@@ -9,7 +9,7 @@ use Rattle.orders.specs.declared.row.Terms.{Terms}
 use Rattle.reports.specs.declared.report.Entry.{Entry}
 use Rattle.reports.specs.declared.report.ExecutionReport.{ExecutionReport}
 use Rattle.reports.specs.declared.report.Report.TheVariants.{Execution}
-use Rattle.requests.specs.Checks.{shown, is_plain, is_priced, is_timely, is_own, told_capacity, price_of}
+use Rattle.requests.specs.Checks.{shown, is_plain, is_priced, is_timely, is_own, told_capacity}
 use Rattle.requests.specs.Instruments.{look_up}
 use Rattle.requests.specs.Outcomes.{Outcome, spare}
 use Rattle.requests.specs.Outcomes.Outcome.{Refused, Done}
@@ -18,7 +18,7 @@ use Rattle.requests.specs.declared.listing.Listing.{Listing}
 use Rattle.requests.specs.declared.refusal.Refusal.{Refusal}
 use Rattle.requests.specs.declared.refusal.Refusal.TheVariants.{BookNotServed, BadTerms}
 use Rattle.requests.specs.declared.refusal.Turned.TheVariants.{UnknownInstrument, NoPlace}
-use Rattle.terms.specs.Pricing.{order_type_of}
+use Rattle.terms.specs.Pricing.{order_type_of, price_of}
 use Rattle.terms.specs.Target.{book_of}
 use Rattle.terms.specs.declared.execution.Execution.TheVariants.{Rejected}
 use Rattle.texts.specs.Says.{says, kept}

@@ -2,7 +2,7 @@
 ghost use Rattle.std.specs.Prelude.{◌≡◌, ◌≤◌, ◌<◌, ◌+◌, Some, IfOk};
 ghost use Rattle.keyed.specs.Numbers.{under};
 ghost use Rattle.orders.specs.Tables.{open_count};
-ghost use Rattle.requests.specs.Cancels.{served, refusal_entry, refuses, named_by, cancel};
+ghost use Rattle.requests.specs.Cancels.{served, refuses, named_by, cancel};
 ghost use Rattle.requests.specs.Outcomes.{Gives};
 
 use crate::listing::{Listing, look_up};

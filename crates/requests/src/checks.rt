@@ -1,7 +1,6 @@
 // What an order may ask for.
-ghost use Rattle.std.specs.Prelude.{◌≡◌, true, IfSome};
-ghost use Rattle.orders.specs.Rows.{orderable};
-ghost use Rattle.requests.specs.Checks.{shares, shown, is_plain, is_above_zero, is_priced, may_cost, is_timely, is_own, told_capacity, price_of};
+ghost use Rattle.std.specs.Prelude.{◌≡◌, true};
+ghost use Rattle.requests.specs.Checks.{shares, shown, is_plain, is_above_zero, is_priced, may_cost, is_timely, is_own, told_capacity};
 
 use codes::order::{OrderCapacity, OrderType, PassiveOnly, TimeInForce};
 use codes::report::Capacity;
@@ -87,14 +86,5 @@ pub(crate) fn told_capacity(capacity: OrderCapacity) -> Capacity
         OrderCapacity::RisklessPrincipal => Capacity::RisklessPrincipal,
         OrderCapacity::Principal | OrderCapacity::CfdGiveUp => Capacity::Principal,
         OrderCapacity::Agency => Capacity::Agency,
-    }
-}
-
-pub(crate) fn price_of(pricing: Pricing) -> Price
-    ensures { result ≡ price_of pricing }
-{
-    match pricing {
-        Pricing::Market => Price { raw: 0 },
-        Pricing::Limit(price) => price,
     }
 }

@@ -1,15 +1,14 @@
 // A Mass Cancel Request.
-ghost use Rattle.std.specs.Prelude.{◌≡◌, ◌≤◌, ◌+◌, false, None};
-ghost use Rattle.std.specs.List.{list_any};
+ghost use Rattle.std.specs.Prelude.{◌≡◌, ◌≤◌, ◌+◌, false};
 ghost use Rattle.std.specs.Str.{bytes_eq};
 ghost use Rattle.orders.specs.Tables.{open_count};
-ghost use Rattle.requests.specs.MassCancels.{accepted, has_segment, in_all, in_instrument, in_segment, mass_cancel, mass_entry, refused, swept, told_everywhere};
+ghost use Rattle.requests.specs.MassCancels.{accepted, has_segment, in_all, in_instrument, in_segment, mass_cancel, mass_entry, refused, told_everywhere};
 ghost use Rattle.requests.specs.Instruments.{look_up};
 ghost use Rattle.requests.specs.Outcomes.{Gives};
 ghost use Rattle.texts.specs.Bytes.{said};
-ghost use Rattle.venue.specs.Selection.{is_owner, meant, in_scope};
+ghost use Rattle.venue.specs.Selection.{is_owner, in_scope};
 ghost use Rattle.venue.specs.declared.selection.Scope.TheVariants.{All};
-ghost use Rattle.venue.specs.Steps.{Leaves, Silent, noted};
+ghost use Rattle.venue.specs.Steps.{Leaves, Silent};
 
 use crate::listing::look_up;
 use crate::refusal::{Refusal, Turned};

@@ -2,7 +2,7 @@
 ghost use Rattle.std.specs.Prelude.{◌≡◌, ◌<◌, Some, IfOk};
 ghost use Rattle.keyed.specs.Numbers.{under};
 ghost use Rattle.orders.specs.Tables.{owned};
-ghost use Rattle.requests.specs.Naming.{found, agrees, if_agreeing, if_open, named};
+ghost use Rattle.requests.specs.Naming.{found, agrees, named};
 
 use crate::refusal::Refusal;
 use codes::code::Code;

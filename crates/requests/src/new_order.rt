@@ -1,12 +1,11 @@
 // A New Order.
-ghost use Rattle.std.specs.Prelude.{◌≡◌, ◌≤◌, ◌<◌, ◌+◌, length, true, IfSome, IfOk};
+ghost use Rattle.std.specs.Prelude.{◌≡◌, ◌≤◌, ◌<◌, ◌+◌, true, IfSome, IfOk};
 ghost use Rattle.orders.specs.Rows.{orderable};
 ghost use Rattle.orders.specs.Tables.{open_count};
-ghost use Rattle.requests.specs.NewOrders.{asks, ask_of, asked, terms_of, rejected, rejection, rejects, ordered, new_order};
+ghost use Rattle.requests.specs.NewOrders.{ask_of, asked, terms_of, rejected, rejects, new_order};
 ghost use Rattle.requests.specs.Outcomes.{Gives};
-ghost use Rattle.requests.specs.Refusals.{refusal_number};
 
-use crate::checks::{is_own, is_plain, is_priced, is_timely, price_of, shown, told_capacity};
+use crate::checks::{is_own, is_plain, is_priced, is_timely, shown, told_capacity};
 use crate::listing::{Listing, look_up};
 use crate::refusal::{Refusal, Turned};
 use codes::report::Status;
@@ -34,7 +33,7 @@ fn ask_of(m: &NewOrder<'_>) -> Option<Ask>
     let quantity = shown(m.quantity, m.display_quantity)?;
     Some(Ask {
         client: m.client_order_id.text.keep(),
-        price: price_of(m.pricing),
+        price: m.pricing.price(),
         display: m.display_quantity,
         quantity,
     })

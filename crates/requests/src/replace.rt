@@ -1,8 +1,7 @@
 // A Cancel/Replace Request.
-ghost use Rattle.std.specs.Prelude.{◌≡◌, ◌≤◌, ◌<◌, ◌+◌, true, Some, IfOk, IfSome};
-ghost use Rattle.keyed.specs.Numbers.{under};
+ghost use Rattle.std.specs.Prelude.{◌≡◌, ◌<◌, true, Some, IfOk, IfSome};
 ghost use Rattle.orders.specs.Rows.{orderable};
-ghost use Rattle.requests.specs.Replaces.{asks, ask_of, above, of_row, named_by, judged, replace};
+ghost use Rattle.requests.specs.Replaces.{ask_of, named_by, judged, replace};
 ghost use Rattle.requests.specs.Outcomes.{Gives};
 ghost use Rattle.venue.specs.Steps.{Replaceable};
 

@@ -1,7 +1,7 @@
 // The bytes of a message as a script writes them, and as answers show them.
 ghost use Rattle.std.specs.Prelude.{◌≡◌, Some, IfOk, if◌then◌else◌, None};
 ghost use Rattle.std.specs.List.{list_all};
-ghost use Rattle.hex.specs.Hex.{encode_lower, is_hex_digit};
+ghost use Rattle.hex.specs.Hex.{is_hex_digit};
 ghost use Rattle.script_words.specs.Bytes.{bytes_of, is_bytes, is_digits};
 
 use hex::FromHexError;

@@ -1,5 +1,5 @@
 // Why a script cannot be drilled.
-ghost use Rattle.std.specs.Prelude.{◌≡◌, Some};
+ghost use Rattle.std.specs.Prelude.{Some};
 ghost use Rattle.script_words.specs.Mistakes.{mistake_text};
 
 use crate::misread::Misread;

@@ -1,5 +1,5 @@
 // Logon: type A, 80 bytes.
-ghost use Rattle.std.specs.Prelude.{◌≡◌, ◌≤◌, length, refl};
+ghost use Rattle.std.specs.Prelude.{◌≡◌, refl};
 ghost use Rattle.std.proofs.Common.{rules};
 ghost use Rattle.session_messages.specs.declared.logon.TheConstants.{LETTER, TABLE, TOTAL};
 

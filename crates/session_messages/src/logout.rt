@@ -1,5 +1,5 @@
 // Logout: type 5, 24 bytes.
-ghost use Rattle.std.specs.Prelude.{◌≡◌, ◌≤◌, length, refl};
+ghost use Rattle.std.specs.Prelude.{◌≡◌, refl};
 ghost use Rattle.std.proofs.Common.{rules};
 ghost use Rattle.session_messages.specs.declared.logout.TheConstants.{LETTER, TABLE, TOTAL};
 

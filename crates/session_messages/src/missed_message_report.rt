@@ -1,5 +1,5 @@
 // Missed Message Report: type P, 5 bytes.
-ghost use Rattle.std.specs.Prelude.{◌≡◌, ◌≤◌, length, refl};
+ghost use Rattle.std.specs.Prelude.{refl};
 ghost use Rattle.std.proofs.Common.{rules};
 ghost use Rattle.session_messages.specs.declared.missed_message_report.TheConstants.{LETTER, TABLE, TOTAL};
 

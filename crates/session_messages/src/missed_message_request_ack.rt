@@ -1,5 +1,5 @@
 // Missed Message Request Ack: type N, 5 bytes.
-ghost use Rattle.std.specs.Prelude.{◌≡◌, ◌≤◌, length, refl};
+ghost use Rattle.std.specs.Prelude.{refl};
 ghost use Rattle.std.proofs.Common.{rules};
 ghost use Rattle.session_messages.specs.declared.missed_message_request_ack.TheConstants.{LETTER, TABLE, TOTAL};
 

@@ -1,5 +1,5 @@
 // Reject: type 3, 59 bytes.
-ghost use Rattle.std.specs.Prelude.{◌≡◌, ◌≤◌, length, refl};
+ghost use Rattle.std.specs.Prelude.{◌≡◌, refl};
 ghost use Rattle.std.proofs.Common.{rules};
 ghost use Rattle.session_messages.specs.declared.reject.TheConstants.{LETTER, TABLE, TOTAL};
 

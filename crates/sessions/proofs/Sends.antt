@@ -87,7 +87,8 @@ abbrev Step : ℕ → List Entry → ℕ → ℕ → Option ℕ → Type 0
 Step o l a b None = owned l o b (length l) ≡ owned l o a (length l)
 Step o l a b (Some n) = owned l o a (length l) ≡ n ∷ owned l o n (length l)
 
-step : (o a : ℕ) (l l' : List Entry) (r : Option ℕ) → Grown l l' → next_after l o a ≡ r → Step o l' a (max a (length l)) r
+step : (o a : ℕ) (l l' : List Entry) (r : Option ℕ) → Grown l l' → next_after l o a ≡ r
+    → Step o l' a (max a (length l)) r
 step o a l l' None g e = step_none o a l l' g e
 step o a l l' (Some n) g e = step_some o a n l l' g e
 
@@ -113,7 +114,8 @@ turn o Three k s l None None None g e1 e2 e3 = step o s.three k.three l None g e
 -- the last store has grown from each
 grown_to_last : (p : Partition) (k : Kept) (ks : List Kept) → Growing k ks → Grown (at k p) (at (last_of k ks) p)
 grown_to_last p k [] g = as_it_is (at k p)
-grown_to_last p k (k' ∷ ks) (g, gs) = grown_on (at k p) (at k' p) (at (last_of k' ks) p) (g p) (grown_to_last p k' ks gs)
+grown_to_last p k (k' ∷ ks) (g, gs) = grown_on (at k p) (at k' p) (at (last_of k' ks) p) (g p)
+    (grown_to_last p k' ks gs)
 
 behind : (r : Option ℕ) (xs ys : List ℕ) → cons_option r xs ++ ys ≡ cons_option r (xs ++ ys)
 behind None xs ys = refl

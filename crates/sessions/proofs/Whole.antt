@@ -21,20 +21,16 @@ nothing_more : (o : ℕ) (ks : List Kept) → hands_out o ks None ≡ []
 nothing_more o [] = refl
 nothing_more o (k ∷ ks) = nothing_more o ks
 
-take_none : (n : ℕ) → ◌≡◌ {A = List Recovered} (take n []) []
+take_none : {X : Type 0} (n : ℕ) → ◌≡◌ {A = List X} (take n []) []
 take_none zero = refl
 take_none (suc n) = refl
 
-no_number : (n : ℕ) → ◌≡◌ {A = List ℕ} (take n []) []
-no_number zero = refl
-no_number (suc n) = refl
-
 -- what a download hands out first
 whole_none : (p : Partition) (m n : ℕ) → take (suc n) (whole p m []) ≡ Ended Complete ∷ []
-whole_none p m n = rw (no_number m, leb-zero m, take_none n)
+whole_none p m n = rw (take_none {X = ℕ} m, leb-zero m, take_none {X = Recovered} n)
 
 whole_full : (p : Partition) (x : ℕ) (ns : List ℕ) (n : ℕ) → take (suc n) (whole p 0 (x ∷ ns)) ≡ Ended MessageLimit ∷ []
-whole_full p x ns n = rw (leb-suc-zero (length ns), take_none n)
+whole_full p x ns n = rw (leb-suc-zero (length ns), take_none {X = Recovered} n)
 
 whole_some : (p : Partition) (m x : ℕ) (ns : List ℕ) (n : ℕ) → take (suc n) (whole p (suc m) (x ∷ ns)) ≡ Report p x
     ∷ take n (whole p m ns)

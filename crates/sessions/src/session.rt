@@ -1,6 +1,5 @@
 // A line's session: what it may do on each channel, and how far it has come.
 ghost use Rattle.std.specs.Prelude.{◌≡◌, true};
-ghost use Rattle.partitions.specs.PerPartition.{at};
 ghost use Rattle.sessions.specs.Sessions.{Sound, fresh, on, logon_number, request_number, logged_on, closed, recovery_closed, requested, with_download, with_sent};
 ghost use Rattle.sessions.specs.Downloads.{recovered};
 ghost use Rattle.sessions.specs.Sending.{next_to_send, sent_after, found, looked};

@@ -13,7 +13,7 @@ use Rattle.partitions.proofs.Nexts.{next-from}
 use Rattle.partitions.specs.declared.per_partition.PerPartition.{PerPartition}
 use Rattle.partitions.specs.Series.{grown}
 use Rattle.store.specs.Kept.{Kept, next_after}
-use Rattle.store.proofs.Nexts.{next-shift}
+use Rattle.store.proofs.Nexts.{next-shift, next-in}
 use Rattle.store_bench.specs.Counts.{turn, owners, filled, seconds_of, seconds_in, owned, owned_in, owned_below, Counts}
 
 owned-cons : (o : ℕ) (x : Entry) (l : List Entry) (b : Bool) → b ≡ eqb x.owner o → owned o (x ∷ l)
@@ -33,9 +33,6 @@ front x l o false None e h = owned-cons o x l false e ∙ omega (arith, h)
 front x l o false (Some n) e h = (omega arith, omega (arith, h.1), owned-cons o x l false e ∙ omega (arith, h.2))
 
 -- the search for it, from the number on
-abbrev next-in : List Entry → ℕ → ℕ → Option ℕ
-next-in l o above = position_from (λ (e : Entry). eqb e.owner o) (above + 1) (drop above l)
-
 counts-in : (l : List Entry) (o above : ℕ) → Counts l o above (next-in l o above)
 counts-in [] o zero = refl
 counts-in [] o (suc above) = refl

@@ -1,5 +1,5 @@
 // Reports of a made-up day, each of its own owner and partition.
-ghost use Rattle.std.specs.Prelude.{◌≡◌, ℕ, ◌%◌, ◌<◌};
+ghost use Rattle.std.specs.Prelude.{◌≡◌, ◌%◌};
 ghost use Rattle.store_bench.specs.Counts.{turn};
 
 use codes::order::{Book, Side};

@@ -1,5 +1,5 @@
 // Filling a store and walking it, whatever store it is.
-ghost use Rattle.std.specs.Prelude.{◌≡◌, ℕ, ◌+◌, ◌*◌, ◌%◌, ◌≤◌, ◌<◌, false, length, min, if◌then◌else◌};
+ghost use Rattle.std.specs.Prelude.{◌≡◌, ◌+◌, ◌*◌, ◌%◌, ◌≤◌, ◌<◌, false, length, min, if◌then◌else◌};
 ghost use Rattle.partitions.specs.PerPartition.{at};
 ghost use Rattle.partitions.specs.Series.{total, grown};
 ghost use Rattle.store_bench.specs.Counts.{turn, owners, filled, seconds_of, seconds_in, seconds_of_all, owned, owned_in, owned_below, Counts};

@@ -59,7 +59,8 @@ printable-digit d h = grind arith
 printable-push : (xs : List ℕ) (c : ℕ) → all_printable xs ≡ true → printable c ≡ true → all_printable (xs ++ (c ∷ []))
     ≡ true
 printable-push [] c h k = rw k
-printable-push (x ∷ xs) c h k = let q = both_true (printable x) (all_printable xs) h in rw q.0 (printable-push xs c q.1 k)
+printable-push (x ∷ xs) c h k = let q = both_true (printable x) (all_printable xs) h in rw q.0
+    (printable-push xs c q.1 k)
 
 printable-base62 : (k n : ℕ) → all_printable (base62 k n) ≡ true
 unfolding base62

@@ -1,5 +1,5 @@
 // Identifiers: a letter, and a number in eleven digits of base 62.
-ghost use Rattle.std.specs.Prelude.{◌≡◌, ℕ, ◌+◌, ◌<◌, ◌≤◌, length};
+ghost use Rattle.std.specs.Prelude.{◌≡◌, ◌+◌, ◌<◌, ◌≤◌};
 ghost use Rattle.std.specs.Option.{option_map};
 ghost use Rattle.texts.specs.Identifiers.{digit, worth, id_of, order_id_text, execution_id_text, execution_number, execution_of, after, number_of, Returns};
 

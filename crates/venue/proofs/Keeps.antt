@@ -8,6 +8,7 @@ use Rattle.std.specs.FinMap.{get, len, get-empty, len-empty, empty_of_len}
 use Rattle.std.specs.Ordering.{nat_cmp}
 use Rattle.codes.specs.declared.session.Partition.{Partition}
 use Rattle.codes.specs.declared.session.Partition.TheVariants.{One, Two, Three}
+use Rattle.codes.specs.Session.{same_partition}
 use Rattle.texts.specs.declared.values.Time.{Time}
 use Rattle.texts.specs.declared.fixed.FixedText.{FixedText}
 use Rattle.keyed.specs.Look.{put}
@@ -44,7 +45,7 @@ use Rattle.changes.specs.Laws.{reports_of}
 use Rattle.changes.proofs.Orderly.{replaceable}
 use Rattle.configuration.specs.declared.instrument.Instrument.{Instrument}
 use Rattle.limits.specs.declared.TheConstants.{INSTRUMENTS}
-use Rattle.venue.specs.Ledger.{Ledger, told_at, told_in, appended, entries_of, rewritten, changed, entered, is_at, standing, told_one, all_told, Recorded}
+use Rattle.venue.specs.Ledger.{Ledger, told_at, told_in, appended, entries_of, rewritten, changed, entered, standing, told_one, all_told, Recorded}
 use Rattle.venue.specs.View.{View, Sound, Booked, Filling, Summed, held_as, open_of, executed_of, traded}
 use Rattle.venue.specs.declared.refusal.AcceptRefusal.TheVariants.{MatcherFull}
 use Rattle.venue.specs.Steps.{Silent, ledger_of, accept_fault}
@@ -105,7 +106,8 @@ booked-changed rows rows' m m' n r s here apart e k = go (cases_eq k n)
     go (inl q) =
         subst (λ j. get m'.orders j ≡ open_of (under rows' j)) (sym q)
         (ap (λ o. get o n) e ∙ put-here m.orders n (open_of (Some r)) ∙ ap open_of (sym here))
-    go (inr ne) = ap (λ o. get o k) e ∙ put-apart m.orders n (open_of (Some r)) k ne ∙ s k ∙ ap open_of (sym (apart k ne))
+    go (inr ne) = ap (λ o. get o k) e ∙ put-apart m.orders n (open_of (Some r)) k ne ∙ s k
+        ∙ ap open_of (sym (apart k ne))
 
 -- ---- how many orders are open
 
@@ -351,7 +353,8 @@ full_fault v q len' e s h is room refused =
     full false x = absurd (cc)
 
 -- a matcher that refused is as it was
-pub same_asked : (v : View) (m : Meaning) (e : Event) → m ≡ v.market → e ≡ v.next → record v { market = m; next = e } ≡ v
+pub same_asked : (v : View) (m : Meaning) (e : Event) → m ≡ v.market → e ≡ v.next
+    → record v { market = m; next = e } ≡ v
 same_asked v m e same still =
     ap (λ (x : Meaning). record v { market = x; next = e }) same ∙ ap (λ (x : Event). record v { next = x }) still
 
@@ -428,7 +431,7 @@ module _ (is : List Instrument) (rows : List Row) (kept : Kept) (p : Partition) 
       by_owner true = silent p k
       by_owner false = refl
 
-  told_same : (q : ℕ) (u : Partition) → (p ≡ u) ⊎ (is_at p u ≡ false) → all_told u q (at (grown kept p e) u)
+  told_same : (q : ℕ) (u : Partition) → (p ≡ u) ⊎ (same_partition p u ≡ false) → all_told u q (at (grown kept p e) u)
       ≡ all_told u q (at kept u)
   told_same q u (inr away) = ap (all_told u q) (appended-apart kept p u (e ∷ []) away)
   told_same q u (inl here) =

@@ -2,6 +2,7 @@
 use Rattle.std.specs.Prelude.{slice_get}
 use Rattle.std.proofs.Common.{◌≡◌, ℕ, ◌+◌, ◌++◌, ◌⊎◌, false, List, [], length, append-nil, Some, None, Option, inl, inr, refl, sym, ap, ◌∙◌, subst}
 use Rattle.codes.specs.declared.session.Partition.{Partition}
+use Rattle.codes.specs.Session.{same_partition}
 use Rattle.configuration.specs.declared.instrument.Instrument.{Instrument}
 use Rattle.texts.specs.declared.values.Time.{Time}
 use Rattle.orders.specs.declared.row.Row.{Row}
@@ -16,7 +17,7 @@ use Rattle.changes.specs.declared.change.Change.TheVariants.{Accept}
 use Rattle.changes.specs.Changes.{after}
 use Rattle.changes.specs.Laws.{reports_of}
 use Rattle.venue.specs.Laws.{TellsOnly, ChangesTellOwners, EntriesTellOwners}
-use Rattle.venue.specs.Ledger.{appended, entries_of, is_at, rewritten, told_at, told_in}
+use Rattle.venue.specs.Ledger.{appended, entries_of, rewritten, told_at, told_in}
 use Rattle.venue.proofs.Recording.{same_or_apart, appended-here, appended-apart}
 use Rattle.venue.proofs.Rows.{keeps}
 
@@ -27,7 +28,7 @@ appended_only : (o : ℕ) (k : Kept) (u : Partition) (es : List ExecutionReport)
     → TellsOnly o k (appended k u (entries_of o es))
 appended_only o k u es p = go (same_or_apart u p)
   where
-    go : (u ≡ p) ⊎ (is_at u p ≡ false) → (fs : List ExecutionReport)
+    go : (u ≡ p) ⊎ (same_partition u p ≡ false) → (fs : List ExecutionReport)
         × (at (appended k u (entries_of o es)) p ≡ at k p ++ entries_of o fs)
     go (inl e) = (
       es,

@@ -10,6 +10,7 @@ use Rattle.std.specs.Cmp.{nat_cmp_total}
 use Rattle.std.specs.Result.{result_unwrap_or}
 use Rattle.codes.specs.declared.session.Partition.{Partition}
 use Rattle.codes.specs.declared.session.Partition.TheVariants.{One, Two, Three}
+use Rattle.codes.specs.Session.{same_partition}
 use Rattle.texts.specs.declared.values.Time.{Time}
 use Rattle.keyed.specs.Numbers.{under}
 use Rattle.keyed.proofs.Keyed.{put-here, put-apart}
@@ -34,11 +35,11 @@ use Rattle.changes.specs.Changes.{after}
 use Rattle.changes.specs.Laws.{Knows, standing_of, reports_of, fold_all}
 use Rattle.changes.proofs.Following.{follows}
 use Rattle.configuration.specs.declared.instrument.Instrument.{Instrument}
-use Rattle.venue.specs.Ledger.{entries_of, appended, told_at, is_at, standing, standing_in, told_one, all_told, Recorded}
+use Rattle.venue.specs.Ledger.{entries_of, appended, told_at, standing, standing_in, told_one, all_told, Recorded}
 
 -- ---- partitions
 
-pub same_or_apart : (p q : Partition) → (p ≡ q) ⊎ (is_at p q ≡ false)
+pub same_or_apart : (p q : Partition) → (p ≡ q) ⊎ (same_partition p q ≡ false)
 same_or_apart One One = inl refl
 same_or_apart One Two = inr refl
 same_or_apart One Three = inr refl
@@ -49,10 +50,10 @@ same_or_apart Three One = inr refl
 same_or_apart Three Two = inr refl
 same_or_apart Three Three = inl refl
 
-at_self : (p : Partition) → is_at p p ≡ true
-at_self One = refl
-at_self Two = refl
-at_self Three = refl
+pub same_self : (p : Partition) → same_partition p p ≡ true
+same_self One = refl
+same_self Two = refl
+same_self Three = refl
 
 grown-here : (k : Kept) (p : Partition) (e : Entry) → at (grown k p e) p ≡ at k p ++ e ∷ []
 grown-here k One e = refl
@@ -62,7 +63,7 @@ grown-here k Three e = refl
 never : {A : Type 0} → ◌≡◌ {A = Bool} true false → A
 never e = absurd (cc)
 
-grown-apart : (k : Kept) (p q : Partition) (e : Entry) → is_at p q ≡ false → at (grown k p e) q ≡ at k q
+grown-apart : (k : Kept) (p q : Partition) (e : Entry) → same_partition p q ≡ false → at (grown k p e) q ≡ at k q
 grown-apart k One One e h = never h
 grown-apart k One Two e h = refl
 grown-apart k One Three e h = refl
@@ -78,7 +79,8 @@ appended-here k p [] = sym (append-nil (at k p))
 appended-here k p (e ∷ es) =
     appended-here (grown k p e) p es ∙ ap (λ l. l ++ es) (grown-here k p e) ∙ append_assoc (at k p) (e ∷ []) es
 
-pub appended-apart : (k : Kept) (p q : Partition) (es : List Entry) → is_at p q ≡ false → at (appended k p es) q ≡ at k q
+pub appended-apart : (k : Kept) (p q : Partition) (es : List Entry) → same_partition p q ≡ false
+    → at (appended k p es) q ≡ at k q
 appended-apart k p q [] h = refl
 appended-apart k p q (e ∷ es) h = appended-apart (grown k p e) p q es h ∙ grown-apart k p q e h
 
@@ -125,7 +127,7 @@ module _ (p : Partition) (o : ℕ) where
 
 -- of an order that is another's, or is told elsewhere: nothing
 standing-none : (is : List Instrument) (o : ℕ) (p : Partition) (b : Row) (i : Instrument)
-    → slice_get is b.terms.instrument ≡ Some i → (eqb b.terms.owner o && is_at i.partition p) ≡ false
+    → slice_get is b.terms.instrument ≡ Some i → (eqb b.terms.owner o && same_partition i.partition p) ≡ false
     → standing is o p (Some b) ≡ None
 standing-none is o p b i at_i h = ap (standing_in o p b) at_i ∙ cond-false _ _ _ h
 
@@ -133,8 +135,8 @@ standing-some : (is : List Instrument) (b : Row) (i : Instrument) → slice_get 
     → standing is b.terms.owner i.partition (Some b) ≡ Some (standing_of i.partition b)
 standing-some is b i at_i =
     ap (standing_in b.terms.owner i.partition b) at_i
-    ∙ cond-true _ _ _ (ap (λ x. x && is_at i.partition i.partition)
-    (eq-eqb b.terms.owner b.terms.owner refl) ∙ at_self i.partition)
+    ∙ cond-true _ _ _ (ap (λ x. x && same_partition i.partition i.partition)
+    (eq-eqb b.terms.owner b.terms.owner refl) ∙ same_self i.partition)
 
 apart-owner : (x y : Bool) → x ≡ false → (x && y) ≡ false
 apart-owner x y h = ap (λ b. b && y) h
@@ -210,7 +212,8 @@ module _ (is : List Instrument) (n : ℕ) (c : Change) (rows : List Row) (r : Ro
   tally_here = tally-told p o nothing_known _ (at now p) told_here
 
   -- every other is as it was
-  told_other : (q : ℕ) (u : Partition) → (p ≡ u) ⊎ (is_at p u ≡ false) → (eqb o q && is_at p u) ≡ false
+  told_other : (q : ℕ) (u : Partition) → (p ≡ u) ⊎ (same_partition p u ≡ false)
+      → (eqb o q && same_partition p u) ≡ false
       → all_told u q (at now u) ≡ all_told u q (at kept u)
   told_other q u (inr away) h = ap (all_told u q) (appended-apart kept p u (entries_of o es) away)
   told_other q u (inl here) h =
@@ -218,27 +221,29 @@ module _ (is : List Instrument) (n : ℕ) (c : Change) (rows : List Row) (r : Ro
       (ap (all_told p q) (appended-here kept p (entries_of o es)) ∙ fold-append (told_one p q) (Ok nothing_known)
       (at kept p) (entries_of o es)
       ∙ others_pass p q o (all_told p q (at kept p)) es
-      (another (eqb o q) (is_at p u) (ap (is_at p) (sym here) ∙ at_self p) h))
+      (another (eqb o q) (same_partition p u) (ap (same_partition p) (sym here) ∙ same_self p) h))
     where
       another : (x y : Bool) → y ≡ true → (x && y) ≡ false → x ≡ false
       another true y e h = absurd (cc)
       another false y e h = refl
 
-  stood_none : (q : ℕ) (u : Partition) (b : Option Row) → under rows n ≡ b → (eqb o q && is_at p u) ≡ false
+  stood_none : (q : ℕ) (u : Partition) (b : Option Row) → under rows n ≡ b → (eqb o q && same_partition p u) ≡ false
       → standing is q u b ≡ None
   stood_none q u None e h = refl
   stood_none q u (Some b) e h =
       let own : b.terms.owner ≡ o = ap (λ (x : Terms). x.owner) (w.terms b e) in
-      standing-none is q u b i (was_at b e) (ap (λ x. eqb x q && is_at p u) own ∙ h)
+      standing-none is q u b i (was_at b e) (ap (λ x. eqb x q && same_partition p u) own ∙ h)
 
-  standing_other : (q : ℕ) (u : Partition) (m : ℕ) → (m ≡ n) ⊎ (m ≡ n → ⊥) → (eqb o q && is_at p u) ≡ false
+  standing_other : (q : ℕ) (u : Partition) (m : ℕ) → (m ≡ n) ⊎ (m ≡ n → ⊥) → (eqb o q && same_partition p u) ≡ false
       → standing is q u (under rows m) ≡ standing is q u (under rows' m)
   standing_other q u m (inr ne) h = ap (standing is q u) (sym (w.apart m ne))
   standing_other q u m (inl e) h =
       subst (λ x. standing is q u (under rows x) ≡ standing is q u (under rows' x)) (sym e)
-      (stood_none q u (under rows n) refl h ∙ sym (ap (standing is q u) w.here ∙ standing-none is q u r i w.instrument h))
+      (stood_none q u (under rows n) refl h
+      ∙ sym (ap (standing is q u) w.here ∙ standing-none is q u r i w.instrument h))
 
-  standing_own : (m : ℕ) → (m ≡ n) ⊎ (m ≡ n → ⊥) → get (insert k n (standing_of p r)) m ≡ standing is o p (under rows' m)
+  standing_own : (m : ℕ) → (m ≡ n) ⊎ (m ≡ n → ⊥)
+      → get (insert k n (standing_of p r)) m ≡ standing is o p (under rows' m)
   standing_own m (inl e) =
       subst (λ x. get (insert k n (standing_of p r)) x ≡ standing is o p (under rows' x)) (sym e)
       (put-here k n (Some (standing_of p r)) ∙ sym (ap (standing is o p) w.here ∙ standing-some is r i w.instrument))
@@ -247,7 +252,8 @@ module _ (is : List Instrument) (n : ℕ) (c : Change) (rows : List Row) (r : Ro
 
   -- at most one order more is known, and only where there is a row more
   room_here : (b : Option Row) → under rows n ≡ b → len (insert k n (standing_of p r)) ≤ length rows'
-  room_here None e = by_test (contains_key k n) (len-insert nat_cmp_total k n (standing_of p r)) (s.room o p) (w.new e).1
+  room_here None e = by_test (contains_key k n) (len-insert nat_cmp_total k n (standing_of p r)) (s.room o p)
+      (w.new e).1
     where
       by_test : (b : Bool) → len (insert k n (standing_of p r)) ≡ cond b (len k) (len k + 1) → len k ≤ length rows
           → length rows' ≡ length rows + 1 → len (insert k n (standing_of p r)) ≤ length rows'
@@ -267,7 +273,8 @@ module _ (is : List Instrument) (n : ℕ) (c : Change) (rows : List Row) (r : Ro
     tallied : (m : ℕ) → get (tally u q (at now u)) m ≡ standing is q u (under rows' m)
     room : len (tally u q (at now u)) ≤ length rows'
 
-  each_other : (q : ℕ) (u : Partition) → (p ≡ u) ⊎ (is_at p u ≡ false) → (eqb o q && is_at p u) ≡ false → Each q u
+  each_other : (q : ℕ) (u : Partition) → (p ≡ u) ⊎ (same_partition p u ≡ false)
+      → (eqb o q && same_partition p u) ≡ false → Each q u
   each_other q u b h =
       let told_same = told_other q u b h ∙ s.unrefused q u in
       let same : tally u q (at now u) ≡ tally u q (at kept u) = tally-told u q nothing_known _ (at now u) told_same in
@@ -284,10 +291,10 @@ module _ (is : List Instrument) (n : ℕ) (c : Change) (rows : List Row) (r : Ro
     room = let l = room_here (under rows n) refl in let e = ap len tally_here in omega arith;
   }
 
-  each : (q : ℕ) (u : Partition) → (o ≡ q) ⊎ (o ≡ q → ⊥) → (p ≡ u) ⊎ (is_at p u ≡ false) → Each q u
+  each : (q : ℕ) (u : Partition) → (o ≡ q) ⊎ (o ≡ q → ⊥) → (p ≡ u) ⊎ (same_partition p u ≡ false) → Each q u
   each q u (inl a) (inl b) = subst (λ x. Each x u) a (subst (Each o) b each_own)
-  each q u (inl a) (inr b) = each_other q u (inr b) (apart-partition (eqb o q) (is_at p u) b)
-  each q u (inr a) b = each_other q u b (apart-owner (eqb o q) (is_at p u) (ne_eqb o q a))
+  each q u (inl a) (inr b) = each_other q u (inr b) (apart-partition (eqb o q) (same_partition p u) b)
+  each q u (inr a) b = each_other q u b (apart-owner (eqb o q) (same_partition p u) (ne_eqb o q a))
 
   placed : (m : ℕ) (x : Row) → under rows' m ≡ Some x → (m ≡ n) ⊎ (m ≡ n → ⊥) → x.terms.instrument < length is
   placed m x e (inl h) =

@@ -340,7 +340,8 @@ undo_allowed rows n u some h =
     let b = executed_row rows n u.quantity some h in
     ap (λ x. is_some (after n (Undo u) x)) b.was ∙ ap is_some (undo_made n u b.row some b.enough)
 
-pub executed_there : (rows : List Row) (n q : ℕ) → 1 ≤ q → q ≤ executed_of (under rows n) → is_some (under rows n) ≡ true
+pub executed_there : (rows : List Row) (n q : ℕ) → 1 ≤ q → q ≤ executed_of (under rows n)
+    → is_some (under rows n) ≡ true
 executed_there rows n q some h = let b = executed_row rows n q some h in ap is_some b.was
 
 module _ (is : List Instrument) (t : Time) (q : ℕ) (l : Ledger) (s : Recorded is l.rows l.kept) where

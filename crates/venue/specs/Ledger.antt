@@ -1,10 +1,10 @@
 -- What the reports in a store say of the orders. Assumes nothing.
-use Rattle.std.specs.Prelude.{◌≡◌, ℕ, ◌+◌, ◌<◌, ◌≤◌, Bool, true, ◌&&◌, List, [], ◌∷◌, ◌++◌, length, map, Some, None, Ok, Err, Option, Result, ◌==◌, slice_get, if◌then◌else◌}
+use Rattle.std.specs.Prelude.{◌≡◌, ℕ, ◌+◌, ◌<◌, ◌≤◌, true, ◌&&◌, List, [], ◌∷◌, ◌++◌, length, map, Some, None, Ok, Err, Option, Result, ◌==◌, slice_get, if◌then◌else◌}
 use Rattle.std.specs.List.{fold as fold_each}
 use Rattle.std.specs.FinMap.{get, len}
 use Rattle.std.specs.Option.{option_map_or}
 use Rattle.codes.specs.declared.session.Partition.{Partition}
-use Rattle.codes.specs.Session.{partition_code}
+use Rattle.codes.specs.Session.{same_partition}
 use Rattle.texts.specs.declared.values.Time.{Time}
 use Rattle.keyed.specs.Numbers.{under, put_under}
 use Rattle.orders.specs.declared.row.Row.{Row}
@@ -98,15 +98,12 @@ Uses most free free' = (free' ≤ free) × (free ≤ free' + most)
 
 -- ---- what an owner is to know
 
-abbrev pub is_at : Partition → Partition → Bool
-is_at p q = partition_code p == partition_code q
-
 -- what an owner is to know in a partition of a row with such an instrument: nothing of an order that is
 -- another's, or is told elsewhere
 abbrev pub standing_in : ℕ → Partition → Row → Option Instrument → Option Standing
 standing_in o p r None = None
 standing_in o p r (Some i) =
-    if r.terms.owner == o && is_at i.partition p then Some (standing_of p r) else None
+    if r.terms.owner == o && same_partition i.partition p then Some (standing_of p r) else None
 
 abbrev pub standing : List Instrument → ℕ → Partition → Option Row → Option Standing
 standing is o p None = None

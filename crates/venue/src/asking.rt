@@ -3,22 +3,12 @@ ghost use Rattle.std.specs.Prelude.{◌≡◌, ◌<◌, true, is_some};
 ghost use Rattle.std.specs.FinMap.{get};
 ghost use Rattle.limits.specs.declared.TheConstants.{INSTRUMENTS};
 ghost use Rattle.matching.specs.Meaning.{closed, resized};
-ghost use Rattle.venue.specs.Asking.{pricing_of, request_of};
+ghost use Rattle.venue.specs.Asking.{request_of};
 
-use codes::order::OrderType;
 use matching::matcher::{Matcher, Terms as Request};
 use orders::row::{Ask, Terms};
 use terms::pricing::Pricing;
 use texts::values::Price;
-
-fn pricing_of(kind: OrderType, price: Price) -> Pricing
-    ensures { result ≡ pricing_of kind price }
-{
-    match kind {
-        OrderType::Market => Pricing::Market,
-        OrderType::Limit => Pricing::Limit(price),
-    }
-}
 
 // What an order asks of the matcher.
 pub(crate) fn request_of(terms: &Terms, ask: &Ask) -> Request
@@ -28,7 +18,7 @@ pub(crate) fn request_of(terms: &Terms, ask: &Ask) -> Request
     Request {
         instrument: terms.instrument as u8,
         side: terms.side,
-        pricing: pricing_of(terms.kind, ask.price),
+        pricing: Pricing::new(terms.kind, ask.price),
         time_in_force: terms.time_in_force,
         quantity: ask.quantity,
         book: terms.book,

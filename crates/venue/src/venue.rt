@@ -1,5 +1,5 @@
 // A venue: the orders, the trades, a matcher and a store of one day, kept in step.
-ghost use Rattle.std.specs.Prelude.{◌≡◌, ℕ, ◌+◌, ◌-◌, ◌<◌, ◌≤◌, true, length, nat_le, [], None, MatchResult};
+ghost use Rattle.std.specs.Prelude.{◌≡◌, ◌+◌, ◌-◌, ◌<◌, ◌≤◌, true, length, nat_le, None, MatchResult};
 
 use crate::asking::{request_of, resize, take_out};
 use crate::refusal::AcceptRefusal;
@@ -54,12 +54,11 @@ impl<M: Matcher, S: Store> Model for Venue<M, S> {
 
 impl<M: Matcher, S: Store> Venue<M, S> {
     ghost use Rattle.keyed.specs.Numbers.{under};
-    ghost use Rattle.orders.specs.Orders.{replace_fault};
     ghost use Rattle.orders.specs.Rows.{orderable};
     ghost use Rattle.orders.specs.Trades.{void_fault};
     ghost use Rattle.orders.specs.Tables.{latest, open_count};
     ghost use Rattle.partitions.specs.PerPartition.{at};
-    ghost use Rattle.matching.specs.Meaning.{Meaning, serves};
+    ghost use Rattle.matching.specs.Meaning.{serves};
     ghost use Rattle.store.specs.Kept.{empty};
     ghost use Rattle.texts.specs.Bytes.{said};
     ghost use Rattle.std.specs.FinMap.{len};

@@ -4,14 +4,14 @@ use native.Mathlib.Nat.{le-max_left}
 use Rattle.std.proofs.lemmas.List.{length-take-le, take_all}
 use Rattle.std.proofs.lemmas.Nat.{mod-mul-add, div-mul-add}
 use Rattle.std.proofs.lemmas.Int.{of_z-to_z}
-use Rattle.texts.specs.Bytes.{le, to_le, all_null, said, is_text, named, padded}
+use Rattle.texts.specs.Bytes.{le, to_le, all_null, said, is_text, named, padded, part}
 use Rattle.texts.specs.Identifiers.{number_of}
 use Rattle.texts.proofs.Padding.{both_true, padded-said, null_is}
 use Rattle.layout.specs.declared.field.Form.{Form}
 use Rattle.layout.specs.declared.field.Form.TheVariants.{Text, Name, Order, UInt32, UInt64, Sequence, Int8, Int32, Price, Time, Code, Alpha, Reserved}
 use Rattle.layout.specs.declared.field.Field.{Field}
 use Rattle.layout.specs.declared.field.Field.TheVariants.{Always, When}
-use Rattle.layout.specs.Layout.{Content, part, place, width, wide, span, form_of, matters, ok, got, ok_form, content, within, AllOk, Says, order_at, is_order, absent}
+use Rattle.layout.specs.Layout.{Content, place, width, wide, span, form_of, matters, ok, got, ok_form, content, within, AllOk, Says, order_at, is_order, absent}
 use Rattle.layout.specs.Layout.Content.{nothing}
 use Rattle.layout.specs.Writing.{order_bytes, bytes_of, field_bytes, encode}
 use Rattle.layout.proofs.Parts.{part_long}

@@ -1,10 +1,9 @@
 -- The checks of a header: what passes them. Assumes nothing.
 use Rattle.std.proofs.Common.{◌&&◌, ◌||◌, ◌≡◌, ℕ, Bool, true, false, cond, eqb, ltb, List, length, Some, None, Ok, Err, Option, Result, IfOk, sym, refl, ap, ◌∙◌, eqb-true}
-use Rattle.texts.specs.Bytes.{le}
+use Rattle.texts.specs.Bytes.{le, part}
 use Rattle.texts.proofs.Padding.{both_true}
 use Rattle.layout.specs.declared.fault.Fault.{Fault}
 use Rattle.layout.specs.declared.fault.Fault.TheVariants.{Short, Start, Length}
-use Rattle.layout.specs.Layout.{part}
 use Rattle.wire.specs.declared.kinds.Channel.{Channel}
 use Rattle.wire.specs.declared.kinds.Kind.{Kind}
 use Rattle.wire.specs.Kinds.{letter_of, total_of, takes}
@@ -39,6 +38,7 @@ opened_by ch k bs e =
     let v = sized_by bs (takes ch (le (part 3 1 bs))) k u.1 in
     (eqb-true (le (part 0 1 bs)) 2 u.0, v.1, sym v.2 ∙ v.1, spelt ch k (le (part 3 1 bs)) v.0)
 
-pub long : (ch : Channel) (bs : List ℕ) (r : Result Kind Fault) → r ≡ opening ch bs → IfOk r (λ k. length bs ≡ total_of k)
+pub long : (ch : Channel) (bs : List ℕ) (r : Result Kind Fault) → r ≡ opening ch bs
+    → IfOk r (λ k. length bs ≡ total_of k)
 long ch bs (Ok k) e = (opened_by ch k bs (sym e)).2
 long ch bs (Err x) e = tt

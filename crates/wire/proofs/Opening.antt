@@ -1,9 +1,8 @@
 -- The header of a message that is written passes the checks. Assumes nothing.
 use Rattle.std.proofs.Common.{◌≡◌, ℕ, ◌+◌, ◌-◌, ◌*◌, ◌<◌, ◌≤◌, true, eqb, ltb, List, ◌++◌, length, Some, Ok, sym, refl, ◌∙◌, arith, eq-eqb, ltb-true}
 use Rattle.std.proofs.lemmas.Bool.{false_from_ne_true}
-use Rattle.texts.specs.Bytes.{le, to_le}
+use Rattle.texts.specs.Bytes.{le, to_le, part}
 use Rattle.texts.proofs.Padding.{le-to_le}
-use Rattle.layout.specs.Layout.{part}
 use Rattle.layout.specs.Writing.{header}
 use Rattle.wire.specs.declared.kinds.Channel.{Channel}
 use Rattle.wire.specs.declared.kinds.Kind.{Kind}

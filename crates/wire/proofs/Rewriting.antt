@@ -1,12 +1,12 @@
 -- Writing undoes reading. Assumes nothing.
 use Rattle.std.proofs.Common.{Err, Fits, IfOk, List, None, Ok, Option, Result, Some, [], ap, arith, get_or, leb-true, length, take, w8, ℕ, ◌*◌, ◌++◌, ◌+◌, ◌-◌, ◌∙◌, ◌∷◌, ◌≡◌, ◌≤◌}
 use Rattle.layout.proofs.Tables.{all_ok}
-use Rattle.layout.specs.Layout.{first_bad, part}
+use Rattle.layout.specs.Layout.{first_bad}
 use Rattle.layout.specs.Writing.{encode, header}
 use Rattle.layout.specs.declared.fault.Fault.TheVariants as fault
 use Rattle.layout.specs.declared.fault.Fault.{Fault}
 use Rattle.std.specs.Option.{option_map}
-use Rattle.texts.specs.Bytes.{le, to_le}
+use Rattle.texts.specs.Bytes.{le, to_le, part}
 use Rattle.wire.proofs.Again.{Bytes, to_le_le, bytes_from, write_all}
 use Rattle.wire.proofs.Headers.{opened_by}
 use Rattle.wire.proofs.Sound.{sound}

@@ -137,7 +137,8 @@ same (message.ExecutionReport x) (message.ExecutionReport y) k e =
     let execution_id_is = text_same x.execution_id y.execution_id (words_at 2 e) in
     let client_order_id_is = text_same x.client_order_id y.client_order_id (words_at 3 e) in
     let order_id_is = text_same x.order_id y.order_id (words_at 4 e) in
-    let execution_is = execution_same x.execution y.execution (figure_at 5 e) (nth_at 8 e) (nth_at 18 e) (nth_at 22 e) in
+    let execution_is = execution_same x.execution y.execution (figure_at 5 e) (nth_at 8 e) (nth_at 18 e)
+    (nth_at 22 e) in
     let reference_id_is = text_same x.reference_id y.reference_id (words_at 6 e) in
     let status_is = status_one x.status y.status (figure_at 7 e) in
     let executed_price_is = price_same x.executed_price y.executed_price (nth_at 9 e) in

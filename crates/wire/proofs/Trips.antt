@@ -2,13 +2,13 @@
 use Rattle.std.proofs.Common.{◌&&◌, ◌≡◌, ℕ, ◌+◌, Bool, true, false, cond, eqb, List, [], ◌∷◌, ◌++◌, length, replicate, None, sym, refl, ap, ◌∙◌, subst, append_assoc, append-nil, arith, length-append, eqb-true}
 use Rattle.std.proofs.lemmas.List.{take_at, drop_at}
 use Rattle.codes.specs.Lists.{listed}
-use Rattle.texts.specs.Bytes.{le}
+use Rattle.texts.specs.Bytes.{le, part}
 use Rattle.texts.proofs.Padding.{both_true, le-to_le}
 use Rattle.layout.specs.declared.field.Form.{Form}
 use Rattle.layout.specs.declared.field.Form.TheVariants.{Text, Name, Order, UInt32, UInt64, Sequence, Int8, Int32, Price, Time, Code, Alpha, Reserved}
 use Rattle.layout.specs.declared.field.Field.{Field}
 use Rattle.layout.specs.declared.field.Field.TheVariants.{Always, When}
-use Rattle.layout.specs.Layout.{Content, part, taken, place, width, wide, ok, got, ok_form, content, first_bad, Says, figure_of, absent}
+use Rattle.layout.specs.Layout.{Content, taken, place, width, wide, ok, got, ok_form, content, first_bad, Says, figure_of, absent}
 use Rattle.layout.specs.Layout.Content.{nothing}
 use Rattle.layout.specs.Writing.{bytes_of, field_bytes, encode, tiled}
 use Rattle.layout.specs.Holding.{HoldsForm, If, Holds, HoldsAll, HoldsIn, figure_at}

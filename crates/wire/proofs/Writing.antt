@@ -10,4 +10,5 @@ pub one_form : (m : Message) (b a : List ℕ) → Wrote (letter_of (kind_of m)) 
     → a ≡ written m ++ drop (total_of (kind_of m)) b
 one_form m b a w =
     let k = kind_of m in
-    w ∙ sym (append_assoc (header (letter_of k) (total_of k)) (encode (table_of k) (contents_of m)) (drop (total_of k) b))
+    w ∙ sym (append_assoc (header (letter_of k) (total_of k)) (encode (table_of k) (contents_of m))
+    (drop (total_of k) b))

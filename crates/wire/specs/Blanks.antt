@@ -4,7 +4,8 @@ use Rattle.std.specs.List.{flat_map}
 use Rattle.layout.specs.declared.field.Form.{Form}
 use Rattle.layout.specs.declared.field.Form.TheVariants as form
 use Rattle.layout.specs.declared.field.Field.{Field}
-use Rattle.layout.specs.Layout.{part, place, width, form_of, matters}
+use Rattle.texts.specs.Bytes.{part}
+use Rattle.layout.specs.Layout.{place, width, form_of, matters}
 
 abbrev pub reserved : Form → Bool
 reserved (form.Reserved w) = true

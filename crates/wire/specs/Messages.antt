@@ -1,10 +1,10 @@
 -- Any message: the checks in their order, what a message says, and its one written form. Assumes nothing.
 use Rattle.std.specs.Prelude.{◌≡◌, ℕ, ◌+◌, ◌<◌, ◌≤◌, ◌&&◌, ◌||◌, List, ◌++◌, length, take, drop, Some, None, Ok, Err, Option, Result, MatchResult, ◌==◌, nat_lt, if◌then◌else◌}
-use Rattle.texts.specs.Bytes.{le}
+use Rattle.texts.specs.Bytes.{le, part}
 use Rattle.layout.specs.declared.fault.Fault.{Fault}
 use Rattle.layout.specs.declared.fault.Fault.TheVariants.{Short, Start, Unknown, Length}
 use Rattle.layout.specs.declared.put.TheConstants.{START}
-use Rattle.layout.specs.Layout.{Content, part, fault_of, Says, text_places}
+use Rattle.layout.specs.Layout.{Content, fault_of, Says, text_places}
 use Rattle.layout.specs.Writing.{header, encode}
 use Rattle.layout.specs.Holding.{HoldsIn}
 use Rattle.layout.specs.declared.framed.Framed.{Ghosts}

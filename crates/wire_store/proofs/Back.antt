@@ -1,5 +1,5 @@
 -- What is told from a message's contents is what the message tells. Assumes nothing.
-use Rattle.std.proofs.Common.{◌≡◌, ℕ, cond, List, [], ◌∷◌, ◌++◌, map, length, take, drop, replicate, pos, Some, None, Ok, Option, refl, sym, ap, ◌∙◌, subst, arith, le-leb}
+use Rattle.std.proofs.Common.{◌≡◌, ℕ, cond, List, [], ◌++◌, length, take, drop, replicate, pos, Some, None, Ok, Option, refl, sym, ap, ◌∙◌, subst, arith, le-leb}
 use Rattle.std.specs.Option.{unwrap_or, is_some, option_map}
 use Rattle.std.proofs.lemmas.Bool.{and_from, cond-true}
 use Rattle.std.proofs.lemmas.List.{length-take-le, take_at}
@@ -7,6 +7,13 @@ use Rattle.std.proofs.lemmas.List.Sums.{prefix_len-le-length}
 use Rattle.std.specs.List.{prefix_len}
 use Rattle.codes.specs.Order.{sides, side_code, books, book_code}
 use Rattle.codes.specs.Report.{exec_type_code, statuses, status_code, liquidities, liquidity_code, trade_types, trade_type_code, capacities, capacity_code, mass_responses, mass_response_code}
+use Rattle.codes.specs.contracts.order.BookCode.TheImpl.Laws as book_law
+use Rattle.codes.specs.contracts.order.SideCode.TheImpl.Laws as side_law
+use Rattle.codes.specs.contracts.report.CapacityCode.TheImpl.Laws as capacity_law
+use Rattle.codes.specs.contracts.report.LiquidityCode.TheImpl.Laws as liquidity_law
+use Rattle.codes.specs.contracts.report.MassResponseCode.TheImpl.Laws as mass_response_law
+use Rattle.codes.specs.contracts.report.StatusCode.TheImpl.Laws as status_law
+use Rattle.codes.specs.contracts.report.TradeTypeCode.TheImpl.Laws as trade_type_law
 use Rattle.codes.specs.declared.order.Book.{Book}
 use Rattle.codes.specs.declared.order.Book.TheVariants as book
 use Rattle.codes.specs.declared.order.Side.{Side}
@@ -35,8 +42,10 @@ use Rattle.texts.proofs.Padding.{padded-said, printable-said}
 use Rattle.layout.specs.declared.fault.Fault.{Fault}
 use Rattle.layout.specs.declared.fault.Fault.TheVariants as fault
 use Rattle.layout.specs.declared.field.Field.{Field}
-use Rattle.layout.specs.Layout.{Content, got, Says}
+use Rattle.layout.specs.Layout.{Content, Says, value_of}
 use Rattle.layout.specs.Writing.{header, encode}
+use Rattle.layout.proofs.Values.{all_got, value_back}
+use Rattle.layout.specs.Layout.Content.{figure}
 use Rattle.order_messages.specs.Terms.{execution_reject, execution_liquidity, execution_trade}
 use Rattle.wire.specs.declared.kinds.Channel.TheVariants.{Follower}
 use Rattle.wire.specs.declared.message.Message.{Message}
@@ -50,8 +59,9 @@ use Rattle.reports.specs.declared.report.Report.{Report}
 use Rattle.reports.specs.declared.report.Report.TheVariants as report
 use Rattle.report_messages.specs.Back.{report_in}
 use Rattle.report_messages.specs.Telling.{told_as, kind_told, report_bytes}
+use Rattle.report_messages.proofs.Takes.{follower_takes}
 use Rattle.wire_store.specs.Fitted.{fit, fitted}
-use Rattle.wire_store.specs.Told.{decoded, value_of, execution_from, nothing_told, told_from, told_in}
+use Rattle.wire_store.specs.Told.{decoded, execution_from, nothing_told, told_from, told_in}
 
 blank_same : (x : FixedText 20) → x.bytes ≡ padded 20 [] → x ≡ fitted 20 []
 blank_same x e = fixed_same x (fitted 20 []) e
@@ -84,43 +94,38 @@ text_back {N} t =
     fixed_same (fitted N (says t)) (kept t) same
 
 -- a value by its byte
-side_back : (x : Side) → value_of side_code sides side.Buy (side_code x) ≡ x
-side_back side.Buy = refl
-side_back side.Sell = refl
+side_back : (x : Side) → value_of side_code sides side.Buy (figure (side_code x)) ≡ x
+side_back x = value_back side_code sides side.Buy x (side_law.every-law x) (λ y. side_law.one-law y x)
 
-book_back : (x : Book) → value_of book_code books book.Integrated (book_code x) ≡ x
-book_back book.DarkMidpoint = refl
-book_back book.Integrated = refl
+book_back : (x : Book) → value_of book_code books book.Integrated (figure (book_code x)) ≡ x
+book_back x = value_back book_code books book.Integrated x (book_law.every-law x) (λ y. book_law.one-law y x)
 
-status_back : (x : Status) → value_of status_code statuses status.New (status_code x) ≡ x
-status_back status.New = refl
-status_back status.PartiallyFilled = refl
-status_back status.Filled = refl
-status_back status.Cancelled = refl
-status_back status.Expired = refl
-status_back status.Rejected = refl
+status_back : (x : Status) → value_of status_code statuses status.New (figure (status_code x)) ≡ x
+status_back x = value_back status_code statuses status.New x (status_law.every-law x) (λ y. status_law.one-law y x)
 
-liquidity_back : (x : Liquidity) → value_of liquidity_code liquidities liquidity.Unspecified (liquidity_code x) ≡ x
-liquidity_back liquidity.Unspecified = refl
-liquidity_back liquidity.Added = refl
-liquidity_back liquidity.Uncrossing = refl
-liquidity_back liquidity.Removed = refl
+liquidity_back : (x : Liquidity) → value_of liquidity_code liquidities liquidity.Unspecified
+    (figure (liquidity_code x)) ≡ x
+liquidity_back x =
+    value_back liquidity_code liquidities liquidity.Unspecified x (liquidity_law.every-law x)
+    (λ y. liquidity_law.one-law y x)
 
-trade_type_back : (x : TradeType) → value_of trade_type_code trade_types trade_type.Visible (trade_type_code x) ≡ x
-trade_type_back trade_type.Visible = refl
-trade_type_back trade_type.Hidden = refl
+trade_type_back : (x : TradeType) → value_of trade_type_code trade_types trade_type.Visible
+    (figure (trade_type_code x)) ≡ x
+trade_type_back x =
+    value_back trade_type_code trade_types trade_type.Visible x (trade_type_law.every-law x)
+    (λ y. trade_type_law.one-law y x)
 
-capacity_back : (x : Capacity) → value_of capacity_code capacities capacity.Principal (capacity_code x) ≡ x
-capacity_back capacity.RisklessPrincipal = refl
-capacity_back capacity.Principal = refl
-capacity_back capacity.Agency = refl
+capacity_back : (x : Capacity) → value_of capacity_code capacities capacity.Principal (figure (capacity_code x)) ≡ x
+capacity_back x =
+    value_back capacity_code capacities capacity.Principal x (capacity_law.every-law x) (λ y. capacity_law.one-law y x)
 
 mass_response_back : (x : MassResponse) → value_of mass_response_code mass_responses mass_response.Rejected
-    (mass_response_code x) ≡ x
-mass_response_back mass_response.Rejected = refl
-mass_response_back mass_response.Accepted = refl
+    (figure (mass_response_code x)) ≡ x
+mass_response_back x =
+    value_back mass_response_code mass_responses mass_response.Rejected x (mass_response_law.every-law x)
+    (λ y. mass_response_law.one-law y x)
 
-execution_back : (e : Execution) → execution_from (exec_type_code (exec_of e)) (execution_reject e)
+execution_back : (e : Execution) → execution_from (figure (exec_type_code (exec_of e))) (execution_reject e)
     (execution_liquidity e) (execution_trade e) ≡ e
 execution_back execution.Unspecified = refl
 execution_back execution.New = refl
@@ -130,7 +135,7 @@ execution_back (execution.Rejected n) = refl
 execution_back execution.Expired = refl
 execution_back execution.Restated = refl
 execution_back (execution.Trade l t) =
-    ap (λ x. execution.Trade x (value_of trade_type_code trade_types trade_type.Visible (trade_type_code t)))
+    ap (λ x. execution.Trade x (value_of trade_type_code trade_types trade_type.Visible (figure (trade_type_code t))))
     (liquidity_back l) ∙ ap (execution.Trade l) (trade_type_back t)
 execution_back (execution.TradeCancel l) = ap execution.TradeCancel (liquidity_back l)
 
@@ -172,13 +177,6 @@ contents_tell (message.OrderCancelRequest m) = refl
 contents_tell (message.OrderCancelReplaceRequest m) = refl
 contents_tell (message.OrderMassCancelRequest m) = refl
 
--- contents that bytes hold are those that are got from them
-all_got : (fs : List Field) (vs : List Content) (bs : List ℕ) → Says vs fs bs → map (got bs) fs ≡ vs
-all_got [] [] bs h = refl
-all_got [] (v ∷ vs) bs h = absurd h
-all_got (f ∷ fs) [] bs h = absurd h
-all_got (f ∷ fs) (v ∷ vs) bs h = let a = sym h.0 in let b = all_got fs vs bs h.1 in cc
-
 told_by : (bs : List ℕ) (m : Message) → verdict Follower bs ≡ None → opening Follower bs ≡ Ok (kind_of m)
     → Says (contents_of m) (table_of (kind_of m)) bs → decoded bs ≡ unwrap_or (report_in m) nothing_told
 told_by bs m v o s =
@@ -199,11 +197,6 @@ report_is : (p : Partition) (n : ℕ) (r : Report) (m : Message) → kind_of m �
     ≡ told_as p n r → written m ≡ report_bytes p n r
 report_is p n r m k c = ap (λ j. message_bytes j (contents_of m)) k ∙ ap (message_bytes (kind_told r)) c
 
-follower_takes : (r : Report) → takes Follower (letter_of (kind_told r)) ≡ Some (kind_told r)
-follower_takes (report.Execution e) = refl
-follower_takes (report.CancelReject e) = refl
-follower_takes (report.MassCancel e) = refl
-
 module _ (p : Partition) (n : ℕ) (r : Report) (m : Message) (k : kind_of m ≡ kind_told r)
     (c : contents_of m ≡ told_as p n r) (h : Holdable m) where
   taken_by : takes Follower (letter_of (kind_of m)) ≡ Some (kind_of m)
@@ -222,7 +215,8 @@ module _ (p : Partition) (n : ℕ) (r : Report) (m : Message) (k : kind_of m ≡
   pub given_back : report_in m ≡ Some r → decoded (report_bytes p n r) ≡ r
   given_back e =
       let a = read_again in
-      ap decoded (sym (report_is p n r m k c)) ∙ told_by (written m) m a.1 a.0 a.2 ∙ ap (λ o. unwrap_or o nothing_told) e
+      ap decoded (sym (report_is p n r m k c)) ∙ told_by (written m) m a.1 a.0 a.2
+      ∙ ap (λ o. unwrap_or o nothing_told) e
 
   pub whole : (total : ℕ) (before after : List ℕ) → total ≡ total_of (kind_of m) → after ≡ written m
       ++ drop total before → take total after ≡ report_bytes p n r

@@ -1,6 +1,5 @@
 -- The report that bytes hold. Assumes nothing.
-use Rattle.std.specs.Prelude.{ℕ, List, [], map, pos, is_some, Ok, Err, Result, ◌==◌, find, slice_index_or, if◌then◌else◌}
-use Rattle.std.specs.Option.{unwrap_or}
+use Rattle.std.specs.Prelude.{ℕ, List, [], map, pos, is_some, Ok, Err, Result, if◌then◌else◌}
 use Rattle.codes.specs.Order.{sides, side_code, books, book_code}
 use Rattle.codes.specs.Report.{exec_types, exec_type_code, statuses, status_code, liquidities, liquidity_code, trade_types, trade_type_code, capacities, capacity_code, mass_responses, mass_response_code}
 use Rattle.codes.specs.declared.order.Book.TheVariants as book
@@ -15,8 +14,7 @@ use Rattle.codes.specs.declared.report.MassResponse.TheVariants as mass_response
 use Rattle.terms.specs.declared.execution.Execution.{Execution}
 use Rattle.terms.specs.declared.execution.Execution.TheVariants as execution
 use Rattle.layout.specs.declared.fault.Fault.{Fault}
-use Rattle.layout.specs.Layout.{Content, got, words_of, figure_of, int32_of, price_of, seconds_of, micros_of}
-use Rattle.layout.specs.Layout.Content.{nothing}
+use Rattle.layout.specs.Layout.{Content, got, words_of, figure_of, int32_of, price_of, seconds_of, micros_of, nth, value_of}
 use Rattle.wire.specs.declared.kinds.Channel.TheVariants.{Follower}
 use Rattle.wire.specs.declared.kinds.Kind.{Kind}
 use Rattle.wire.specs.declared.kinds.Kind.TheVariants as kind
@@ -26,14 +24,6 @@ use Rattle.reports.specs.declared.report.Report.{Report}
 use Rattle.reports.specs.declared.report.Report.TheVariants as report
 use Rattle.report_messages.specs.Back.{order_in, reference_in}
 use Rattle.wire_store.specs.Fitted.{fitted}
-
--- the content at a place of a message's contents
-abbrev pub nth : ℕ → List Content → Content
-nth i vs = slice_index_or vs i nothing
-
--- the value of a byte, or another one where none has it
-abbrev pub value_of : {V : Type 0} → (V → ℕ) → List V → V → ℕ → V
-value_of code values other b = unwrap_or (find (λ v. code v == b) values) other
 
 -- why a report is sent, by its exec type and what its fields for it hold
 abbrev pub execution_as : ExecType → Content → Content → Content → Execution
@@ -46,12 +36,12 @@ execution_as exec.Expired r l t = execution.Expired
 execution_as exec.Restated r l t = execution.Restated
 execution_as exec.Trade r l t =
     execution.Trade
-    (value_of liquidity_code liquidities liquidity.Unspecified (figure_of l))
-    (value_of trade_type_code trade_types trade_type.Visible (figure_of t))
+    (value_of liquidity_code liquidities liquidity.Unspecified l)
+    (value_of trade_type_code trade_types trade_type.Visible t)
 execution_as exec.TradeCancel r l t =
-    execution.TradeCancel (value_of liquidity_code liquidities liquidity.Unspecified (figure_of l))
+    execution.TradeCancel (value_of liquidity_code liquidities liquidity.Unspecified l)
 
-abbrev pub execution_from : ℕ → Content → Content → Content → Execution
+abbrev pub execution_from : Content → Content → Content → Content → Execution
 execution_from b r l t = execution_as (value_of exec_type_code exec_types exec.Unspecified b) r l t
 
 -- a report that bytes are said to hold that hold none
@@ -69,19 +59,19 @@ told_from kind.ExecutionReport vs =
     report.Execution (record {
       client = fitted 20 (words_of (nth 3 vs));
       order = order_in (words_of (nth 4 vs));
-      execution = execution_from (figure_of (nth 5 vs)) (nth 8 vs) (nth 18 vs) (nth 22 vs);
+      execution = execution_from (nth 5 vs) (nth 8 vs) (nth 18 vs) (nth 22 vs);
       reference = reference_in (words_of (nth 6 vs));
-      status = value_of status_code statuses status.New (figure_of (nth 7 vs));
+      status = value_of status_code statuses status.New (nth 7 vs);
       price = record { raw = price_of (nth 9 vs) };
       quantity = int32_of (nth 10 vs);
       leaves = int32_of (nth 11 vs);
       display = int32_of (nth 13 vs);
       symbol = fitted 6 (words_of (nth 14 vs));
-      side = value_of side_code sides side.Buy (figure_of (nth 15 vs));
+      side = value_of side_code sides side.Buy (nth 15 vs);
       trade = figure_of (nth 19 vs);
       time = record { seconds = seconds_of (nth 20 vs); microseconds = micros_of (nth 20 vs) };
-      book = value_of book_code books book.Integrated (figure_of (nth 21 vs));
-      capacity = value_of capacity_code capacities capacity.Principal (figure_of (nth 23 vs));
+      book = value_of book_code books book.Integrated (nth 21 vs);
+      capacity = value_of capacity_code capacities capacity.Principal (nth 23 vs);
     })
 told_from kind.OrderCancelReject vs =
     report.CancelReject (record {
@@ -92,7 +82,7 @@ told_from kind.OrderCancelReject vs =
 told_from kind.OrderMassCancelReport vs =
     report.MassCancel (record {
       client = fitted 20 (words_of (nth 2 vs));
-      response = value_of mass_response_code mass_responses mass_response.Rejected (figure_of (nth 3 vs));
+      response = value_of mass_response_code mass_responses mass_response.Rejected (nth 3 vs);
       reason = int32_of (nth 4 vs);
       time = record { seconds = seconds_of (nth 6 vs); microseconds = micros_of (nth 6 vs) };
     })

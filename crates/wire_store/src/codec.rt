@@ -1,5 +1,5 @@
 // A report as the bytes of its message, and back.
-ghost use Rattle.std.specs.Prelude.{◌≡◌, ◌≤◌, ◌<◌, length, take, is_some};
+ghost use Rattle.std.specs.Prelude.{◌≡◌, ◌≤◌, length, take};
 ghost use Rattle.limits.specs.declared.TheConstants.{MESSAGE_BYTES};
 ghost use Rattle.report_messages.specs.Telling.{report_bytes};
 ghost use Rattle.wire_store.specs.Told.{decoded, nothing_told};

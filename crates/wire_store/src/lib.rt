@@ -1,7 +1,7 @@
 // The store of wire bytes: each entry is the bytes of its own message, as they are sent.
 #![tactic(auto)]
 
-ghost use Rattle.std.specs.Prelude.{◌≡◌, ◌≤◌, IfOk};
+ghost use Rattle.std.specs.Prelude.{◌≡◌, IfOk};
 ghost use Rattle.store.specs.Kept.{empty};
 ghost use Rattle.byte_store.specs.Places.{free_places};
 ghost use Rattle.byte_store.specs.Views.{kept_in, free_in};

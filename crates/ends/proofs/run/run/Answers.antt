@@ -36,7 +36,8 @@ pub returns-clause-conserved : goal.returns-clause-conserved
 returns-clause-conserved g c =
     let begun = c.in-Ok-start.ensures.1 in
     subst (λ s. Conserves s (venue_log c.loop-call.log.items) c.loop-call.gateway) begun
-    (all_conserved _ fresh c.loop-call.log.items _ _ (ap (λ (s : State). s.venue.rows) begun) c.loop-call.invariant.runs)
+    (all_conserved _ fresh c.loop-call.log.items _ _
+    (ap (λ (s : State). s.venue.rows) begun) c.loop-call.invariant.runs)
 
 pub returns-clause-agreed : goal.returns-clause-agreed
 returns-clause-agreed g c =

@@ -33,7 +33,8 @@ returns-then-goes_back-clause-after c =
     c.requires.found.2 x in
     c.add.ensures.after
     ∙ ap (λ (n : ℕ). opened (lit_meaning c.remove.new.self) n (order_held v)) own
-    ∙ reopened (lit_meaning b) (lit_meaning c.remove.new.self) c.args.number c.args.quantity (order_held x) (order_held v)
+    ∙ reopened (lit_meaning b) (lit_meaning c.remove.new.self) c.args.number c.args.quantity (order_held x)
+    (order_held v)
     (held b.orders.items c.args.place c.args.number x c.requires.found c.index.ensures)
     (ap order_held c.with_limit.ensures) c.remove.ensures.after
 
