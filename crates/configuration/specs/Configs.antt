@@ -32,8 +32,8 @@ Admits name password firm ends (Err e) = (admitted name password ≡ false) × (
 
 -- a symbol says something, both texts fit their fields, and the partition is 1 to 3
 abbrev pub listed : List ℕ → List ℕ → ℕ → Bool
-listed symbol segment partition = fitting_name 6 symbol && fitting 4 segment && member partition
-    (bytes_listed Partitions)
+listed symbol segment partition =
+    fitting_name 6 symbol && fitting 4 segment && member partition (bytes_listed Partitions)
 
 abbrev pub Lists : List ℕ → List ℕ → ℕ → Result Instrument StartRefusal → Type 0
 Lists symbol segment partition (Ok i) =

@@ -33,8 +33,8 @@ negative_of k ds =
     if is_numeral ds && nat_le (digits_value 10 ds) (2 ^ k) then Some (neg_ℤ (pos (digits_value 10 ds))) else None
 
 abbrev pub positive_of : ℕ → List ℕ → Option ℤ
-positive_of k ds = if is_numeral ds && nat_lt (digits_value 10 ds) (2 ^ k) then Some
-    (pos (digits_value 10 ds)) else None
+positive_of k ds =
+    if is_numeral ds && nat_lt (digits_value 10 ds) (2 ^ k) then Some (pos (digits_value 10 ds)) else None
 
 -- a whole number of k bits and a sign
 abbrev pub signed_of : ℕ → List ℕ → Option ℤ

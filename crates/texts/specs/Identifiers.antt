@@ -27,8 +27,8 @@ id_of letter n = letter ∷ base62 11 n
 -- the number that digits write behind one that was read, below 2 ^ 64
 abbrev pub after : ℕ → List ℕ → Option ℕ
 after n [] = Some n
-after n (c ∷ cs) = if nat_lt (worth c) 62 && nat_lt (n * 62 + worth c) (2 ^ 64) then after
-    (n * 62 + worth c) cs else None
+after n (c ∷ cs) =
+    if nat_lt (worth c) 62 && nat_lt (n * 62 + worth c) (2 ^ 64) then after (n * 62 + worth c) cs else None
 
 -- the number of an identifier under a letter
 abbrev pub number_of : ℕ → List ℕ → Option ℕ
