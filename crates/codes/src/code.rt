@@ -29,3 +29,14 @@ pub trait Code {
     // no two values have one byte
     ghost one: { (x y : Self) → coded x ≡ coded y → x ≡ y };
 }
+
+/// The value of an enum that a byte stands for, of those that are named: each by the number that the enum gives it.
+#[macro_export]
+macro_rules! value_of {
+    ($byte:expr, $name:ident::{ $($value:ident),+ $(,)? }) => {
+        match $byte {
+            $(b if b == $name::$value as u8 => Some($name::$value),)+
+            _ => None,
+        }
+    };
+}

@@ -5,6 +5,7 @@ ghost use Rattle.std.proofs.Common.{arith};
 ghost use Rattle.codes.specs.declared.lists.Codes.TheVariants as lists;
 
 use crate::code::Code;
+use crate::value_of;
 use std::fmt;
 
 /// Side of an order.
@@ -26,11 +27,7 @@ impl Code for Side {
     ghost one = { λ x y h. Prim.grind arith };
 
     fn of(byte: u8) -> Option<Side> {
-        match byte {
-            1 => Some(Side::Buy),
-            2 => Some(Side::Sell),
-            _ => None,
-        }
+        value_of!(byte, Side::{Buy, Sell})
     }
 
     fn byte(&self) -> u8 {
@@ -77,11 +74,7 @@ impl Code for OrderType {
     ghost one = { λ x y h. Prim.grind arith };
 
     fn of(byte: u8) -> Option<OrderType> {
-        match byte {
-            1 => Some(OrderType::Market),
-            2 => Some(OrderType::Limit),
-            _ => None,
-        }
+        value_of!(byte, OrderType::{Market, Limit})
     }
 
     fn byte(&self) -> u8 {
@@ -112,15 +105,9 @@ impl Code for TimeInForce {
     ghost one = { λ x y h. Prim.grind arith };
 
     fn of(byte: u8) -> Option<TimeInForce> {
-        match byte {
-            0 => Some(TimeInForce::Day),
-            1 => Some(TimeInForce::GoodTillCancel),
-            3 => Some(TimeInForce::ImmediateOrCancel),
-            4 => Some(TimeInForce::FillOrKill),
-            6 => Some(TimeInForce::GoodTillDate),
-            8 => Some(TimeInForce::GoodTillTime),
-            _ => None,
-        }
+        value_of!(byte, TimeInForce::{
+            Day, GoodTillCancel, ImmediateOrCancel, FillOrKill, GoodTillDate, GoodTillTime,
+        })
     }
 
     fn byte(&self) -> u8 {
@@ -147,11 +134,7 @@ impl Code for ClearingAccount {
     ghost one = { λ x y h. Prim.grind arith };
 
     fn of(byte: u8) -> Option<ClearingAccount> {
-        match byte {
-            1 => Some(ClearingAccount::Client),
-            3 => Some(ClearingAccount::House),
-            _ => None,
-        }
+        value_of!(byte, ClearingAccount::{Client, House})
     }
 
     fn byte(&self) -> u8 {
@@ -180,13 +163,7 @@ impl Code for OrderCapacity {
     ghost one = { λ x y h. Prim.grind arith };
 
     fn of(byte: u8) -> Option<OrderCapacity> {
-        match byte {
-            1 => Some(OrderCapacity::RisklessPrincipal),
-            2 => Some(OrderCapacity::Principal),
-            3 => Some(OrderCapacity::Agency),
-            4 => Some(OrderCapacity::CfdGiveUp),
-            _ => None,
-        }
+        value_of!(byte, OrderCapacity::{RisklessPrincipal, Principal, Agency, CfdGiveUp})
     }
 
     fn byte(&self) -> u8 {
@@ -213,11 +190,7 @@ impl Code for AutoCancel {
     ghost one = { λ x y h. Prim.grind arith };
 
     fn of(byte: u8) -> Option<AutoCancel> {
-        match byte {
-            0 => Some(AutoCancel::Keep),
-            1 => Some(AutoCancel::AsConfigured),
-            _ => None,
-        }
+        value_of!(byte, AutoCancel::{Keep, AsConfigured})
     }
 
     fn byte(&self) -> u8 {
@@ -243,10 +216,7 @@ impl Code for OrderSubType {
     ghost one = { λ x y h. Prim.grind arith };
 
     fn of(byte: u8) -> Option<OrderSubType> {
-        match byte {
-            0 => Some(OrderSubType::Order),
-            _ => None,
-        }
+        value_of!(byte, OrderSubType::{Order})
     }
 
     fn byte(&self) -> u8 {
@@ -273,11 +243,7 @@ impl Code for Book {
     ghost one = { λ x y h. Prim.grind arith };
 
     fn of(byte: u8) -> Option<Book> {
-        match byte {
-            0 => Some(Book::DarkMidpoint),
-            1 => Some(Book::Integrated),
-            _ => None,
-        }
+        value_of!(byte, Book::{DarkMidpoint, Integrated})
     }
 
     fn byte(&self) -> u8 {
@@ -305,12 +271,7 @@ impl Code for ExecInstruction {
     ghost one = { λ x y h. Prim.grind arith };
 
     fn of(byte: u8) -> Option<ExecInstruction> {
-        match byte {
-            0 => Some(ExecInstruction::ContinuousAndPeriodic),
-            1 => Some(ExecInstruction::PeriodicOnly),
-            2 => Some(ExecInstruction::ContinuousOnly),
-            _ => None,
-        }
+        value_of!(byte, ExecInstruction::{ContinuousAndPeriodic, PeriodicOnly, ContinuousOnly})
     }
 
     fn byte(&self) -> u8 {
@@ -341,15 +302,9 @@ impl Code for PassiveOnly {
     ghost one = { λ x y h. Prim.grind arith };
 
     fn of(byte: u8) -> Option<PassiveOnly> {
-        match byte {
-            0 => Some(PassiveOnly::NoConstraint),
-            1 => Some(PassiveOnly::SetOrJoinBest),
-            2 => Some(PassiveOnly::WithinOnePoint),
-            3 => Some(PassiveOnly::WithinTwoPoints),
-            99 => Some(PassiveOnly::RestOnEntry),
-            100 => Some(PassiveOnly::SetBest),
-            _ => None,
-        }
+        value_of!(byte, PassiveOnly::{
+            NoConstraint, SetOrJoinBest, WithinOnePoint, WithinTwoPoints, RestOnEntry, SetBest,
+        })
     }
 
     fn byte(&self) -> u8 {
@@ -380,15 +335,9 @@ impl Code for MassCancelType {
     ghost one = { λ x y h. Prim.grind arith };
 
     fn of(byte: u8) -> Option<MassCancelType> {
-        match byte {
-            3 => Some(MassCancelType::FirmInstrument),
-            4 => Some(MassCancelType::FirmSegment),
-            7 => Some(MassCancelType::CompId),
-            8 => Some(MassCancelType::Firm),
-            9 => Some(MassCancelType::CompIdInstrument),
-            15 => Some(MassCancelType::CompIdSegment),
-            _ => None,
-        }
+        value_of!(byte, MassCancelType::{
+            FirmInstrument, FirmSegment, CompId, Firm, CompIdInstrument, CompIdSegment,
+        })
     }
 
     fn byte(&self) -> u8 {

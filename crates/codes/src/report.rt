@@ -3,19 +3,20 @@ ghost use Rattle.std.proofs.Common.{arith};
 ghost use Rattle.codes.specs.declared.lists.Codes.TheVariants as lists;
 
 use crate::code::Code;
+use crate::value_of;
 
 /// Why an Execution Report is sent.
 #[derive(Clone, Copy, Debug, PartialEq, Eq)]
 pub enum ExecType {
     Unspecified = 0,
-    New = 48,
-    Cancelled = 52,
-    Replaced = 53,
-    Rejected = 56,
-    Expired = 67,
-    Restated = 68,
-    Trade = 70,
-    TradeCancel = 72,
+    New = b'0' as isize,
+    Cancelled = b'4' as isize,
+    Replaced = b'5' as isize,
+    Rejected = b'8' as isize,
+    Expired = b'C' as isize,
+    Restated = b'D' as isize,
+    Trade = b'F' as isize,
+    TradeCancel = b'H' as isize,
 }
 
 impl Code for ExecType {
@@ -30,18 +31,9 @@ impl Code for ExecType {
     ghost one = { λ x y h. Prim.grind arith };
 
     fn of(byte: u8) -> Option<ExecType> {
-        match byte {
-            0 => Some(ExecType::Unspecified),
-            b'0' => Some(ExecType::New),
-            b'4' => Some(ExecType::Cancelled),
-            b'5' => Some(ExecType::Replaced),
-            b'8' => Some(ExecType::Rejected),
-            b'C' => Some(ExecType::Expired),
-            b'D' => Some(ExecType::Restated),
-            b'F' => Some(ExecType::Trade),
-            b'H' => Some(ExecType::TradeCancel),
-            _ => None,
-        }
+        value_of!(byte, ExecType::{
+            Unspecified, New, Cancelled, Replaced, Rejected, Expired, Restated, Trade, TradeCancel,
+        })
     }
 
     fn byte(&self) -> u8 {
@@ -72,15 +64,7 @@ impl Code for Status {
     ghost one = { λ x y h. Prim.grind arith };
 
     fn of(byte: u8) -> Option<Status> {
-        match byte {
-            0 => Some(Status::New),
-            1 => Some(Status::PartiallyFilled),
-            2 => Some(Status::Filled),
-            4 => Some(Status::Cancelled),
-            6 => Some(Status::Expired),
-            8 => Some(Status::Rejected),
-            _ => None,
-        }
+        value_of!(byte, Status::{New, PartiallyFilled, Filled, Cancelled, Expired, Rejected})
     }
 
     fn byte(&self) -> u8 {
@@ -92,9 +76,9 @@ impl Code for Status {
 #[derive(Clone, Copy, Debug, PartialEq, Eq)]
 pub enum Liquidity {
     Unspecified = 0,
-    Added = 65,
-    Uncrossing = 67,
-    Removed = 82,
+    Added = b'A' as isize,
+    Uncrossing = b'C' as isize,
+    Removed = b'R' as isize,
 }
 
 impl Code for Liquidity {
@@ -109,13 +93,7 @@ impl Code for Liquidity {
     ghost one = { λ x y h. Prim.grind arith };
 
     fn of(byte: u8) -> Option<Liquidity> {
-        match byte {
-            0 => Some(Liquidity::Unspecified),
-            b'A' => Some(Liquidity::Added),
-            b'C' => Some(Liquidity::Uncrossing),
-            b'R' => Some(Liquidity::Removed),
-            _ => None,
-        }
+        value_of!(byte, Liquidity::{Unspecified, Added, Uncrossing, Removed})
     }
 
     fn byte(&self) -> u8 {
@@ -142,11 +120,7 @@ impl Code for TradeType {
     ghost one = { λ x y h. Prim.grind arith };
 
     fn of(byte: u8) -> Option<TradeType> {
-        match byte {
-            0 => Some(TradeType::Visible),
-            1 => Some(TradeType::Hidden),
-            _ => None,
-        }
+        value_of!(byte, TradeType::{Visible, Hidden})
     }
 
     fn byte(&self) -> u8 {
@@ -174,12 +148,7 @@ impl Code for Capacity {
     ghost one = { λ x y h. Prim.grind arith };
 
     fn of(byte: u8) -> Option<Capacity> {
-        match byte {
-            1 => Some(Capacity::RisklessPrincipal),
-            2 => Some(Capacity::Principal),
-            3 => Some(Capacity::Agency),
-            _ => None,
-        }
+        value_of!(byte, Capacity::{RisklessPrincipal, Principal, Agency})
     }
 
     fn byte(&self) -> u8 {
@@ -191,18 +160,18 @@ impl Code for Capacity {
 #[derive(Clone, Copy, Debug, PartialEq, Eq)]
 pub enum PriceDifferential {
     Unspecified = 0,
-    JoinBest = 49,
-    Second = 50,
-    Third = 51,
-    Fourth = 52,
-    Fifth = 53,
-    Sixth = 54,
-    Seventh = 55,
-    Eighth = 56,
-    NinthOrWorse = 57,
-    Aggressive = 65,
-    NewBest = 66,
-    Passive = 80,
+    JoinBest = b'1' as isize,
+    Second = b'2' as isize,
+    Third = b'3' as isize,
+    Fourth = b'4' as isize,
+    Fifth = b'5' as isize,
+    Sixth = b'6' as isize,
+    Seventh = b'7' as isize,
+    Eighth = b'8' as isize,
+    NinthOrWorse = b'9' as isize,
+    Aggressive = b'A' as isize,
+    NewBest = b'B' as isize,
+    Passive = b'P' as isize,
 }
 
 impl Code for PriceDifferential {
@@ -217,22 +186,10 @@ impl Code for PriceDifferential {
     ghost one = { λ x y h. Prim.grind arith };
 
     fn of(byte: u8) -> Option<PriceDifferential> {
-        match byte {
-            0 => Some(PriceDifferential::Unspecified),
-            b'1' => Some(PriceDifferential::JoinBest),
-            b'2' => Some(PriceDifferential::Second),
-            b'3' => Some(PriceDifferential::Third),
-            b'4' => Some(PriceDifferential::Fourth),
-            b'5' => Some(PriceDifferential::Fifth),
-            b'6' => Some(PriceDifferential::Sixth),
-            b'7' => Some(PriceDifferential::Seventh),
-            b'8' => Some(PriceDifferential::Eighth),
-            b'9' => Some(PriceDifferential::NinthOrWorse),
-            b'A' => Some(PriceDifferential::Aggressive),
-            b'B' => Some(PriceDifferential::NewBest),
-            b'P' => Some(PriceDifferential::Passive),
-            _ => None,
-        }
+        value_of!(byte, PriceDifferential::{
+            Unspecified, JoinBest, Second, Third, Fourth, Fifth, Sixth, Seventh, Eighth,
+            NinthOrWorse, Aggressive, NewBest, Passive,
+        })
     }
 
     fn byte(&self) -> u8 {
@@ -259,11 +216,7 @@ impl Code for MassResponse {
     ghost one = { λ x y h. Prim.grind arith };
 
     fn of(byte: u8) -> Option<MassResponse> {
-        match byte {
-            0 => Some(MassResponse::Rejected),
-            7 => Some(MassResponse::Accepted),
-            _ => None,
-        }
+        value_of!(byte, MassResponse::{Rejected, Accepted})
     }
 
     fn byte(&self) -> u8 {

@@ -3,6 +3,7 @@ ghost use Rattle.std.proofs.Common.{arith};
 ghost use Rattle.codes.specs.declared.lists.Codes.TheVariants as lists;
 
 use crate::code::Code;
+use crate::value_of;
 
 /// The one version of the messages.
 #[derive(Clone, Copy, Debug, PartialEq, Eq)]
@@ -22,10 +23,7 @@ impl Code for Version {
     ghost one = { λ x y h. Prim.grind arith };
 
     fn of(byte: u8) -> Option<Version> {
-        match byte {
-            1 => Some(Version::One),
-            _ => None,
-        }
+        value_of!(byte, Version::{One})
     }
 
     fn byte(&self) -> u8 {
@@ -53,12 +51,7 @@ impl Code for Partition {
     ghost one = { λ x y h. Prim.grind arith };
 
     fn of(byte: u8) -> Option<Partition> {
-        match byte {
-            1 => Some(Partition::One),
-            2 => Some(Partition::Two),
-            3 => Some(Partition::Three),
-            _ => None,
-        }
+        value_of!(byte, Partition::{One, Two, Three})
     }
 
     fn byte(&self) -> u8 {
@@ -87,13 +80,7 @@ impl Code for AckResponse {
     ghost one = { λ x y h. Prim.grind arith };
 
     fn of(byte: u8) -> Option<AckResponse> {
-        match byte {
-            0 => Some(AckResponse::Successful),
-            1 => Some(AckResponse::LimitReached),
-            2 => Some(AckResponse::InvalidAppId),
-            3 => Some(AckResponse::ServiceUnavailable),
-            _ => None,
-        }
+        value_of!(byte, AckResponse::{Successful, LimitReached, InvalidAppId, ServiceUnavailable})
     }
 
     fn byte(&self) -> u8 {
@@ -121,12 +108,7 @@ impl Code for ReportResponse {
     ghost one = { λ x y h. Prim.grind arith };
 
     fn of(byte: u8) -> Option<ReportResponse> {
-        match byte {
-            0 => Some(ReportResponse::Complete),
-            1 => Some(ReportResponse::MessageLimit),
-            3 => Some(ReportResponse::ServiceUnavailable),
-            _ => None,
-        }
+        value_of!(byte, ReportResponse::{Complete, MessageLimit, ServiceUnavailable})
     }
 
     fn byte(&self) -> u8 {
