@@ -2,6 +2,7 @@
 ghost use Rattle.std.specs.Prelude.{◌≡◌};
 ghost use Rattle.inspector.specs.Labels.{title_of, names_of, spelt};
 
+use wire::each_message;
 use wire::kinds::Kind;
 
 // The names of a message's fields, in the order of its layout. A reserved field has none.
@@ -138,26 +139,18 @@ pub(crate) const ORDER_MASS_CANCEL_REPORT: [&str; 8] = [
     "",
 ];
 
+macro_rules! title_of {
+    ($kind:expr; $($name:ident,)*) => {
+        match $kind {
+            $(Kind::$name => stringify!($name),)*
+        }
+    };
+}
+
 pub(crate) fn title(kind: Kind) -> &'static str
     ensures { result.now ≡ title_of kind }
 {
-    match kind {
-        Kind::Logon => "Logon",
-        Kind::LogonReply => "LogonReply",
-        Kind::Logout => "Logout",
-        Kind::Heartbeat => "Heartbeat",
-        Kind::MissedMessageRequest => "MissedMessageRequest",
-        Kind::MissedMessageRequestAck => "MissedMessageRequestAck",
-        Kind::MissedMessageReport => "MissedMessageReport",
-        Kind::Reject => "Reject",
-        Kind::NewOrder => "NewOrder",
-        Kind::OrderCancelRequest => "OrderCancelRequest",
-        Kind::OrderCancelReplaceRequest => "OrderCancelReplaceRequest",
-        Kind::OrderMassCancelRequest => "OrderMassCancelRequest",
-        Kind::ExecutionReport => "ExecutionReport",
-        Kind::OrderCancelReject => "OrderCancelReject",
-        Kind::OrderMassCancelReport => "OrderMassCancelReport",
-    }
+    each_message!(title_of, kind)
 }
 
 pub(crate) fn names(kind: Kind) -> &'static [&'static str]

@@ -81,6 +81,40 @@ pub const FOLLOWER: [Kind; 9] = [
     Kind::Logout,
 ];
 
+/// Calls the macro `$arms` with what is given behind its name and then every message's name: so a match over the kinds,
+/// or over the messages, has one arm for all.
+#[macro_export]
+macro_rules! each_message {
+    ($arms:ident, $($given:expr),+) => {
+        $arms!(
+            $($given),+;
+            Logon,
+            LogonReply,
+            Logout,
+            Heartbeat,
+            MissedMessageRequest,
+            MissedMessageRequestAck,
+            MissedMessageReport,
+            Reject,
+            NewOrder,
+            OrderCancelRequest,
+            OrderCancelReplaceRequest,
+            OrderMassCancelRequest,
+            ExecutionReport,
+            OrderCancelReject,
+            OrderMassCancelReport,
+        )
+    };
+}
+
+macro_rules! shape_of {
+    ($kind:expr; $($name:ident,)*) => {
+        match $kind {
+            $(Kind::$name => $name::shape(),)*
+        }
+    };
+}
+
 impl Kind {
     // How its messages are laid out.
     fn shape(self) -> Shape
@@ -88,23 +122,7 @@ impl Kind {
         ensures total { result.total ≡ total_of self }
         ensures table { result.table.now ≡ table_of self }
     {
-        match self {
-            Kind::Logon => Logon::shape(),
-            Kind::LogonReply => LogonReply::shape(),
-            Kind::Logout => Logout::shape(),
-            Kind::Heartbeat => Heartbeat::shape(),
-            Kind::MissedMessageRequest => MissedMessageRequest::shape(),
-            Kind::MissedMessageRequestAck => MissedMessageRequestAck::shape(),
-            Kind::MissedMessageReport => MissedMessageReport::shape(),
-            Kind::Reject => Reject::shape(),
-            Kind::NewOrder => NewOrder::shape(),
-            Kind::OrderCancelRequest => OrderCancelRequest::shape(),
-            Kind::OrderCancelReplaceRequest => OrderCancelReplaceRequest::shape(),
-            Kind::OrderMassCancelRequest => OrderMassCancelRequest::shape(),
-            Kind::ExecutionReport => ExecutionReport::shape(),
-            Kind::OrderCancelReject => OrderCancelReject::shape(),
-            Kind::OrderMassCancelReport => OrderMassCancelReport::shape(),
-        }
+        each_message!(shape_of, self)
     }
 
     /// The byte that names the kind.

@@ -4,6 +4,7 @@ ghost use Rattle.limits.specs.declared.TheConstants.{MESSAGE_BYTES};
 ghost use Rattle.wire.specs.Kinds.{total_of};
 ghost use Rattle.wire.specs.Messages.{opening, kind_of, written, Holdable, GivenBack, Apart, Again, WasRead, Wrote};
 
+use crate::each_message;
 use crate::kinds::{Channel, Kind};
 use layout::fault::Fault;
 use layout::framed;
@@ -48,6 +49,30 @@ pub enum Message<'a> {
     OrderMassCancelReport(OrderMassCancelReport<'a>),
 }
 
+macro_rules! kind_of {
+    ($message:expr; $($name:ident,)*) => {
+        match $message {
+            $(Message::$name(_) => Kind::$name,)*
+        }
+    };
+}
+
+macro_rules! read_as {
+    ($kind:expr, $r:expr; $($name:ident,)*) => {
+        match $kind {
+            $(Kind::$name => Ok(Message::$name(framed::read($r)?)),)*
+        }
+    };
+}
+
+macro_rules! write_of {
+    ($message:expr, $out:expr; $($name:ident,)*) => {
+        match $message {
+            $(Message::$name(m) => framed::write(m, $out),)*
+        }
+    };
+}
+
 /// A buffer that is too short for a message, which needs this many bytes.
 #[derive(Clone, Copy, Debug, PartialEq)]
 pub struct TooShort {
@@ -59,23 +84,7 @@ impl Message<'_> {
     pub fn kind(&self) -> Kind
         ensures { result ≡ kind_of self.now }
     {
-        match self {
-            Message::Logon(_) => Kind::Logon,
-            Message::LogonReply(_) => Kind::LogonReply,
-            Message::Logout(_) => Kind::Logout,
-            Message::Heartbeat(_) => Kind::Heartbeat,
-            Message::MissedMessageRequest(_) => Kind::MissedMessageRequest,
-            Message::MissedMessageRequestAck(_) => Kind::MissedMessageRequestAck,
-            Message::MissedMessageReport(_) => Kind::MissedMessageReport,
-            Message::Reject(_) => Kind::Reject,
-            Message::NewOrder(_) => Kind::NewOrder,
-            Message::OrderCancelRequest(_) => Kind::OrderCancelRequest,
-            Message::OrderCancelReplaceRequest(_) => Kind::OrderCancelReplaceRequest,
-            Message::OrderMassCancelRequest(_) => Kind::OrderMassCancelRequest,
-            Message::ExecutionReport(_) => Kind::ExecutionReport,
-            Message::OrderCancelReject(_) => Kind::OrderCancelReject,
-            Message::OrderMassCancelReport(_) => Kind::OrderMassCancelReport,
-        }
+        each_message!(kind_of, self)
     }
 }
 
@@ -107,25 +116,7 @@ fn read_kind<'a>(channel: Channel, bytes: &'a [u8]) -> Result<Message<'a>, Fault
     ensures { WasRead channel bytes.now result }
 {
     let r = Reader { src: bytes };
-    match open(channel, &r)? {
-        Kind::Logon => Ok(Message::Logon(framed::read(&r)?)),
-        Kind::LogonReply => Ok(Message::LogonReply(framed::read(&r)?)),
-        Kind::Logout => Ok(Message::Logout(framed::read(&r)?)),
-        Kind::Heartbeat => Ok(Message::Heartbeat(framed::read(&r)?)),
-        Kind::MissedMessageRequest => Ok(Message::MissedMessageRequest(framed::read(&r)?)),
-        Kind::MissedMessageRequestAck => Ok(Message::MissedMessageRequestAck(framed::read(&r)?)),
-        Kind::MissedMessageReport => Ok(Message::MissedMessageReport(framed::read(&r)?)),
-        Kind::Reject => Ok(Message::Reject(framed::read(&r)?)),
-        Kind::NewOrder => Ok(Message::NewOrder(framed::read(&r)?)),
-        Kind::OrderCancelRequest => Ok(Message::OrderCancelRequest(framed::read(&r)?)),
-        Kind::OrderCancelReplaceRequest => Ok(Message::OrderCancelReplaceRequest(framed::read(
-            &r,
-        )?)),
-        Kind::OrderMassCancelRequest => Ok(Message::OrderMassCancelRequest(framed::read(&r)?)),
-        Kind::ExecutionReport => Ok(Message::ExecutionReport(framed::read(&r)?)),
-        Kind::OrderCancelReject => Ok(Message::OrderCancelReject(framed::read(&r)?)),
-        Kind::OrderMassCancelReport => Ok(Message::OrderMassCancelReport(framed::read(&r)?)),
-    }
+    each_message!(read_as, open(channel, &r)?, &r)
 }
 
 /// Reads one message, or says which check is the first to fail, and where.
@@ -143,23 +134,7 @@ fn write_kind(message: &Message<'_>, out: &mut [u8])
     ensures wrote { out.new ≡ written message.now ++ drop (total_of (kind_of message.now)) out.old }
     ensures holds { Holdable message.now }
 {
-    match message {
-        Message::Logon(m) => framed::write(m, out),
-        Message::LogonReply(m) => framed::write(m, out),
-        Message::Logout(m) => framed::write(m, out),
-        Message::Heartbeat(m) => framed::write(m, out),
-        Message::MissedMessageRequest(m) => framed::write(m, out),
-        Message::MissedMessageRequestAck(m) => framed::write(m, out),
-        Message::MissedMessageReport(m) => framed::write(m, out),
-        Message::Reject(m) => framed::write(m, out),
-        Message::NewOrder(m) => framed::write(m, out),
-        Message::OrderCancelRequest(m) => framed::write(m, out),
-        Message::OrderCancelReplaceRequest(m) => framed::write(m, out),
-        Message::OrderMassCancelRequest(m) => framed::write(m, out),
-        Message::ExecutionReport(m) => framed::write(m, out),
-        Message::OrderCancelReject(m) => framed::write(m, out),
-        Message::OrderMassCancelReport(m) => framed::write(m, out),
-    }
+    each_message!(write_of, message, out)
 }
 
 /// Writes a message in its one form to the front of a buffer, and says how many bytes it has; those past it stay.
