@@ -2,7 +2,7 @@
 use Rattle.std.specs.Prelude.{ℕ, ◌+◌, ◌/◌, ◌%◌, if◌then◌else◌, List, [], ◌∷◌, ◌++◌, codes, decimal, nat_lt}
 use Rattle.std.specs.Fmt.{signed_decimal}
 use Rattle.std.specs.List.{flat_map}
-use Rattle.matching.specs.Texts.{party_text}
+use Rattle.texts.specs.Parties.{party_text}
 use Rattle.bench_account.specs.declared.answer.Answer.{Answer}
 use Rattle.bench_account.specs.declared.answer.Answer.TheVariants as answer
 use Rattle.bench_account.specs.declared.answer.Payload.{Payload}

@@ -2,8 +2,8 @@
 ghost use Rattle.std.specs.Prelude.{◌≡◌, ◌<◌, Some};
 ghost use Rattle.bench_account.specs.Answers.{answer_text, glyph, hex_text, payload_text, trade_text};
 
-use matching::event::Party;
 use std::fmt;
+use texts::party::Party;
 use texts::values::Price;
 
 fn digit(d: u8) -> char

@@ -1,7 +1,8 @@
 -- How the refusals and the events of an engine are written. Assumes nothing.
-use Rattle.std.specs.Prelude.{ℕ, List, ◌++◌, Some, None, codes, decimal, Option}
+use Rattle.std.specs.Prelude.{ℕ, List, ◌++◌, codes, decimal}
 use Rattle.std.specs.Fmt.{signed_decimal}
 use Rattle.texts.specs.declared.values.Price.{Price}
+use Rattle.texts.specs.Parties.{party_text}
 use Rattle.matching.specs.declared.event.Event.{Event}
 use Rattle.matching.specs.declared.event.Event.TheVariants.{Nothing, Expired, Trade}
 use Rattle.matching.specs.declared.matcher.Refusal.{Refusal}
@@ -12,11 +13,6 @@ refusal_text NoQuantity = codes "no quantity"
 refusal_text NumberOpen = codes "number open"
 refusal_text Full = codes "full"
 refusal_text NotOpen = codes "not open"
-
--- an order's number, or a dash
-abbrev pub party_text : Option ℕ → List ℕ
-party_text (Some n) = decimal n
-party_text None = codes "-"
 
 abbrev pub trade_text : List ℕ → List ℕ → ℕ → Price → List ℕ
 trade_text maker taker q price =

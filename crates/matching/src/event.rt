@@ -1,8 +1,9 @@
 // What a matching engine answers when it is asked for its next event.
 ghost use Rattle.std.specs.Prelude.{Some};
-ghost use Rattle.matching.specs.Texts.{event_text, party_text};
+ghost use Rattle.matching.specs.Texts.{event_text};
 
 use std::fmt;
+use texts::party::Party;
 use texts::values::Price;
 
 /// What happens next in an engine.
@@ -42,21 +43,6 @@ impl fmt::Display for Event {
                 let price = price.raw;
                 write!(f, "trade {quantity} at {price}: {taker} with {maker}")
             }
-        }
-    }
-}
-
-/// One side of a trade, by its order's number, as it is printed: a dash where it is not named.
-#[derive(Clone, Copy)]
-pub struct Party(pub Option<u64>);
-
-impl fmt::Display for Party {
-    ghost output = { λ party. Some (party_text party.0) };
-
-    fn fmt<W: fmt::Write>(&self, f: &mut fmt::Formatter<W>) -> fmt::Result {
-        match self.0 {
-            Some(number) => write!(f, "{number}"),
-            None => f.write_str("-"),
         }
     }
 }

@@ -1,4 +1,5 @@
 pub mod Bytes
 pub mod Identifiers
+pub mod Parties
 pub mod Says
 pub mod Texts

@@ -5,5 +5,6 @@ pub mod bytes;
 pub mod fixed;
 pub mod identifiers;
 pub mod names;
+pub mod party;
 pub mod text;
 pub mod values;
