@@ -21,16 +21,7 @@ with_answer a (answer.Sent p) = record a { sent = more a.sent }
 with_answer a (answer.Refused n) = with_refusal a n
 with_answer a (answer.RefusedAt n at) = with_refusal a n
 with_answer a (answer.Rejected n at p) = with_refusal (record a { answered = more a.answered }) n
-with_answer a answer.Started = a
-with_answer a answer.Nothing = a
-with_answer a (answer.Expired n) = a
-with_answer a (answer.Traded t) = a
-with_answer a answer.Cancelled = a
-with_answer a answer.Closed = a
-with_answer a answer.Up = a
-with_answer a answer.Lost = a
-with_answer a (answer.Request p) = a
-with_answer a (answer.Became w) = a
+with_answer a x = a
 
 -- one call more, and what it was answered
 abbrev pub counted : Account → Answer → Account

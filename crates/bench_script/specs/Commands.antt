@@ -277,7 +277,6 @@ command_of ws = if length ws.now == 0 then Err why.Name else of_verb (verb_of (t
 
 -- what calls the gateway or the follower
 abbrev pub is_call : Command → Bool
-is_call (command.Setup s) = false
 is_call (command.Call c) = true
 is_call (command.Desk d) = true
 is_call (command.Cable c) = true
@@ -285,8 +284,4 @@ is_call (command.Request line r) = true
 is_call command.Run = true
 is_call (command.Drain line) = true
 is_call (command.Download line) = true
-is_call command.Orders = false
-is_call command.Follower = false
-is_call (command.Show bytes) = false
-is_call (command.Clock t) = false
-is_call (command.Print s) = false
+is_call c = false

@@ -322,11 +322,7 @@ placed_added p t s h = by_effect (effect_of t.kind) (natural t.leaves) h
   where
     by_effect : (e : Effect) (l : Option ℕ) → added_as e p t.status l ≡ Some s → s.partition ≡ p
     by_effect Adds (Some l) q = let e : s ≡ stands p t.status 0 l = cc in ap (λ (x : Standing). x.partition) e
-    by_effect Adds None q = absurd (cc)
-    by_effect Fills l q = absurd (cc)
-    by_effect Undoes l q = absurd (cc)
-    by_effect Tells l q = absurd (cc)
-    by_effect Nothing l q = absurd (cc)
+    by_effect e l q = absurd (cc)
 
 placed_bounded : (p : Partition) (st : Status) (l : ℕ) (x : Option ℕ) (s : Standing) → bounded p st l x ≡ Some s
     → s.partition ≡ p

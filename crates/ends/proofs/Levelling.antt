@@ -65,11 +65,7 @@ level_after c s d y xs (done.Recovered m r) w e z p k allowed (a, b, q) complete
     ≡ false = subst (λ i. is_unfit (recovered_step f i).answer ≡ false) h goes.fits in
     ap (λ (i : Desk). state_of i p) q ∙ subst (λ i. (at (recovered_step f i).after.sides p).state ≡ Level) (sym h)
     (complete_level f p up run fits)
-level_after c s d y xs (done.Venue v) w e z p k allowed does complete up run = absurd complete
-level_after c s d y xs done.Up w e z p k allowed does complete up run = absurd complete
-level_after c s d y xs done.Lost w e z p k allowed does complete up run = absurd complete
-level_after c s d y xs (done.Live m r) w e z p k allowed does complete up run = absurd complete
-level_after c s d y xs (done.Ask n r) w e z p k allowed does complete up run = absurd complete
+level_after c s d y xs x w e z p k allowed does complete up run = absurd complete
 
 pub downloads_level : DownloadsLevel
 downloads_level c ps v xs s d x w e p runs (l, ok) does complete up run =

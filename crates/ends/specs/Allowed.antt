@@ -105,11 +105,7 @@ next_live (Some rest) l = Ok (record l { live = rest })
 
 abbrev pub given_live : Message → Result Heard Fault → Line → Result Line Breach
 given_live m (Ok (Report p h)) l = next_live (next_of m l.live) l
-given_live m (Ok (Ack r)) l = Ok l
-given_live m (Ok (End r)) l = Ok l
-given_live m (Ok Reject) l = Ok l
-given_live m (Ok Nothing) l = Ok l
-given_live m (Err e) l = Ok l
+given_live m h l = Ok l
 
 -- a hold that is full acts as a lost line
 abbrev pub or_lost : Bool → Result Line Breach → Result Line Breach

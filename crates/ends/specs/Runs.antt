@@ -60,10 +60,7 @@ abbrev pub Tells : State → Desk → Done → Type 0
 Tells s d (done.Venue v) = venue.Tells s v
 Tells s d (done.Ask n r) =
     IfOk (asking d.follower d.token n (length blank)) (λ p. ReadBack p (at d.follower.sides p).place)
-Tells s d done.Up = Unit {0}
-Tells s d (done.Live bs r) = Unit {0}
-Tells s d (done.Recovered bs r) = Unit {0}
-Tells s d done.Lost = Unit {0}
+Tells s d x = Unit {0}
 
 -- calls made in turn; after each both ends keep what they are to keep
 abbrev pub Runs : State → Desk → List Done → State → Desk → Type 0
@@ -76,8 +73,4 @@ Runs s d (x ∷ xs) w e =
 abbrev pub venue_log : List Done → List VenueDone
 venue_log [] = []
 venue_log (done.Venue v ∷ xs) = v ∷ venue_log xs
-venue_log (done.Up ∷ xs) = venue_log xs
-venue_log (done.Live bs r ∷ xs) = venue_log xs
-venue_log (done.Ask n r ∷ xs) = venue_log xs
-venue_log (done.Recovered bs r ∷ xs) = venue_log xs
-venue_log (done.Lost ∷ xs) = venue_log xs
+venue_log (x ∷ xs) = venue_log xs

@@ -19,7 +19,7 @@ use Rattle.codes.specs.declared.session.ReportResponse.{ReportResponse}
 use Rattle.codes.specs.declared.session.ReportResponse.TheVariants as ending
 use Rattle.terms.specs.Execution.{kind_of as exec_of}
 use Rattle.layout.specs.declared.fault.Fault.{Fault}
-use Rattle.layout.specs.Layout.{Content, fault_of, Says, value_of}
+use Rattle.layout.specs.Layout.{fault_of, Says, value_of}
 use Rattle.layout.specs.Layout.Content.{figure}
 use Rattle.layout.proofs.Values.{all_got, value_back}
 use Rattle.wire.specs.declared.kinds.Channel.TheVariants.{Follower}
@@ -64,16 +64,7 @@ contents_say (message.OrderCancelReject m) = let a = partition_back m.partition 
 contents_say (message.OrderMassCancelReport m) = let a = partition_back m.partition in cc
 contents_say (message.MissedMessageRequestAck m) = let a = ack_back m.response in cc
 contents_say (message.MissedMessageReport m) = let a = ending_back m.response in cc
-contents_say (message.Reject m) = refl
-contents_say (message.Logon m) = refl
-contents_say (message.LogonReply m) = refl
-contents_say (message.Logout m) = refl
-contents_say (message.Heartbeat m) = refl
-contents_say (message.MissedMessageRequest m) = refl
-contents_say (message.NewOrder m) = refl
-contents_say (message.OrderCancelRequest m) = refl
-contents_say (message.OrderCancelReplaceRequest m) = refl
-contents_say (message.OrderMassCancelRequest m) = refl
+contents_say m = refl
 
 no_fault : (bs : List ℕ) (k : Kind) → verdict Follower bs ≡ None → opening Follower bs ≡ Ok k
     → fault_of (table_of k) bs ≡ None

@@ -31,20 +31,7 @@ module _ (p : Partition) (n : ℕ) (m : MissedMessageRequest) (a : m.partition �
         ap (λ (x : MissedMessageRequest). x.partition) same ∙ a,
         ap (λ (x : MissedMessageRequest). x.last.value) same ∙ b,
       )
-  same_request (message.Logon r) e = absurd cc
-  same_request (message.LogonReply r) e = absurd cc
-  same_request (message.Logout r) e = absurd cc
-  same_request (message.Heartbeat r) e = absurd cc
-  same_request (message.MissedMessageRequestAck r) e = absurd cc
-  same_request (message.MissedMessageReport r) e = absurd cc
-  same_request (message.Reject r) e = absurd cc
-  same_request (message.NewOrder r) e = absurd cc
-  same_request (message.OrderCancelRequest r) e = absurd cc
-  same_request (message.OrderCancelReplaceRequest r) e = absurd cc
-  same_request (message.OrderMassCancelRequest r) e = absurd cc
-  same_request (message.ExecutionReport r) e = absurd cc
-  same_request (message.OrderCancelReject r) e = absurd cc
-  same_request (message.OrderMassCancelReport r) e = absurd cc
+  same_request r e = absurd cc
 
   pub read_back : GivenBack (message.MissedMessageRequest m) → ReadBack p n
   read_back back =

@@ -40,20 +40,7 @@ told_heard h = None
 
 told_in : (m : Message) → told_heard (heard_of m) ≡ option_and_then told_of (report_in m)
 told_in (message.ExecutionReport m) = refl
-told_in (message.OrderCancelReject m) = refl
-told_in (message.OrderMassCancelReport m) = refl
-told_in (message.MissedMessageRequestAck m) = refl
-told_in (message.MissedMessageReport m) = refl
-told_in (message.Reject m) = refl
-told_in (message.Logon m) = refl
-told_in (message.LogonReply m) = refl
-told_in (message.Logout m) = refl
-told_in (message.Heartbeat m) = refl
-told_in (message.MissedMessageRequest m) = refl
-told_in (message.NewOrder m) = refl
-told_in (message.OrderCancelRequest m) = refl
-told_in (message.OrderCancelReplaceRequest m) = refl
-told_in (message.OrderMassCancelRequest m) = refl
+told_in m = refl
 
 -- every report's message begins with its partition and its number
 abbrev told_by : Partition → ℕ → Report → Option Told

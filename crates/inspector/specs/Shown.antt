@@ -9,6 +9,7 @@ use Rattle.layout.specs.declared.field.Form.TheVariants as form
 use Rattle.layout.specs.declared.field.Field.{Field}
 use Rattle.layout.specs.Layout.{Content, form_of, got}
 use Rattle.wire.specs.declared.kinds.Kind.{Kind}
+use Rattle.wire.specs.Blanks.{reserved}
 use Rattle.wire.specs.Kinds.{table_of}
 use Rattle.inspector.specs.Labels.{title_of, names_of}
 use Rattle.layout.specs.Layout.Content.{words, order, figure, int8, int32, price, clock, nothing}
@@ -45,34 +46,9 @@ alpha_text b =
 
 -- whether a field's byte is a character and no number
 abbrev pub holds_alpha : Form → Bool
-holds_alpha (form.Text w) = false
-holds_alpha (form.Name w) = false
-holds_alpha form.Order = false
-holds_alpha form.UInt32 = false
-holds_alpha form.UInt64 = false
-holds_alpha form.Sequence = false
-holds_alpha form.Int8 = false
-holds_alpha form.Int32 = false
-holds_alpha form.Price = false
-holds_alpha form.Time = false
 holds_alpha (form.Code list) = alpha list
 holds_alpha form.Alpha = true
-holds_alpha (form.Reserved w) = false
-
-abbrev pub is_reserved : Form → Bool
-is_reserved (form.Text w) = false
-is_reserved (form.Name w) = false
-is_reserved form.Order = false
-is_reserved form.UInt32 = false
-is_reserved form.UInt64 = false
-is_reserved form.Sequence = false
-is_reserved form.Int8 = false
-is_reserved form.Int32 = false
-is_reserved form.Price = false
-is_reserved form.Time = false
-is_reserved (form.Code list) = false
-is_reserved form.Alpha = false
-is_reserved (form.Reserved w) = true
+holds_alpha f = false
 
 -- what a field of a form holds; a time is shown as the one number that its eight bytes write
 abbrev pub content_text : Form → Content → List ℕ
@@ -87,7 +63,7 @@ content_text f nothing = codes "ignored"
 
 -- a space, the name, = and what the field holds; nothing for a reserved field
 abbrev pub field_text : List ℕ → Form → Content → List ℕ
-field_text name f v = if is_reserved f then [] else 32 ∷ (name ++ (61 ∷ content_text f v))
+field_text name f v = if reserved f then [] else 32 ∷ (name ++ (61 ∷ content_text f v))
 
 -- one field after the other
 abbrev pub fields_text : List (List ℕ) → List Field → List Content → List ℕ

@@ -6,7 +6,7 @@ use Rattle.codes.specs.Lists.{listed}
 use Rattle.texts.proofs.Padding.{both_true, length-padded}
 use Rattle.texts.proofs.Digits.{length-id_of}
 use Rattle.layout.specs.declared.field.Form.{Form}
-use Rattle.layout.specs.declared.field.Form.TheVariants.{Text, Name, Order, UInt32, UInt64, Sequence, Int8, Int32, Price, Time, Code, Alpha, Reserved}
+use Rattle.layout.specs.declared.field.Form.TheVariants.{Text, Name, Order, Reserved}
 use Rattle.layout.specs.declared.field.Field.{Field}
 use Rattle.layout.specs.declared.field.Field.TheVariants.{Always, When}
 use Rattle.layout.specs.Layout.{Content, place, width, wide, form_of, taken, words_of, order_of, absent}
@@ -30,16 +30,8 @@ form_wide : (f : Form) (v : Content) → HoldsForm f v → length (bytes_of f v)
 form_wide (Text w) v h = length-padded w (words_of v) h.1
 form_wide (Name w) v h = length-padded w (words_of v) h.1
 form_wide Order v h = order_wide (order_of v)
-form_wide UInt32 v h = refl
-form_wide UInt64 v h = refl
-form_wide Sequence v h = refl
-form_wide Int8 v h = refl
-form_wide Int32 v h = refl
-form_wide Price v h = refl
-form_wide Time v h = refl
-form_wide (Code cs) v h = refl
-form_wide Alpha v h = refl
 form_wide (Reserved w) v h = length-replicate {A = ℕ} w 0
+form_wide f v h = refl
 
 wide_by : (b : Bool) (f : Field) (v : Content) → (b ≡ false → HoldsForm (form_of f) v) → absent v ≡ b
     → length (cond b (replicate (width f) 0) (bytes_of (form_of f) v)) ≡ width f

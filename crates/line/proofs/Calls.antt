@@ -119,22 +119,7 @@ outcome_moves ch line (message.MissedMessageRequest m) t s =
     where_on _ _ (on ch (session s line)) _ _ s (missed_here (By (message.MissedMessageRequest m)) ch line m s) refl
 outcome_moves ch line (message.Logout m) t s =
     where_on _ _ (on ch (session s line)) _ _ s (logout_moves (By (message.Logout m)) ch line t s (λ n e i. tt)) refl
-outcome_moves ch line (message.LogonReply m) t s =
-    where_on (By (message.LogonReply m)) s.venue.rows (on ch (session s line)) (Answered _ s) _ s refl refl
-outcome_moves ch line (message.Heartbeat m) t s =
-    where_on (By (message.Heartbeat m)) s.venue.rows (on ch (session s line)) (Answered _ s) _ s refl refl
-outcome_moves ch line (message.MissedMessageRequestAck m) t s =
-    where_on (By (message.MissedMessageRequestAck m)) s.venue.rows (on ch (session s line)) (Answered _ s) _ s refl refl
-outcome_moves ch line (message.MissedMessageReport m) t s =
-    where_on (By (message.MissedMessageReport m)) s.venue.rows (on ch (session s line)) (Answered _ s) _ s refl refl
-outcome_moves ch line (message.Reject m) t s =
-    where_on (By (message.Reject m)) s.venue.rows (on ch (session s line)) (Answered _ s) _ s refl refl
-outcome_moves ch line (message.ExecutionReport m) t s =
-    where_on (By (message.ExecutionReport m)) s.venue.rows (on ch (session s line)) (Answered _ s) _ s refl refl
-outcome_moves ch line (message.OrderCancelReject m) t s =
-    where_on (By (message.OrderCancelReject m)) s.venue.rows (on ch (session s line)) (Answered _ s) _ s refl refl
-outcome_moves ch line (message.OrderMassCancelReport m) t s =
-    where_on (By (message.OrderMassCancelReport m)) s.venue.rows (on ch (session s line)) (Answered _ s) _ s refl refl
+outcome_moves ch line m t s = where_on (By m) s.venue.rows (on ch (session s line)) (Answered _ s) _ s refl refl
 
 -- what a message of these bytes may make of an order
 abbrev Told : Channel → List ℕ → Move → Type 0

@@ -211,14 +211,7 @@ module _ (line : ℕ) (P : List ℕ → SessionState → Type 0) (ch : Channel) 
         where_on (message.MissedMessageRequest m) (on ch (session s line)) _ refl (λ e. h.asks m reads e)
     outcome_makes (message.Logout m) t reads = where_on (message.Logout m) (on ch (session s line)) _ refl
         (λ e. h.closes t)
-    outcome_makes (message.LogonReply m) t reads = silence (message.LogonReply m)
-    outcome_makes (message.Heartbeat m) t reads = silence (message.Heartbeat m)
-    outcome_makes (message.MissedMessageRequestAck m) t reads = silence (message.MissedMessageRequestAck m)
-    outcome_makes (message.MissedMessageReport m) t reads = silence (message.MissedMessageReport m)
-    outcome_makes (message.Reject m) t reads = silence (message.Reject m)
-    outcome_makes (message.ExecutionReport m) t reads = silence (message.ExecutionReport m)
-    outcome_makes (message.OrderCancelReject m) t reads = silence (message.OrderCancelReject m)
-    outcome_makes (message.OrderMassCancelReport m) t reads = silence (message.OrderMassCancelReport m)
+    outcome_makes m t reads = silence m
 
   -- a call that takes a message
   module _ (t : Time) (buffer : List ℕ) (r : Result ℕ GatewayFault) (w : State) (out : List ℕ)

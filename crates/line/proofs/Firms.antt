@@ -433,14 +433,7 @@ module _ (s : State) (line : ℕ) (sound : Sound s.venue) where
       (asked_own (message.OrderMassCancelRequest m) _ (scope_own m.scope m t))
   outcome_own ch (message.MissedMessageRequest m) t = where_on (on ch (session s line)) _ _ (missed_here ch m)
   outcome_own ch (message.Logout m) t = where_on (on ch (session s line)) _ _ (logout_own ch t)
-  outcome_own ch (message.LogonReply m) t = silence (on ch (session s line)) _ _
-  outcome_own ch (message.Heartbeat m) t = silence (on ch (session s line)) _ _
-  outcome_own ch (message.MissedMessageRequestAck m) t = silence (on ch (session s line)) _ _
-  outcome_own ch (message.MissedMessageReport m) t = silence (on ch (session s line)) _ _
-  outcome_own ch (message.Reject m) t = silence (on ch (session s line)) _ _
-  outcome_own ch (message.ExecutionReport m) t = silence (on ch (session s line)) _ _
-  outcome_own ch (message.OrderCancelReject m) t = silence (on ch (session s line)) _ _
-  outcome_own ch (message.OrderMassCancelReport m) t = silence (on ch (session s line)) _ _
+  outcome_own ch m t = silence (on ch (session s line)) _ _
 
   -- ---- the calls on a line
 

@@ -285,14 +285,7 @@ module _ (R : Ledger → Ledger → Type 0) (lines : ℕ) (leads : Leads R lines
         (asked_of (message.OrderMassCancelRequest m) s _ (scope_leads m.scope s.participants (firm s line) m t s.venue))
     outcome_out ch (message.MissedMessageRequest m) t s = where_on s (on ch (session s line)) _ _ (missed_here ch m s)
     outcome_out ch (message.Logout m) t s = where_on s (on ch (session s line)) _ _ (logout_out ch t s)
-    outcome_out ch (message.LogonReply m) t s = silence s (on ch (session s line)) _ _
-    outcome_out ch (message.Heartbeat m) t s = silence s (on ch (session s line)) _ _
-    outcome_out ch (message.MissedMessageRequestAck m) t s = silence s (on ch (session s line)) _ _
-    outcome_out ch (message.MissedMessageReport m) t s = silence s (on ch (session s line)) _ _
-    outcome_out ch (message.Reject m) t s = silence s (on ch (session s line)) _ _
-    outcome_out ch (message.ExecutionReport m) t s = silence s (on ch (session s line)) _ _
-    outcome_out ch (message.OrderCancelReject m) t s = silence s (on ch (session s line)) _ _
-    outcome_out ch (message.OrderMassCancelReport m) t s = silence s (on ch (session s line)) _ _
+    outcome_out ch m t s = silence s (on ch (session s line)) _ _
 
     settled_out : (s : State) (o : Outcome) (buffer : List ℕ) (r : Result ℕ GatewayFault) (w : State) (out : List ℕ)
         → Out s o → Settled o buffer r w out → From s.venue w.venue

@@ -85,14 +85,7 @@ outcome_set ch line (message.OrderMassCancelRequest m) t s =
 outcome_set ch line (message.MissedMessageRequest m) t s =
     where_on line s (on ch (session s line)) _ _ (missed_here ch line m s)
 outcome_set ch line (message.Logout m) t s = where_on line s (on ch (session s line)) _ _ (logout_set ch line t s)
-outcome_set ch line (message.LogonReply m) t s = silence line s (on ch (session s line)) _ _
-outcome_set ch line (message.Heartbeat m) t s = silence line s (on ch (session s line)) _ _
-outcome_set ch line (message.MissedMessageRequestAck m) t s = silence line s (on ch (session s line)) _ _
-outcome_set ch line (message.MissedMessageReport m) t s = silence line s (on ch (session s line)) _ _
-outcome_set ch line (message.Reject m) t s = silence line s (on ch (session s line)) _ _
-outcome_set ch line (message.ExecutionReport m) t s = silence line s (on ch (session s line)) _ _
-outcome_set ch line (message.OrderCancelReject m) t s = silence line s (on ch (session s line)) _ _
-outcome_set ch line (message.OrderMassCancelReport m) t s = silence line s (on ch (session s line)) _ _
+outcome_set ch line m t s = silence line s (on ch (session s line)) _ _
 
 stays_set : (line : ℕ) (s w : State) → w ≡ s → Set line s w
 stays_set line s w e = inl (ap (λ (z : State). z.lines) e)

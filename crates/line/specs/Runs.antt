@@ -48,13 +48,9 @@ Does s (done.SendRecovered line r) w = Recovers line s blank r.answer w r.buffer
 
 -- what a follower reads from the bytes of a call that hands out
 abbrev pub Tells : State → Done → Type 0
-Tells s (done.RealTime line m t r) = Unit {0}
-Tells s (done.Recovery line m t r) = Unit {0}
-Tells s (done.Step t r) = Unit {0}
-Tells s (done.CancelTrade n t r) = Unit {0}
-Tells s (done.LineLost line t r) = Unit {0}
 Tells s (done.Send line r) = SendTold (length blank) line s
 Tells s (done.SendRecovered line r) = RecoverTold (length blank) line s
+Tells s x = Unit {0}
 
 -- calls made in turn; after each the gateway keeps what it is to keep
 abbrev pub Runs : State → List Done → State → Type 0

@@ -3,7 +3,7 @@ use Rattle.std.specs.Prelude.{ℕ, Bool, true, false, if◌then◌else◌, ◌&&
 use Rattle.codes.specs.declared.order.Side.{Side}
 use Rattle.codes.specs.declared.order.Side.TheVariants.{Buy, Sell}
 use Rattle.codes.specs.declared.order.TimeInForce.{TimeInForce}
-use Rattle.codes.specs.declared.order.TimeInForce.TheVariants.{Day, GoodTillCancel, ImmediateOrCancel, FillOrKill, GoodTillDate, GoodTillTime}
+use Rattle.codes.specs.declared.order.TimeInForce.TheVariants.{Day}
 use Rattle.terms.specs.declared.pricing.Pricing.{Pricing}
 use Rattle.terms.specs.declared.pricing.Pricing.TheVariants.{Market, Limit}
 use Rattle.terms.specs.Pricing.{price_of}
@@ -52,11 +52,7 @@ better_at a found i o = if crosses a o && betters a.side (price o) found then So
 -- of what does not trade, only a Day limit order comes to rest
 abbrev pub is_day : TimeInForce → Bool
 is_day Day = true
-is_day GoodTillCancel = false
-is_day ImmediateOrCancel = false
-is_day FillOrKill = false
-is_day GoodTillDate = false
-is_day GoodTillTime = false
+is_day t = false
 
 abbrev pub lasting : Pricing → TimeInForce → Bool
 lasting Market t = false

@@ -20,11 +20,7 @@ stands p s e l = record { partition = p; status = s; executed = e; leaves = l }
 -- a new order has nothing executed
 abbrev pub added_as : Effect → Partition → Status → Option ℕ → Option Standing
 added_as Adds p s (Some l) = Some (stands p s 0 l)
-added_as Adds p s None = None
-added_as Fills p s l = None
-added_as Undoes p s l = None
-added_as Tells p s l = None
-added_as Nothing p s l = None
+added_as e p s l = None
 
 abbrev pub added : Partition → Told → Option Standing
 added p t = added_as (effect_of t.kind) p t.status (natural t.leaves)

@@ -27,34 +27,7 @@ small (n ∷ ns) = ltb n 256 && small ns
 
 small_lists : (cs : Codes) → small (listed cs) ≡ true
 small_lists list.Sides = refl
-small_lists list.OrderTypes = refl
-small_lists list.TimesInForce = refl
-small_lists list.ClearingAccounts = refl
-small_lists list.OrderCapacities = refl
-small_lists list.AutoCancels = refl
-small_lists list.OrderSubTypes = refl
-small_lists list.Books = refl
-small_lists list.ExecInstructions = refl
-small_lists list.PassiveOnlys = refl
-small_lists list.MassCancelTypes = refl
-small_lists list.Versions = refl
-small_lists list.Partitions = refl
-small_lists list.AckResponses = refl
-small_lists list.ReportResponses = refl
-small_lists list.ExecTypes = refl
-small_lists list.Statuses = refl
-small_lists list.Liquidities = refl
-small_lists list.TradeTypes = refl
-small_lists list.Capacities = refl
-small_lists list.PriceDifferentials = refl
-small_lists list.MassResponses = refl
-small_lists list.LimitOnly = refl
-small_lists list.DarkOnly = refl
-small_lists list.ByInstrument = refl
-small_lists list.BySegment = refl
-small_lists list.RejectedOnly = refl
-small_lists list.TradeOnly = refl
-small_lists list.TradeOrCancel = refl
+small_lists cs = refl
 
 member_by : (b : Bool) (n v : ℕ) (vs : List ℕ) → eqb n v ≡ b → cond b true (member n vs) ≡ true → v < 256
     → (member n vs ≡ true → n < 256) → n < 256

@@ -47,39 +47,31 @@ same (message.Logon x) (message.Logon y) k e =
     let new_password_is = text_same x.new_password y.new_password (words_at 2 e) in
     let version_is = version_one x.version y.version (figure_at 3 e) in
     cc
-same (message.Logon x) n k e = cc
 same (message.LogonReply x) (message.LogonReply y) k e =
     let reject_code_is : x.reject_code ≡ y.reject_code = ap (λ vs. int32_of (nth 0 vs)) e in
     let expiry_days_is = text_same x.expiry_days y.expiry_days (words_at 1 e) in
     cc
-same (message.LogonReply x) n k e = cc
 same (message.Logout x) (message.Logout y) k e =
     let reason_is = text_same x.reason y.reason (words_at 0 e) in
     cc
-same (message.Logout x) n k e = cc
 same (message.Heartbeat x) (message.Heartbeat y) k e = refl
-same (message.Heartbeat x) n k e = cc
 same (message.MissedMessageRequest x) (message.MissedMessageRequest y) k e =
     let f : ℤ → MissedMessageRequest = λ p. record { partition = p; last = x.last } in
     let g : LastSequence → MissedMessageRequest = λ l. record { partition = y.partition; last = l } in
     ap message.MissedMessageRequest (ap f (ap (λ vs. int8_of (nth 0 vs)) e) ∙ ap g
     (last_same x.last y.last (figure_at 1 e)))
-same (message.MissedMessageRequest x) n k e = cc
 same (message.MissedMessageRequestAck x) (message.MissedMessageRequestAck y) k e =
     ap (λ r. message.MissedMessageRequestAck (record { response = r }))
     (ack_response_one x.response y.response (figure_at 0 e))
-same (message.MissedMessageRequestAck x) n k e = cc
 same (message.MissedMessageReport x) (message.MissedMessageReport y) k e =
     ap (λ r. message.MissedMessageReport (record { response = r }))
     (report_response_one x.response y.response (figure_at 0 e))
-same (message.MissedMessageReport x) n k e = cc
 same (message.Reject x) (message.Reject y) k e =
     let code_is : x.code ≡ y.code = ap (λ vs. int32_of (nth 0 vs)) e in
     let reason_is = text_same x.reason y.reason (words_at 1 e) in
     let message_type_is : x.message_type ≡ y.message_type = figure_at 2 e in
     let client_order_id_is = text_same x.client_order_id y.client_order_id (words_at 3 e) in
     cc
-same (message.Reject x) n k e = cc
 same (message.NewOrder x) (message.NewOrder y) k e =
     let client_order_id_is = name_same x.client_order_id y.client_order_id (words_at 0 e) in
     let trader_id_is = text_same x.trader_id y.trader_id (words_at 1 e) in
@@ -99,7 +91,6 @@ same (message.NewOrder x) (message.NewOrder y) k e =
     let min_quantity_is : x.min_quantity ≡ y.min_quantity = ap (λ vs. int32_of (nth 18 vs)) e in
     let passive_only_is = passive_only_one x.passive_only y.passive_only (figure_at 20 e) in
     cc
-same (message.NewOrder x) n k e = cc
 same (message.OrderCancelRequest x) (message.OrderCancelRequest y) k e =
     let client_order_id_is = name_same x.client_order_id y.client_order_id (words_at 0 e) in
     let original_id_is = text_same x.original_id y.original_id (words_at 1 e) in
@@ -108,7 +99,6 @@ same (message.OrderCancelRequest x) (message.OrderCancelRequest y) k e =
     let side_is = side_one x.side y.side (figure_at 4 e) in
     let book_is = book_one x.book y.book (figure_at 5 e) in
     cc
-same (message.OrderCancelRequest x) n k e = cc
 same (message.OrderCancelReplaceRequest x) (message.OrderCancelReplaceRequest y) k e =
     let client_order_id_is = name_same x.client_order_id y.client_order_id (words_at 0 e) in
     let original_id_is = text_same x.original_id y.original_id (words_at 1 e) in
@@ -125,12 +115,10 @@ same (message.OrderCancelReplaceRequest x) (message.OrderCancelReplaceRequest y)
     let min_quantity_is : x.min_quantity ≡ y.min_quantity = ap (λ vs. int32_of (nth 14 vs)) e in
     let passive_only_is = passive_only_one x.passive_only y.passive_only (figure_at 15 e) in
     cc
-same (message.OrderCancelReplaceRequest x) n k e = cc
 same (message.OrderMassCancelRequest x) (message.OrderMassCancelRequest y) k e =
     let client_order_id_is = name_same x.client_order_id y.client_order_id (words_at 0 e) in
     let scope_is = scope_same x.scope y.scope (figure_at 1 e) (nth_at 2 e) (nth_at 3 e) (nth_at 5 e) in
     cc
-same (message.OrderMassCancelRequest x) n k e = cc
 same (message.ExecutionReport x) (message.ExecutionReport y) k e =
     let partition_is = partition_one x.partition y.partition (figure_at 0 e) in
     let sequence_is : x.sequence ≡ y.sequence = ap (λ vs. int32_of (nth 1 vs)) e in
@@ -155,7 +143,6 @@ same (message.ExecutionReport x) (message.ExecutionReport y) k e =
     let capacity_is = capacity_one x.capacity y.capacity (figure_at 23 e) in
     let price_differential_is = price_differential_one x.price_differential y.price_differential (figure_at 24 e) in
     cc
-same (message.ExecutionReport x) n k e = cc
 same (message.OrderCancelReject x) (message.OrderCancelReject y) k e =
     let partition_is = partition_one x.partition y.partition (figure_at 0 e) in
     let sequence_is : x.sequence ≡ y.sequence = ap (λ vs. int32_of (nth 1 vs)) e in
@@ -164,7 +151,6 @@ same (message.OrderCancelReject x) (message.OrderCancelReject y) k e =
     let reason_is : x.reason ≡ y.reason = ap (λ vs. int32_of (nth 4 vs)) e in
     let transact_time_is = time_same x.transact_time y.transact_time (nth_at 5 e) in
     cc
-same (message.OrderCancelReject x) n k e = cc
 same (message.OrderMassCancelReport x) (message.OrderMassCancelReport y) k e =
     let partition_is = partition_one x.partition y.partition (figure_at 0 e) in
     let sequence_is : x.sequence ≡ y.sequence = ap (λ vs. int32_of (nth 1 vs)) e in
@@ -173,4 +159,4 @@ same (message.OrderMassCancelReport x) (message.OrderMassCancelReport y) k e =
     let reason_is : x.reason ≡ y.reason = ap (λ vs. int32_of (nth 4 vs)) e in
     let transact_time_is = time_same x.transact_time y.transact_time (nth_at 6 e) in
     cc
-same (message.OrderMassCancelReport x) n k e = cc
+same m n k e = cc

@@ -5,7 +5,7 @@ use Rattle.codes.specs.Lists.{listed}
 use Rattle.texts.specs.Bytes.{le, part}
 use Rattle.texts.proofs.Padding.{both_true, le-to_le}
 use Rattle.layout.specs.declared.field.Form.{Form}
-use Rattle.layout.specs.declared.field.Form.TheVariants.{Text, Name, Order, UInt32, UInt64, Sequence, Int8, Int32, Price, Time, Code, Alpha, Reserved}
+use Rattle.layout.specs.declared.field.Form.TheVariants.{Code}
 use Rattle.layout.specs.declared.field.Field.{Field}
 use Rattle.layout.specs.declared.field.Field.TheVariants.{Always, When}
 use Rattle.layout.specs.Layout.{Content, taken, place, width, wide, ok, got, ok_form, content, first_bad, Says, figure_of, absent}
@@ -41,21 +41,9 @@ Seen at (When here f other cs ∷ fs) bs = (le (part other 1 bs) ≡ at other) �
 code_read : (at : ℕ → ℕ) (f : Field) (v : Content) (bs : List ℕ) → is_code f ≡ true → Holds at f v
     → part (place f) (width f) bs ≡ field_bytes f v → le (part (place f) 1 bs) ≡ figure_of v
 unfolding field_bytes
-code_read at (Always here (Text w)) v bs c h e = cc
-code_read at (Always here (Name w)) v bs c h e = cc
-code_read at (Always here Order) v bs c h e = cc
-code_read at (Always here UInt32) v bs c h e = cc
-code_read at (Always here UInt64) v bs c h e = cc
-code_read at (Always here Sequence) v bs c h e = cc
-code_read at (Always here Int8) v bs c h e = cc
-code_read at (Always here Int32) v bs c h e = cc
-code_read at (Always here Price) v bs c h e = cc
-code_read at (Always here Time) v bs c h e = cc
 code_read at (Always here (Code cs)) v bs c h e =
     ap le (e ∙ form_bytes (Code cs) v h) ∙ le-to_le 1 (figure_of v) (code_small cs (figure_of v) h.1)
-code_read at (Always here Alpha) v bs c h e = cc
-code_read at (Always here (Reserved w)) v bs c h e = cc
-code_read at (When here f other cs) v bs c h e = cc
+code_read at f v bs c h e = cc
 
 look_by : (b : Bool) (at : ℕ → ℕ) (f : Field) (v : Content) (bs : List ℕ) (n m : ℕ) (c : Bool) → eqb (place f) n ≡ b
     → cond b (is_code f) c ≡ true → Holds at f v

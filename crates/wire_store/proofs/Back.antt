@@ -42,7 +42,7 @@ use Rattle.texts.proofs.Padding.{padded-said, printable-said}
 use Rattle.layout.specs.declared.fault.Fault.{Fault}
 use Rattle.layout.specs.declared.fault.Fault.TheVariants as fault
 use Rattle.layout.specs.declared.field.Field.{Field}
-use Rattle.layout.specs.Layout.{Content, Says, value_of}
+use Rattle.layout.specs.Layout.{Says, value_of}
 use Rattle.layout.specs.Writing.{header, encode}
 use Rattle.layout.proofs.Values.{all_got, value_back}
 use Rattle.layout.specs.Layout.Content.{figure}
@@ -127,17 +127,11 @@ mass_response_back x =
 
 execution_back : (e : Execution) → execution_from (figure (exec_type_code (exec_of e))) (execution_reject e)
     (execution_liquidity e) (execution_trade e) ≡ e
-execution_back execution.Unspecified = refl
-execution_back execution.New = refl
-execution_back execution.Cancelled = refl
-execution_back execution.Replaced = refl
-execution_back (execution.Rejected n) = refl
-execution_back execution.Expired = refl
-execution_back execution.Restated = refl
 execution_back (execution.Trade l t) =
     ap (λ x. execution.Trade x (value_of trade_type_code trade_types trade_type.Visible (figure (trade_type_code t))))
     (liquidity_back l) ∙ ap (execution.Trade l) (trade_type_back t)
 execution_back (execution.TradeCancel l) = ap execution.TradeCancel (liquidity_back l)
+execution_back e = refl
 
 -- a message's report, by its contents
 contents_tell : (m : Message) → told_from (kind_of m) (contents_of m) ≡ unwrap_or (report_in m) nothing_told
@@ -164,18 +158,7 @@ contents_tell (message.OrderMassCancelReport m) =
     let time : record { seconds = m.transact_time.seconds; microseconds = m.transact_time.microseconds }
     ≡ m.transact_time = refl in
     cc
-contents_tell (message.Logon m) = refl
-contents_tell (message.LogonReply m) = refl
-contents_tell (message.Logout m) = refl
-contents_tell (message.Heartbeat m) = refl
-contents_tell (message.MissedMessageRequest m) = refl
-contents_tell (message.MissedMessageRequestAck m) = refl
-contents_tell (message.MissedMessageReport m) = refl
-contents_tell (message.Reject m) = refl
-contents_tell (message.NewOrder m) = refl
-contents_tell (message.OrderCancelRequest m) = refl
-contents_tell (message.OrderCancelReplaceRequest m) = refl
-contents_tell (message.OrderMassCancelRequest m) = refl
+contents_tell m = refl
 
 told_by : (bs : List ℕ) (m : Message) → verdict Follower bs ≡ None → opening Follower bs ≡ Ok (kind_of m)
     → Says (contents_of m) (table_of (kind_of m)) bs → decoded bs ≡ unwrap_or (report_in m) nothing_told
