@@ -343,7 +343,3 @@ loads_end c l p b d from [] r m f h (inr (d'', e, g)) =
     over ending.ServiceUnavailable k t q w = tt
 loads_end c l p b d from (y ∷ ms) r m f h (inl (r', g, e, z, v)) = some_none d z
 loads_end c l p b d from (y ∷ ms) r m f h (inr (i, g, t, q)) = inr (i, g, t, loads_end c l p b d i ms r m f h q)
-
--- nothing was asked of the store that has handed out all
-pub loads_none : (c : ℕ) (l : List Entry) (p : Partition) (b from : ℕ) → Loads c l p b None from []
-loads_none c l p b from = inl refl

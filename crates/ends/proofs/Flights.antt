@@ -93,10 +93,6 @@ next_above c l a b n le lt h = record {
   between = λ j p q. h.between j (omega (arith, p, le)) q;
 }
 
--- all up to the next one is passed
-pub next_passes : (c : ℕ) (l : List Entry) (a n z : ℕ) → Next c l a n → z < n → Passed c l a z
-next_passes c l a n z h lt = λ j p q. h.between j p (omega (arith, q, lt))
-
 -- a look for the next number finds it, or passes all
 pub found : (c : ℕ) (l : List Entry) (a n : ℕ) → Lowest l c a (Some n) → Next c l a n
 found c l a n h = record { above = h.0; hers = h.1; between = h.2 }

@@ -1,6 +1,6 @@
 -- What a message that can be held is written as: as many bytes as its fields are wide, one field behind the other.
 -- Assumes nothing.
-use Rattle.std.proofs.Common.{◌≡◌, ℕ, suc, ◌+◌, Bool, true, false, cond, eqb, List, [], ◌∷◌, ◌++◌, length, drop, replicate, Some, None, Option, refl, ap, ◌∙◌, append_assoc, length-append, eqb-true}
+use Rattle.std.proofs.Common.{◌≡◌, ℕ, ◌+◌, Bool, true, false, cond, eqb, List, [], ◌∷◌, ◌++◌, length, drop, replicate, Some, None, Option, refl, ap, ◌∙◌, append_assoc, length-append, eqb-true}
 use lib.ListN.{length-replicate}
 use Rattle.codes.specs.Lists.{listed}
 use Rattle.texts.proofs.Padding.{both_true, length-padded}
@@ -14,12 +14,6 @@ use Rattle.layout.specs.Layout.Content.{nothing}
 use Rattle.layout.specs.Holding.{HoldsForm, If, Holds, HoldsAll, HoldsIn, figure_at}
 use Rattle.layout.specs.Writing.{over, over_all, order_bytes, bytes_of, field_bytes, encode, tiled, header, Wrote}
 use Rattle.layout.proofs.Overs.{over_front}
-
-held_long : (at : ℕ → ℕ) (fs : List Field) (vs : List Content) → HoldsAll at fs vs → length vs ≡ length fs
-held_long at [] [] h = refl
-held_long at [] (v ∷ vs) h = absurd h
-held_long at (f ∷ fs) [] h = absurd h
-held_long at (f ∷ fs) (v ∷ vs) h = ap suc (held_long at fs vs h.1)
 
 -- a field's bytes are as many as its width
 order_wide : (o : Option ℕ) → length (order_bytes o) ≡ 12

@@ -1,6 +1,5 @@
 -- Digits of base 62. Assumes nothing.
-use Rattle.std.proofs.Common.{◌≡◌, ◌&&◌, ℕ, zero, suc, ◌+◌, ◌-◌, ◌*◌, ◌/◌, ◌%◌, ◌^◌, ◌<◌, ◌≤◌, Bool, true, false, cond, eqb, ltb, List, [], ◌∷◌, ◌++◌, length, get_or, take, drop, set, Some, None, Option, sym, refl, ap, ◌∙◌, append_assoc, pow-suc, add-one, arith, length-append, drop-cons, lt-ltb, eq-eqb}
-use Rattle.std.proofs.lemmas.Slice.{between_to_end}
+use Rattle.std.proofs.Common.{◌≡◌, ◌&&◌, ℕ, zero, suc, ◌+◌, ◌-◌, ◌*◌, ◌/◌, ◌%◌, ◌^◌, ◌<◌, ◌≤◌, Bool, true, false, cond, eqb, ltb, List, [], ◌∷◌, ◌++◌, length, get_or, drop, set, Some, None, Option, sym, refl, ap, ◌∙◌, append_assoc, pow-suc, arith, length-append, lt-ltb, eq-eqb}
 use Rattle.std.proofs.lemmas.List.{drop-set}
 use Rattle.texts.proofs.Padding.{both_true, said_all}
 use Rattle.std.proofs.lemmas.Nat.{div-add-mod', div_below, mod_below}
@@ -10,11 +9,6 @@ use Rattle.texts.specs.Identifiers.{digit, worth, base62, id_of, after, number_o
 -- one more digit is read
 abbrev pub next : ℕ → ℕ → Option ℕ
 next n c = cond (ltb (worth c) 62 && ltb (n * 62 + worth c) (2 ^ 64)) (Some (n * 62 + worth c)) None
-
-pub after-drop : (n : ℕ) (ds : List ℕ) (i : ℕ) → i < length ds → after n (drop i ds)
-    ≡ cond (ltb (worth (get_or ds i 0)) 62 && ltb (n * 62 + worth (get_or ds i 0)) (2 ^ 64))
-    (after (n * 62 + worth (get_or ds i 0)) (drop (i + 1) ds)) None
-after-drop n ds i h = rw (add-one, drop-cons ds i 0 h)
 
 by-test : (p : Bool) (r s t : Option ℕ) (m : ℕ) → (r ≡ Some m → s ≡ t) → cond p r None ≡ Some m → cond p s None ≡ t
 by-test true r s t m f e = f e
@@ -107,9 +101,3 @@ pub write-end : (letter n m : ℕ) (out : List ℕ) → length out ≡ 12 → ge
 unfolding base62
 write-end letter n m [] l g e = absurd (omega arith)
 write-end letter n m (x ∷ out) l g e = rw (e, g)
-
-pub number_is : (letter : ℕ) (bs : List ℕ) → length bs ≡ 12 → get_or bs 0 0 ≡ letter
-    → after 0 (take (length bs - 1) (drop 1 bs)) ≡ number_of letter bs
-number_is letter bs l g =
-    let k : length bs ≤ length bs = omega arith in
-    rw (between_to_end bs 1 (length bs) k, eq-eqb (length bs) 12 l, eq-eqb (get_or bs 0 0) letter g)

@@ -92,10 +92,6 @@ said_all t h = rw (lead-all t h) (take_all (length t) t (omega arith))
 
 -- numbers
 
-pub length-to_le : (w n : ℕ) → length (to_le w n) ≡ w
-length-to_le zero n = refl
-length-to_le (suc w) n = ap suc (length-to_le w (n / 256))
-
 pub le-to_le : (w n : ℕ) → n < 256 ^ w → le (to_le w n) ≡ n
 le-to_le zero n h = omega arith
 le-to_le (suc w) n h =

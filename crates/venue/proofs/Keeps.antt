@@ -245,15 +245,6 @@ open_row rows n h = go (under rows n) refl h
     go None e h = absurd (cc)
     go (Some b) e h = (b, e, test b (nat_lt 0 b.leaves) refl h)
 
-pub withdraw_allowed : (rows : List Row) (n : ℕ) (e : Ending) (i : FixedText 20) → is_some (open_of (under rows n))
-    ≡ true → is_some (after n (Withdraw e i) (under rows n)) ≡ true
-withdraw_allowed rows n e i h =
-    let (b, was, some) = open_row rows n h in
-    ap (λ x. is_some (after n (Withdraw e i) x)) was ∙ ap is_some (cond-true _ _ _ (lt-ltb 0 b.leaves some))
-
-pub is_there : (rows : List Row) (n : ℕ) → is_some (open_of (under rows n)) ≡ true → is_some (under rows n) ≡ true
-is_there rows n h = let (b, was, some) = open_row rows n h in ap is_some was
-
 -- an open order has a place for the report of its end
 pub open_place : (v : View) (n : ℕ) → Sound v → is_some (open_of (under v.rows n)) ≡ true → 1 ≤ v.free
 open_place v n s h =
@@ -277,11 +268,6 @@ sound-withdrawn v w t n e i s h instruments after trades market free =
     let p = s.spare in
     sound-changed v w t n (Withdraw e i) b (ended e b) s was made instruments after trades
     (ap (λ (m : Meaning). m.orders) market) refl (omega arith)
-
--- a matcher withdraws what it holds
-pub cancel_holds : (v : View) (n : ℕ) → Sound v → is_some (open_of (under v.rows n)) ≡ true
-    → is_some (get v.market.orders n) ≡ true
-cancel_holds v n s h = ap is_some (s.booked n) ∙ h
 
 -- ---- a new order
 
@@ -378,24 +364,6 @@ replace_fits rows n a h = go (under rows n) refl h
         let t = test b (is_none (replace_fault a.quantity b)) refl h in
         let f = replaceable a.quantity b t in
         (b, e, cond-true _ _ _ t, f.0, f.1)
-
-pub replace_there : (rows : List Row) (n : ℕ) (a : Ask) → is_some (made_of n (Replace a) (under rows n)) ≡ true
-    → is_some (under rows n) ≡ true
-replace_there rows n a h = let (b, was, made, some, above) = replace_fits rows n a h in ap is_some was
-
-pub replace_above : (rows : List Row) (n : ℕ) (a : Ask) (b : Row) → is_some (made_of n (Replace a) (under rows n))
-    ≡ true → Some b ≡ under rows n → b.executed < a.quantity
-replace_above rows n a b h e =
-    let (x, was, made, some, above) = replace_fits rows n a h in
-    let same : x ≡ b = let q = e ∙ was in cc in
-    subst (λ (y : Row). y.executed < a.quantity) same above
-
--- the matcher holds it
-pub replace_held : (v : View) (n : ℕ) (a : Ask) → Sound v → is_some (made_of n (Replace a) (under v.rows n)) ≡ true
-    → is_some (get v.market.orders n) ≡ true
-replace_held v n a s h =
-    let (b, was, made, some, above) = replace_fits v.rows n a h in
-    ap is_some (s.booked n ∙ ap open_of was ∙ cond-true _ _ _ (lt-ltb 0 b.leaves some))
 
 pub sound-replaced : (v w : View) (t : Time) (n q : ℕ) (a : Ask) → Sound v
     → is_some (made_of n (Replace a) (under v.rows n)) ≡ true → open_count v.rows + 1 ≤ v.free → w.instruments

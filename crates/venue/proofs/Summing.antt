@@ -1,11 +1,9 @@
 -- Trades, as the orders are filled, and as the fills are undone. Assumes nothing.
-use Rattle.std.specs.Prelude.{nat_le, nat_lt, slice_get}
-use Rattle.std.proofs.Common.{◌≡◌, ℕ, zero, suc, ◌+◌, ◌-◌, ◌<◌, ◌≤◌, ◌⊎◌, Bool, true, false, cond, eqb, List, [], ◌∷◌, ◌++◌, length, Some, None, Option, inl, inr, is_some, refl, sym, ap, ◌∙◌, subst, arith, get_or, ltb-true, lt-ltb, le-leb}
+use Rattle.std.specs.Prelude.{nat_le, nat_lt}
+use Rattle.std.proofs.Common.{◌≡◌, ℕ, zero, suc, ◌+◌, ◌-◌, ◌<◌, ◌≤◌, ◌⊎◌, Bool, true, false, cond, eqb, List, [], ◌∷◌, ◌++◌, length, Some, None, Option, inl, inr, is_some, refl, sym, ap, ◌∙◌, subst, arith, ltb-true, lt-ltb, le-leb}
 use Rattle.std.proofs.lemmas.Bool.{and_from, cond-true, cond-false, cases_eq, cases_lt, eq-eqb, ne_eqb, le-ltb}
 use Rattle.std.proofs.lemmas.List.Sums.{sum_by-cons, sum_by_push}
-use Rattle.std.proofs.lemmas.Option.{slice_get-get_or}
 use Rattle.std.specs.FinMap.{get}
-use Rattle.codes.specs.Session.{partition_code}
 use Rattle.texts.specs.declared.values.Time.{Time}
 use Rattle.keyed.specs.Look.{put}
 use Rattle.keyed.specs.Numbers.{under, put_under}
@@ -28,7 +26,7 @@ use Rattle.changes.specs.Changes.{after}
 use Rattle.configuration.specs.declared.instrument.Instrument.{Instrument}
 use Rattle.venue.specs.Ledger.{Ledger, changed, Recorded}
 use Rattle.venue.specs.View.{View, Sound, Booked, Filling, held_as, open_of, executed_of, side_of, share_of, traded}
-use Rattle.venue.specs.Trading.{SideExecuted, partition_in, partition_of, undoing, side_undone, passive_undone, both_undone, SideAllows, filling, passive_filled, both_filled, trade_of, side_filled, side_told}
+use Rattle.venue.specs.Trading.{SideExecuted, undoing, side_undone, passive_undone, both_undone, SideAllows, filling, passive_filled, both_filled, trade_of, side_filled, side_told}
 use Rattle.venue.specs.declared.trading.Deal.{Deal}
 use Rattle.limits.specs.declared.TheConstants.{INSTRUMENTS}
 use Rattle.venue.specs.Steps.{ledger_of, ledger_expired, expired_as}
@@ -228,14 +226,6 @@ sound-traded v w t d p a s allowed spare instruments after trades market free =
           omega arith;
     }
 
--- what the steps of a trade require
-pub trade_first : (v : View) (d : Deal) (p a : Option ℕ) (t : Time) → Sound v
-    → Allowed v.market.orders (event.Trade p a d.quantity d.price) → SideAllows (filling d Added) p v.rows
-trade_first v d p a t s allowed =
-    side-allows v.instruments t (filling d Added) (ledger_of v) v.market
-    (record { recorded = s.recorded; booked = s.booked }) allowed.0 p
-    (first_open v.market.orders d.quantity p a allowed.1)
-
 pub trade_between : (v : View) (d : Deal) (p a : Option ℕ) (t : Time) → Sound v
     → Allowed v.market.orders (event.Trade p a d.quantity d.price)
     → Tied v.instruments (passive_filled v.instruments t d p (ledger_of v)) (taken v.market d.quantity p)
@@ -333,16 +323,6 @@ executed_row rows n q some h = go (under rows n) refl
     go : (x : Option Row) → under rows n ≡ x → Executed rows n q
     go None e = let z = ap executed_of e in absurd (let no : ⊥ = omega arith in no)
     go (Some r) e = let z = ap executed_of e in record { row = r; was = e; enough = omega arith }
-
-pub undo_allowed : (rows : List Row) (n : ℕ) (u : Undone) → 1 ≤ u.quantity → u.quantity ≤ executed_of (under rows n)
-    → is_some (after n (Undo u) (under rows n)) ≡ true
-undo_allowed rows n u some h =
-    let b = executed_row rows n u.quantity some h in
-    ap (λ x. is_some (after n (Undo u) x)) b.was ∙ ap is_some (undo_made n u b.row some b.enough)
-
-pub executed_there : (rows : List Row) (n q : ℕ) → 1 ≤ q → q ≤ executed_of (under rows n)
-    → is_some (under rows n) ≡ true
-executed_there rows n q some h = let b = executed_row rows n q some h in ap is_some b.was
 
 module _ (is : List Instrument) (t : Time) (q : ℕ) (l : Ledger) (s : Recorded is l.rows l.kept) where
   pub undone-recorded : (side : Option Side) → SideExecuted q side l.rows
@@ -484,17 +464,3 @@ stands_from tr h = go tr.cancelled h
     go : (b : Bool) → cond b (Some DoneBefore) None ≡ None → b ≡ false
     go true e = absurd (cc)
     go false e = refl
-
-pub side_changed : (is : List Instrument) (t : Time) (l l' : Ledger) (q p : ℕ) (s : Side) (b b' : Row) (i : Instrument)
-    → Some b ≡ under l.rows s.order → b' ≡ b → i ≡ get_or is b'.terms.instrument i → b'.terms.instrument < length is
-    → p ≡ partition_code i.partition → l' ≡ changed is t s.order
-    (Undo (record { quantity = q; report = record { partition = p; sequence = s.report } })) l → l'
-    ≡ side_undone is t q (Some s) l
-side_changed is t l l' q p s b b' i at_n same at_i inside code after =
-    let there : slice_get is b'.terms.instrument
-    ≡ Some i = slice_get-get_or is b'.terms.instrument i inside ∙ ap Some (sym at_i) in
-    let found : partition_of is (under l.rows s.order) ≡ partition_code i.partition =
-    ap (partition_of is) (sym at_n) ∙ ap (λ (x : Row). partition_in (slice_get is x.terms.instrument))
-    (sym same) ∙ ap partition_in there in
-    after ∙ ap (λ x. changed is t s.order (Undo
-    (record { quantity = q; report = record { partition = x; sequence = s.report } })) l) (code ∙ sym found)

@@ -141,6 +141,3 @@ to_free p c t (suc n) v =
 
 pub withdrawn_free : (p : Row → Bool) (c : Cause) (t : Time) (v : View) → (withdrawn_all p c t v).free ≡ v.free
 withdrawn_free p c t v = to_free p c t (length v.rows) v
-
-pub withdraws_none : (v : View) → Withdraws v v v
-withdraws_none v = record { state = refl; fell = omega arith; places = omega arith }

@@ -7,13 +7,8 @@ use Rattle.venue.specs.Ledger.{changed, ledger}
 use Rattle.venue.specs.Steps.{Replaceable}
 use Rattle.venue.specs.View.{View, executed_of}
 use Rattle.venue.specs.Inside.{view}
-use Rattle.venue.proofs.Keeps.{replace_held, sound-replaced}
+use Rattle.venue.proofs.Keeps.{sound-replaced}
 use Rattle.venue.proofs.venue.Venue.replace.Goals as goal
-
-pub resize-requires-clause-opened : goal.resize-requires-clause-opened
-resize-requires-clause-opened g c =
-    replace_held (view g.M.Matcher g.S.Store c.self.inside) c.args.number c.args.ask c.self.invariant
-    (subst (λ (x : View). Replaceable x c.args.number c.args.ask) (sym c.self.view_is) c.requires.allowed)
 
 pub invariant_of-self : goal.invariant_of-self
 invariant_of-self g c =

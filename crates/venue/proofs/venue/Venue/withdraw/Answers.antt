@@ -4,13 +4,8 @@ use Rattle.changes.specs.declared.change.Change.TheVariants.{Withdraw}
 use Rattle.venue.specs.Ledger.{changed, ledger}
 use Rattle.venue.specs.View.{View, IsOpen}
 use Rattle.venue.specs.Inside.{view}
-use Rattle.venue.proofs.Keeps.{open_place, sound-withdrawn, cancel_holds}
+use Rattle.venue.proofs.Keeps.{open_place, sound-withdrawn}
 use Rattle.venue.proofs.venue.Venue.withdraw.Goals as goal
-
-pub take_out-requires : goal.take_out-requires
-take_out-requires g c =
-    cancel_holds (view g.M.Matcher g.S.Store c.self.inside) c.args.number c.self.invariant
-    (subst (λ (x : View). IsOpen x c.args.number) (sym c.self.view_is) c.requires)
 
 pub change-requires-clause-places : goal.change-requires-clause-places
 change-requires-clause-places g c =
