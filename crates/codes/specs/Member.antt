@@ -1,6 +1,6 @@
 -- Whether a list has a number. Assumes nothing.
-use Rattle.std.specs.Prelude.{ℕ, Bool, true, false, cond, List, [], ◌∷◌, ◌==◌}
+use Rattle.std.specs.Prelude.{ℕ, Bool, List, ◌==◌}
+use Rattle.std.specs.List.{list_any}
 
 abbrev pub member : ℕ → List ℕ → Bool
-member x [] = false
-member x (v ∷ vs) = cond (x == v) true (member x vs)
+member x vs = list_any (λ v. x == v) vs

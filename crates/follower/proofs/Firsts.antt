@@ -3,12 +3,13 @@ use Rattle.std.specs.Prelude.{IfSome}
 use Rattle.std.proofs.Common.{◌≡◌, ℕ, zero, suc, ◌+◌, ◌<◌, ◌≤◌, ◌⊎◌, inl, inr, Bool, true, false, cond, List, [], ◌∷◌, length, nat_le, nat_lt, Some, None, Option, refl, sym, ap, ◌∙◌, subst, arith}
 use Rattle.std.specs.List.{slice_get}
 use Rattle.std.specs.FinMap.{get}
-use Rattle.std.proofs.lemmas.Bool.{leb-true, ltb-true, ltb-false, cond-false, ne_eqb}
+use Rattle.std.proofs.lemmas.Bool.{leb-true, ltb-true, ltb-false, ne_eqb}
 use Rattle.std.proofs.lemmas.Bool.Decides.{nat_tests}
 use Rattle.std.proofs.Math.Nat.{eq-or-lt_of_le}
 use Rattle.std.proofs.lemmas.Option.{slice_get_within}
 use Rattle.keyed.specs.Look.{look}
 use Rattle.keyed.proofs.Keyed.{get-keyed}
+use Rattle.keyed.proofs.Looks.{look_past}
 use Rattle.reports.specs.declared.standings.Known.{Known}
 use Rattle.reports.specs.Known.{known, number_of, standing_of}
 use Rattle.follower.specs.Orders.{FirstFrom, earlier, earlier_of}
@@ -100,7 +101,8 @@ further from ks i b (Some k) s e g =
 absent : (ks : List Known) (n : ℕ) → ((j : ℕ) (k : Known) → slice_get ks j ≡ Some k → k.number ≡ n → ⊥)
     → look number_of standing_of ks n ≡ None
 absent [] n h = refl
-absent (x ∷ ks) n h = cond-false _ _ _ (ne_eqb x.number n (h zero x refl)) ∙ absent ks n (λ j k e. h (suc j) k e)
+absent (x ∷ ks) n h =
+    look_past number_of standing_of x ks n (ne_eqb x.number n (h zero x refl)) ∙ absent ks n (λ j k e. h (suc j) k e)
 
 unknown : (ks : List Known) (n : ℕ) → ((j : ℕ) (k : Known) → slice_get ks j ≡ Some k → k.number ≡ n → ⊥)
     → get (known ks) n ≡ None

@@ -1,6 +1,6 @@
 -- A message as a table of fields: which bytes are taken, which are refused and where, and what they hold.
 -- Assumes nothing.
-use Rattle.std.specs.Prelude.{◌&&◌, ◌≡◌, ℕ, ◌+◌, max, Bool, true, false, List, [], ◌∷◌, take, drop, ℤ, pos, is_some, Some, None, Option, Result, MatchResult, nat_le, nat_lt, if◌then◌else◌, not, slice_index_or, ◌==◌}
+use Rattle.std.specs.Prelude.{◌&&◌, ◌≡◌, ℕ, ◌+◌, max, Bool, true, false, List, [], ◌∷◌, filter, map, take, drop, ℤ, pos, is_some, Some, None, Option, Result, MatchResult, nat_le, nat_lt, if◌then◌else◌, not, slice_index_or, ◌==◌}
 use Rattle.std.proofs.Common.{to_z}
 use Rattle.std.specs.Int.{w8, w32, w64}
 use Rattle.std.specs.List.{AllByRecursion, find, list_all}
@@ -139,9 +139,7 @@ is_words _ = false
 
 -- where the texts of a message stand
 abbrev pub text_places : List Field → List ℕ → List ℕ
-text_places [] bs = []
-text_places (f ∷ fs) bs =
-    if is_words (form_of f) && matters bs f then place f ∷ text_places fs bs else text_places fs bs
+text_places fs bs = map place (filter (λ f. is_words (form_of f) && matters bs f) fs)
 
 -- the first field that is refused, as a fault
 abbrev pub fault_of : List Field → List ℕ → Option Fault

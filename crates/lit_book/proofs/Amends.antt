@@ -5,7 +5,6 @@ use Rattle.std.proofs.lemmas.List.{take-append-drop}
 use Rattle.std.proofs.lemmas.Bool.{cond-true, cond-false, eq-eqb}
 use Rattle.std.specs.FinMap.{get}
 use Rattle.std.specs.Option.{option_map}
-use Rattle.keyed.specs.Look.{look}
 use Rattle.keyed.proofs.Keyed.{put-here, put_over}
 use Rattle.keyed.proofs.Looks.{passes}
 use Rattle.matching.specs.Meaning.{Meaning, Orders, closed, opened, resized, with_order}
@@ -22,8 +21,7 @@ in_at : (xs : List Order) (i n : ℕ) (y : Order) → FoundOrder xs n (Some i) �
 in_at [] i n y f read = absurd (let l = f.0 in let z : ⊥ = omega arith in z)
 in_at (x ∷ xs) zero n y f read = cond-true (eqb x.number n) _ _ (eq-eqb x.number n (f.2 x)) ∙ ap Some (sym read)
 in_at (x ∷ xs) (suc i) n y f read =
-    let p = passes order_number order_held (eqb x.number n) (order_held x)
-    (look order_number order_held (take i xs) n) f.1 in
+    let p = passes order_number order_held x (take i xs) n f.1 in
     cond-false (eqb x.number n) _ _ p.0 ∙ in_at xs i n y (omega arith, p.1, f.2) read
 
 under_at : (xs : List Order) (k i n : ℕ) (y : Order) → FoundOrder xs n (Some i) → y ≡ get_or xs i y

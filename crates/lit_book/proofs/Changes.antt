@@ -4,7 +4,7 @@ use Rattle.std.proofs.lemmas.List.{append_assoc, take-append-drop}
 use Rattle.std.proofs.lemmas.Bool.{cond-true, cond-false, eq-eqb}
 use Rattle.std.specs.List.{remove}
 use Rattle.keyed.specs.Look.{look, Distinct}
-use Rattle.keyed.proofs.Looks.{passes}
+use Rattle.keyed.proofs.Looks.{look_past, passes}
 use Rattle.matching.specs.declared.matcher.Held.{Held}
 use Rattle.lit_book.specs.declared.order.Order.{Order}
 use Rattle.lit_book.specs.Orders.{with_quantity}
@@ -17,7 +17,7 @@ at os n = look order_number order_held os n
 past : (x : Order) (xs : List Order) (i n : ℕ) → FoundOrder (x ∷ xs) n (Some (suc i)) → (eqb x.number n ≡ false)
     × FoundOrder xs n (Some i)
 past x xs i n (l, k, is) =
-    let p = passes order_number order_held (eqb x.number n) (order_held x) (at (take i xs) n) k in
+    let p = passes order_number order_held x (take i xs) n k in
     (p.0, (omega arith, p.1, is))
 
 here : (x : Order) (xs : List Order) (n : ℕ) → FoundOrder (x ∷ xs) n (Some zero) → eqb x.number n ≡ true
@@ -26,7 +26,7 @@ here x xs n (l, k, is) = eq-eqb x.number n (is x)
 pub absent : (n : ℕ) (w : Option ℕ) (xs : List Order) → at xs n ≡ None → changed n w xs ≡ xs
 absent n w [] h = refl
 absent n w (x ∷ xs) h =
-    let p = passes order_number order_held (eqb x.number n) (order_held x) (at xs n) h in
+    let p = passes order_number order_held x xs n h in
     cond-false (eqb x.number n) _ _ p.0 ∙ ap (λ (l : List Order). x ∷ l) (absent n w xs p.1)
 
 -- by its place
@@ -79,7 +79,7 @@ drop_absent : (xs : List Order) (k n : ℕ) → at xs n ≡ None → at (drop k 
 drop_absent xs zero n h = h
 drop_absent [] (suc k) n h = refl
 drop_absent (x ∷ xs) (suc k) n h =
-    drop_absent xs k n (passes order_number order_held (eqb x.number n) (order_held x) (at xs n) h).1
+    drop_absent xs k n (passes order_number order_held x xs n h).1
 
 -- numbers are apart, so the other part has no such order
 pub rest_absent : (xs : List Order) (i k n : ℕ) → Distinct order_number order_held xs → FoundOrder xs n (Some i)
@@ -95,7 +95,7 @@ front_absent [] i (suc k) n f le = refl
 front_absent (x ∷ xs) zero (suc k) n f le = absurd (let z : ⊥ = omega arith in z)
 front_absent (x ∷ xs) (suc i) (suc k) n f le =
     let p = past x xs i n f in
-    cond-false (eqb x.number n) _ _ p.0 ∙ front_absent xs i k n p.1 (omega arith)
+    look_past order_number order_held x (take k xs) n p.0 ∙ front_absent xs i k n p.1 (omega arith)
 
 pub shorter : (xs : List Order) (i k n : ℕ) → FoundOrder xs n (Some i) → i < k
     → length (changed n None (take k xs)) + 1 ≡ length (take k xs)

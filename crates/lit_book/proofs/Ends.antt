@@ -3,14 +3,13 @@ use Rattle.std.proofs.Common.{◌≡◌, ℕ, zero, suc, ◌+◌, ◌-◌, ◌�
 use Rattle.std.proofs.lemmas.List.{length-append, length-drop, length-take-le}
 use Rattle.std.proofs.lemmas.Bool.{both_ways, cases_lt, cond-false, cond-true, eq-eqb, le-ltb, lt-ltb}
 use Rattle.std.specs.List.{slice_get}
-use Rattle.keyed.specs.Look.{look}
 use Rattle.matching.specs.declared.event.Event.{Event}
 use Rattle.matching.specs.declared.event.Event.TheVariants.{Nothing, Expired, Trade}
 use Rattle.matching.specs.Meaning.{Quiet}
 use Rattle.lit_book.specs.declared.order.Order.{Order}
 use Rattle.lit_book.specs.Orders.{with_quantity}
 use Rattle.lit_book.specs.Laws.{Enough, Idle, after_events, open_orders}
-use Rattle.lit_book.specs.Lists.{best, changed, order_held, order_number, remains}
+use Rattle.lit_book.specs.Lists.{best, changed, order_in, remains}
 use Rattle.lit_book.specs.Rules.{Lit, altered, left_of, next, size_of, traded}
 use Rattle.lit_book.proofs.Bests.{best_some}
 use Rattle.lit_book.proofs.Nexts.{next_idle}
@@ -18,7 +17,7 @@ use Rattle.lit_book.proofs.Tables.{lists}
 use Rattle.lit_book.proofs.Stops.{Ends, all_same, stop}
 
 abbrev known : List Order → ℕ → Bool
-known xs n = is_some (look order_number order_held xs n)
+known xs n = is_some (order_in xs n)
 
 no_more : (n : ℕ) (w : Option ℕ) (xs : List Order) → length (changed n w xs) ≤ length xs
 no_more n w [] = omega arith
@@ -34,7 +33,7 @@ one_less : (n : ℕ) (xs : List Order) → known xs n ≡ true → length (chang
 one_less n [] h = absurd (both_ways false refl h)
 one_less n (x ∷ xs) h = go (eqb x.number n) h (one_less n xs)
   where
-    go : (b : Bool) → is_some (cond b (Some (order_held x)) (look order_number order_held xs n)) ≡ true
+    go : (b : Bool) → is_some (cond b (Some x) (order_in xs n)) ≡ true
         → (known xs n ≡ true → length (changed n None xs) + 1 ≡ length xs)
         → length (cond b (remains x None ++ xs) (x ∷ changed n None xs)) + 1 ≡ length (x ∷ xs)
     go true h ih = omega arith
@@ -44,33 +43,27 @@ still_known : (m n q : ℕ) (xs : List Order) → known (changed m (Some q) xs) 
 still_known m n q [] = refl
 still_known m n q (x ∷ xs) = go (eqb x.number m) (still_known m n q xs)
   where
-    more : (b : Bool) (v w : Option _) → is_some v ≡ is_some w → is_some (cond b (Some (order_held x)) v)
-        ≡ is_some (cond b (Some (order_held x)) w)
+    more : (b : Bool) (v w : Option Order) → is_some v ≡ is_some w → is_some (cond b (Some x) v)
+        ≡ is_some (cond b (Some x) w)
     more true v w e = refl
     more false v w e = e
-
-    same : (b : Bool) (v : Option _)
-        → is_some (cond b (Some (order_held x)) v) ≡ is_some (cond b (Some (order_held x)) v)
-    same b v = refl
 
     go : (b : Bool) → known (changed m (Some q) xs) n ≡ known xs n
         → known (cond b (remains x (Some q) ++ xs) (x ∷ changed m (Some q) xs)) n ≡ known (x ∷ xs) n
     go true h = over (eqb x.number n)
       where
-        over : (b : Bool) → is_some (cond b (Some (order_held (with_quantity x q)))
-            (look order_number order_held xs n))
-            ≡ is_some (cond b (Some (order_held x)) (look order_number order_held xs n))
+        over : (b : Bool) → is_some (cond b (Some (with_quantity x q)) (order_in xs n))
+            ≡ is_some (cond b (Some x) (order_in xs n))
         over true = refl
         over false = refl
-    go false h = more (eqb x.number n) (look order_number order_held (changed m (Some q) xs) n)
-        (look order_number order_held xs n) h
+    go false h = more (eqb x.number n) (order_in (changed m (Some q) xs) n) (order_in xs n) h
 
 mid_known : (xs ys : List Order) (o : Order) → known (xs ++ o ∷ ys) o.number ≡ true
 mid_known [] ys o = ap is_some (cond-true (eqb o.number o.number) _ _ (eq-eqb o.number o.number refl))
 mid_known (x ∷ xs) ys o = go (eqb x.number o.number) (mid_known xs ys o)
   where
     go : (b : Bool) → known (xs ++ o ∷ ys) o.number ≡ true
-        → is_some (cond b (Some (order_held x)) (look order_number order_held (xs ++ o ∷ ys) o.number)) ≡ true
+        → is_some (cond b (Some x) (order_in (xs ++ o ∷ ys) o.number)) ≡ true
     go true h = refl
     go false h = h
 

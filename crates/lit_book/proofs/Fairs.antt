@@ -42,14 +42,12 @@ absent_before xs ys o u =
 absent_back : (xs ys : List Order) (n : ℕ) → Absent (xs ++ ys) n → Absent ys n
 absent_back [] ys n h = h
 absent_back (x ∷ xs) ys n h =
-    absent_back xs ys n (passes order_number order_held (eqb x.number n) (order_held x)
-    (look order_number order_held (xs ++ ys) n) h).1
+    absent_back xs ys n (passes order_number order_held x (xs ++ ys) n h).1
 
 mid_in : (xs ys : List Order) (o : Order) → Absent xs o.number → order_in (xs ++ o ∷ ys) o.number ≡ Some o
 mid_in [] ys o h = cond-true (eqb o.number o.number) _ _ (eq-eqb o.number o.number refl)
 mid_in (x ∷ xs) ys o h =
-    let p = passes order_number order_held (eqb x.number o.number) (order_held x)
-    (look order_number order_held xs o.number) h in
+    let p = passes order_number order_held x xs o.number h in
     cond-false (eqb x.number o.number) _ _ p.0 ∙ mid_in xs ys o p.1
 
 mid_before : (xs ys : List Order) (o : Order) → Absent xs o.number → before o.number (xs ++ o ∷ ys) ≡ xs
@@ -57,8 +55,7 @@ mid_before [] ys o h =
     take_while-cons (λ (x : Order). not (nat_eq x.number o.number)) o ys
     ∙ cond-false (not (nat_eq o.number o.number)) _ _ (ap not (eq-eqb o.number o.number refl))
 mid_before (x ∷ xs) ys o h =
-    let p = passes order_number order_held (eqb x.number o.number) (order_held x)
-    (look order_number order_held xs o.number) h in
+    let p = passes order_number order_held x xs o.number h in
     take_while-cons (λ (y : Order). not (nat_eq y.number o.number)) x (xs ++ o ∷ ys)
     ∙ cond-true (not (nat_eq x.number o.number)) _ _ (ap not p.0)
     ∙ ap (λ (l : List Order). x ∷ l) (mid_before xs ys o p.1)

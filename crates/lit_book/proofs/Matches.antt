@@ -1,5 +1,5 @@
 -- Two orders that trade: both are open, they differ, and they are of one instrument. Assumes nothing.
-use Rattle.std.specs.Prelude.{◌≡◌, ℕ, zero, suc, ◌-◌, ◌<◌, ◌≤◌, true, false, cond, List, [], ◌∷◌, length, get_or, take, drop, is_some, Some, None, Option, refl}
+use Rattle.std.specs.Prelude.{◌≡◌, ℕ, zero, suc, ◌-◌, ◌<◌, ◌≤◌, true, false, List, [], ◌∷◌, length, get_or, take, drop, is_some, Some, None, Option, refl}
 use Rattle.std.proofs.Common.{eqb, ltb, sym, ap, ◌∙◌, subst, arith}
 use Rattle.std.proofs.lemmas.List.{get_or-take, length-take-le}
 use Rattle.std.proofs.lemmas.Bool.{and_parts, cond_both, cond-false, eqb-false, eqb-true, ne_eqb}
@@ -9,7 +9,7 @@ use Rattle.std.specs.Option.{option_map}
 use Rattle.std.proofs.lemmas.Bool.{cond-true}
 use Rattle.keyed.specs.Look.{Distinct}
 use Rattle.keyed.proofs.Keyed.{put-apart}
-use Rattle.keyed.proofs.Looks.{distinct_from, look_at, passes}
+use Rattle.keyed.proofs.Looks.{distinct_from, look_at, look_past, passes}
 use Rattle.matching.specs.Meaning.{Allowed, Meaning, filled, instrument_of, left, quantity_of, resized, with_order}
 use Rattle.matching.specs.declared.matcher.Held.{Held}
 use Rattle.matching.specs.declared.event.Event.TheVariants.{Trade}
@@ -35,7 +35,7 @@ found_in (x ∷ xs) (suc i) o u lt read =
     let f = found_in xs i o u.1 (omega arith) read in
     let held = look_at order_number order_held xs i o.number o f.0 f.1 f.2 in
     let ne : eqb x.number o.number ≡ false = ne_eqb _ _ (λ q. some_none _ (sym u.0 ∙ ap (at xs) q ∙ held)) in
-    (lt, cond-false (eqb x.number o.number) _ _ ne ∙ f.1, f.2)
+    (lt, look_past order_number order_held x (take i xs) o.number ne ∙ f.1, f.2)
 
 pub own_place : (xs : List Order) (i : ℕ) (o : Order) → all_apart xs ≡ true → i < length xs → o ≡ get_or xs i o
     → FoundOrder xs o.number (Some i)
@@ -84,10 +84,9 @@ matched xs k i a o le u h e b read =
     let is : best a (take k xs) ≡ Some o = b.1 o ∙ ap Some (get_or-take k xs i o lt ∙ sym read) in
     let f = own_place xs i o u (omega arith) read in
     let gone : at (drop k xs) o.number ≡ None = rest_absent xs i k o.number d f lt in
-    let off : cond (eqb a.number o.number) (Some (order_held a)) (at (drop 1 (drop k xs)) o.number)
-    ≡ None = ap (λ (l : List Order). at l o.number) (sym (head_is (drop k xs) a e)) ∙ gone in
-    let ne = (passes order_number order_held (eqb a.number o.number) (order_held a)
-    (at (drop 1 (drop k xs)) o.number) off).0 in
+    let off : at (a ∷ drop 1 (drop k xs)) o.number ≡ None =
+    ap (λ (l : List Order). at l o.number) (sym (head_is (drop k xs) a e)) ∙ gone in
+    let ne = (passes order_number order_held a (drop 1 (drop k xs)) o.number off).0 in
     let c = (best_some a o (take k xs) is).crossed in
     record {
       best = is;

@@ -1,5 +1,6 @@
 -- Laws of the book, in the words of a trader. Assumes nothing.
-use Rattle.std.specs.Prelude.{◌≡◌, ℕ, zero, suc, ◌+◌, ◌<◌, Bool, true, false, not, ◌&&◌, List, [], ◌∷◌, ◌++◌, length, pos, Some, None, MatchOption, ◌==◌, slice_index_or}
+use Rattle.std.specs.Prelude.{◌≡◌, ℕ, ◌+◌, ◌<◌, Bool, true, false, not, ◌&&◌, List, [], ◌∷◌, ◌++◌, length, pos, Some, None, MatchOption, ◌==◌, slice_index_or}
+use Rattle.std.specs.Fn.{iterate}
 use Rattle.std.specs.List.{All, take_while}
 use Rattle.codes.specs.declared.order.Side.{Side}
 use Rattle.codes.specs.declared.order.Side.TheVariants.{Buy, Sell}
@@ -77,8 +78,7 @@ open_orders b = length b.resting + length b.waiting
 
 -- the book after so many events
 abbrev pub after_events : ℕ → Lit → Lit
-after_events zero b = b
-after_events (suc n) b = after_events n (next b).1
+after_events n b = iterate (λ (x : Lit). (next x).1) n b
 
 -- n events are enough: then there is none
 abbrev pub Enough : ℕ → Lit → Type 0

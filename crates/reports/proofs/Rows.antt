@@ -1,12 +1,12 @@
 -- What a change of the rows does to what is known.
 use Rattle.std.specs.Prelude.{IfSome, position, slice_index_or, slice_set}
-use Rattle.std.proofs.Common.{◌≡◌, ℕ, zero, suc, ◌==◌, ◌<◌, ◌≤◌, Bool, true, false, cond, eqb, List, [], ◌∷◌, ◌++◌, length, Some, None, Ok, Err, Option, sym, refl, ap, ◌∙◌, arith}
+use Rattle.std.proofs.Common.{◌≡◌, ℕ, zero, suc, ◌==◌, ◌<◌, ◌≤◌, Bool, true, false, eqb, List, [], ◌∷◌, ◌++◌, length, Some, None, Ok, Err, Option, sym, refl, ap, ◌∙◌, arith}
 use Rattle.std.specs.List.{slice_get}
 use Rattle.std.specs.FinMap.{get, len}
 use Rattle.std.proofs.lemmas.Bool.{cond-true, cond-false, eqb-true, eq-eqb, lt-ltb, le-ltb}
 use Rattle.keyed.specs.Look.{Found, look}
 use Rattle.keyed.proofs.Keyed.{position-found, get-keyed, keyed_at, keyed-set, keyed-push, len-keyed}
-use Rattle.keyed.proofs.Looks.{distinct_from, distinct-to, distinct_push, distinct-set}
+use Rattle.keyed.proofs.Looks.{look_here, look_past, distinct_from, distinct-to, distinct_push, distinct-set}
 use Rattle.codes.specs.declared.session.Partition.{Partition}
 use Rattle.limits.specs.declared.TheConstants.{ORDERS}
 use Rattle.reports.specs.declared.standing.Standing.{Standing}
@@ -96,19 +96,20 @@ pub known-nth : (ks : List Known) (i : ℕ) (k : Known) → Once ks → slice_ge
     → look number_of standing_of ks k.number ≡ Some k.standing
 known-nth [] i k u e = absurd (let z : ◌≡◌ {A = ℕ} 0 1 = cc in let no : ⊥ = omega arith in no)
 known-nth (x ∷ ks) zero k u e =
-    let same : x ≡ k = cc in cond-true _ _ _ (eq-eqb x.number k.number (ap number_of same)) ∙ ap
+    let same : x ≡ k = cc in
+    look_here number_of standing_of x ks k.number (eq-eqb x.number k.number (ap number_of same)) ∙ ap
     (λ (y : Known). Some y.standing) same
 known-nth (x ∷ ks) (suc i) k (new, u) e =
     let rest = known-nth ks i k u e in
     by-test (eqb x.number k.number) refl rest
   where
     by-test : (b : Bool) → eqb x.number k.number ≡ b → look number_of standing_of ks k.number ≡ Some k.standing
-        → cond b (Some x.standing) (look number_of standing_of ks k.number) ≡ Some k.standing
+        → look number_of standing_of (x ∷ ks) k.number ≡ Some k.standing
     by-test true same there =
         absurd (let n : ◌≡◌ {A = Option Standing} None (Some k.standing) = sym
         (ap (look number_of standing_of ks) (sym (eqb-true _ _ same)) ∙ new) ∙ there in let z : ◌≡◌ {A = ℕ} 0 1 = cc in
         let no : ⊥ = omega arith in no)
-    by-test false same there = there
+    by-test false same there = look_past number_of standing_of x ks k.number same ∙ there
 
 known_at : (ks : List Known) (i : ℕ) (k : Known) → each_once ks ≡ true → Some k ≡ slice_get ks i
     → get (known ks) k.number ≡ Some k.standing

@@ -1,5 +1,5 @@
 -- A field of any form: reading undoes writing, and writing undoes reading. Assumes nothing.
-use Rattle.std.proofs.Common.{◌&&◌, ◌≡◌, ℕ, ◌^◌, ◌<◌, Bool, true, false, cond, eqb, ltb, List, [], ◌∷◌, replicate, ℤ, is_some, Some, None, Option, sym, refl, ap, ◌∙◌, arith, w8, w32, w64, SFits, to_z, of_z, ltb-true, lt-ltb, eqb-true}
+use Rattle.std.proofs.Common.{◌&&◌, ◌||◌, ◌≡◌, ℕ, ◌^◌, ◌<◌, Bool, true, false, cond, eqb, ltb, List, [], ◌∷◌, replicate, ℤ, is_some, Some, None, Option, sym, refl, ap, ◌∙◌, arith, w8, w32, w64, SFits, to_z, of_z, ltb-true, lt-ltb, eqb-true}
 use mir.Val.{bits}
 use mir.Facts.{Fits-of_z}
 use mir.Syntax.{Width}
@@ -29,7 +29,7 @@ small_lists : (cs : Codes) → small (listed cs) ≡ true
 small_lists list.Sides = refl
 small_lists cs = refl
 
-member_by : (b : Bool) (n v : ℕ) (vs : List ℕ) → eqb n v ≡ b → cond b true (member n vs) ≡ true → v < 256
+member_by : (b : Bool) (n v : ℕ) (vs : List ℕ) → eqb n v ≡ b → (b || member n vs) ≡ true → v < 256
     → (member n vs ≡ true → n < 256) → n < 256
 member_by true n v vs e h l k = let q = eqb-true n v e in omega arith
 member_by false n v vs e h l k = k h
