@@ -1,7 +1,10 @@
 -- What is kept over a list of changes of one order. Assumes nothing.
-use Rattle.std.proofs.Common.{◌≡◌, ℕ, true, List, [], ◌∷◌, Some, None, refl, arith, subst, leb-true, ltb-true}
-use Rattle.std.specs.Prelude.{is_none, nat_le, nat_lt}
-use Rattle.std.proofs.lemmas.Bool.{and_parts}
+use Rattle.std.proofs.Common.{◌≡◌, ℕ, ◌+◌, true, List, [], ◌∷◌, Some, None, Option, refl, ap, ◌∙◌, arith, subst, leb-true, ltb-true}
+use Rattle.std.specs.Prelude.{is_none, nat_le, nat_lt, slice_get, sum_by}
+use Rattle.std.proofs.lemmas.Bool.{and_parts, cond-true}
+use Rattle.std.proofs.lemmas.List.Sums.{sum_by-cons, take_while-cons}
+use Rattle.std.specs.List.{cons_option, filter_map, take_while}
+use Rattle.std.specs.Option.{unwrap_or}
 use Rattle.limits.specs.declared.TheConstants.{SHARES}
 use Rattle.orders.specs.declared.row.Row.{Row}
 use Rattle.orders.specs.declared.row.Terms.{Terms}
@@ -11,7 +14,7 @@ use Rattle.orders.specs.Orders.{fillable, undoable, replace_fault}
 use Rattle.changes.specs.declared.change.Change.{Change}
 use Rattle.changes.specs.declared.change.Change.TheVariants.{Accept, Replace, Withdraw, Fill, Undo}
 use Rattle.changes.specs.Changes.{after}
-use Rattle.changes.specs.Laws.{Makes, Conserved, Conserves, all_filled, all_undone}
+use Rattle.changes.specs.Laws.{Makes, Conserved, Conserves, accepted_by, all_filled, all_undone, filled_by, last_accepted, undone_by, undone_since}
 use Rattle.changes.proofs.Orderly.{figures, orderly_from, allowed, replaceable}
 
 none_made : (n : ℕ) (cs : List Change) → Makes n cs None → (all_filled cs ≡ 0) × (all_undone cs ≡ 0)
@@ -27,6 +30,16 @@ accepts n t a cs m o =
       executed = omega (arith, z.0, z.1);
       orderly = orderly_from (accepted n t a) (record { sum = omega arith; limit = l; whole = λ h. (refl, refl) });
     }
+
+-- a change that accepts nothing leaves the newest quantity, and what was undone since it grows by what it undoes
+carried : (c : Change) (cs : List Change) → accepted_by c ≡ None → (last_accepted (c ∷ cs) ≡ last_accepted cs)
+    × (undone_since (c ∷ cs) ≡ undone_by c + undone_since cs)
+carried c cs h =
+    let on = λ (d : Change). is_none (accepted_by d) in (
+      ap (λ (q : Option ℕ). unwrap_or (slice_get (cons_option q (filter_map accepted_by cs)) 0) 0) h,
+      ap (sum_by undone_by) (take_while-cons on c cs ∙ cond-true (on c) _ _ (ap is_none h))
+          ∙ sum_by-cons undone_by c (take_while on cs),
+    )
 
 steps : (n : ℕ) (c : Change) (cs : List Change) (b r : Row) → Conserved cs b → after n c (Some b) ≡ Some r
     → Conserved (c ∷ cs) r
@@ -44,8 +57,9 @@ steps n (Replace a) cs b r k h =
 steps n (Withdraw e c) cs b r k h =
     let q = allowed (nat_lt 0 b.leaves) _ _ h in
     let f = figures b k.orderly in
+    let w = carried (Withdraw e c) cs refl in
     subst (Conserved (Withdraw e c ∷ cs)) q.1 (record {
-      accepted = omega (arith, k.accepted);
+      accepted = omega (arith, k.accepted, w.0, w.1);
       executed = omega (arith, k.executed);
       orderly = orderly_from (ended e b) (record {
         sum = omega (arith, f.sum);
@@ -60,9 +74,11 @@ steps n (Fill g) cs b r k h =
     let p = and_parts (nat_lt 0 g.quantity) (nat_le g.quantity b.leaves) q.0 in
     let l = leb-true g.quantity b.leaves p.1 in
     let m = ltb-true 0 g.quantity p.0 in
+    let w = carried (Fill g) cs refl in
+    let more = sum_by-cons filled_by (Fill g) cs in
     subst (Conserved (Fill g ∷ cs)) q.1 (record {
-      accepted = omega (arith, k.accepted, l);
-      executed = omega (arith, k.executed);
+      accepted = omega (arith, k.accepted, l, w.0, w.1);
+      executed = omega (arith, k.executed, more);
       orderly = orderly_from (filled g.quantity b)
           (record { sum = omega (arith, f.sum, l); limit = f.limit; whole = λ x. f.whole (omega (arith, l, m)) });
     })
@@ -71,9 +87,11 @@ steps n (Undo u) cs b r k h =
     let f = figures b k.orderly in
     let p = and_parts (nat_lt 0 u.quantity) (nat_le u.quantity b.executed) q.0 in
     let l = leb-true u.quantity b.executed p.1 in
+    let w = carried (Undo u) cs refl in
+    let more = sum_by-cons undone_by (Undo u) cs in
     subst (Conserved (Undo u ∷ cs)) q.1 (record {
-      accepted = omega (arith, k.accepted, l);
-      executed = omega (arith, k.executed, l);
+      accepted = omega (arith, k.accepted, l, w.0, w.1);
+      executed = omega (arith, k.executed, l, more);
       orderly = orderly_from (undone u.quantity b)
           (record { sum = omega (arith, f.sum, l); limit = omega (arith, f.limit); whole = f.whole });
     })

@@ -1,7 +1,8 @@
 -- What the changes keep, in words. Assumes nothing.
-use Rattle.std.specs.Prelude.{◌≡◌, ℕ, ◌+◌, ◌<◌, true, List, [], ◌∷◌, Some, None, Ok, Err, Option, Result, IfSome, is_some}
+use Rattle.std.specs.Prelude.{◌≡◌, ℕ, ◌+◌, ◌<◌, true, List, [], ◌∷◌, Some, None, Ok, Err, Option, Result, IfSome, is_none, is_some, slice_get, sum_by}
 use Rattle.std.specs.FinMap.{get, insert, len}
-use Rattle.std.specs.Option.{option_map}
+use Rattle.std.specs.List.{filter_map, fold as fold_each, take_while}
+use Rattle.std.specs.Option.{option_map, unwrap_or}
 use Rattle.codes.specs.declared.session.Partition.{Partition}
 use Rattle.limits.specs.declared.TheConstants.{ORDERS}
 use Rattle.orders.specs.declared.row.Row.{Row}
@@ -14,7 +15,7 @@ use Rattle.reports.specs.Changes.{stands}
 use Rattle.reports.specs.Fold.{Knowledge, fold}
 use Rattle.reports.specs.Told.{told_of}
 use Rattle.changes.specs.declared.change.Change.{Change}
-use Rattle.changes.specs.declared.change.Change.TheVariants.{Accept, Replace, Withdraw, Fill, Undo}
+use Rattle.changes.specs.declared.change.Change.TheVariants.{Accept, Replace, Fill, Undo}
 use Rattle.changes.specs.declared.change.Told.{Told}
 use Rattle.changes.specs.Changes.{after}
 use Rattle.changes.specs.Telling.{report_of, restated_of}
@@ -34,10 +35,12 @@ abbrev pub reports_of : Told → Change → Row → List ExecutionReport
 reports_of t c r = and_also (report_of t c r) (restated_of t c r)
 
 -- reports folded in turn, up to the first that is refused
+abbrev pub fold_one : Partition → Result Knowledge FoldRefusal → ExecutionReport → Result Knowledge FoldRefusal
+fold_one p (Ok k) e = fold p (told_of (Execution e)) k
+fold_one p (Err x) e = Err x
+
 abbrev pub fold_all : Partition → List ExecutionReport → Result Knowledge FoldRefusal → Result Knowledge FoldRefusal
-fold_all p [] k = k
-fold_all p (e ∷ es) (Ok k) = fold_all p es (fold p (told_of (Execution e)) k)
-fold_all p (e ∷ es) (Err x) = Err x
+fold_all p es k = fold_each (fold_one p) k es
 
 -- what an owner knows of an order that is the row b, and has room for one that is none yet
 pub record Knows (p : Partition) (n : ℕ) (b : Option Row) (k : Knowledge) : Type 0 where
@@ -56,40 +59,34 @@ abbrev pub Makes : ℕ → List Change → Option Row → Type 0
 Makes n [] b = b ≡ None
 Makes n (c ∷ cs) b = (a : Option Row) × Makes n cs a × (after n c a ≡ b) × (is_some b ≡ true)
 
+-- the quantity that a change accepts, that it fills, and that it undoes
+abbrev pub accepted_by : Change → Option ℕ
+accepted_by (Accept t a) = Some a.quantity
+accepted_by (Replace a) = Some a.quantity
+accepted_by c = None
+
+abbrev pub filled_by : Change → ℕ
+filled_by (Fill f) = f.quantity
+filled_by c = 0
+
+abbrev pub undone_by : Change → ℕ
+undone_by (Undo u) = u.quantity
+undone_by c = 0
+
 -- the quantity of the newest accept or replace
 abbrev pub last_accepted : List Change → ℕ
-last_accepted [] = 0
-last_accepted (Accept t a ∷ cs) = a.quantity
-last_accepted (Replace a ∷ cs) = a.quantity
-last_accepted (Withdraw e c ∷ cs) = last_accepted cs
-last_accepted (Fill f ∷ cs) = last_accepted cs
-last_accepted (Undo u ∷ cs) = last_accepted cs
+last_accepted cs = unwrap_or (slice_get (filter_map accepted_by cs) 0) 0
 
 -- what was undone since
 abbrev pub undone_since : List Change → ℕ
-undone_since [] = 0
-undone_since (Accept t a ∷ cs) = 0
-undone_since (Replace a ∷ cs) = 0
-undone_since (Withdraw e c ∷ cs) = undone_since cs
-undone_since (Fill f ∷ cs) = undone_since cs
-undone_since (Undo u ∷ cs) = u.quantity + undone_since cs
+undone_since cs = sum_by undone_by (take_while (λ c. is_none (accepted_by c)) cs)
 
 -- all that was filled, and all of it that was undone
 abbrev pub all_filled : List Change → ℕ
-all_filled [] = 0
-all_filled (Accept t a ∷ cs) = all_filled cs
-all_filled (Replace a ∷ cs) = all_filled cs
-all_filled (Withdraw e c ∷ cs) = all_filled cs
-all_filled (Fill f ∷ cs) = f.quantity + all_filled cs
-all_filled (Undo u ∷ cs) = all_filled cs
+all_filled cs = sum_by filled_by cs
 
 abbrev pub all_undone : List Change → ℕ
-all_undone [] = 0
-all_undone (Accept t a ∷ cs) = all_undone cs
-all_undone (Replace a ∷ cs) = all_undone cs
-all_undone (Withdraw e c ∷ cs) = all_undone cs
-all_undone (Fill f ∷ cs) = all_undone cs
-all_undone (Undo u ∷ cs) = u.quantity + all_undone cs
+all_undone cs = sum_by undone_by cs
 
 pub record Conserved (cs : List Change) (r : Row) : Type 0 where
   pub accepted : last_accepted cs ≡ r.executed + r.leaves + r.withdrawn + undone_since cs

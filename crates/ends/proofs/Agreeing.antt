@@ -1,5 +1,5 @@
 -- That both ends agree after every log that the line allows. Assumes nothing.
-use Rattle.std.specs.Prelude.{slice_index_or, drop, replicate, nat_lt, IfOk}
+use Rattle.std.specs.Prelude.{slice_index_or, drop, fold, replicate, nat_lt, IfOk}
 use Rattle.std.specs.List.{list_any}
 use Rattle.std.specs.Str.{bytes_eq}
 use Rattle.std.proofs.Common.{◌≡◌, ◌≢◌, ◌⊎◌, inl, inr, ℕ, zero, suc, ◌<◌, ◌≤◌, max, Bool, true, false, cond, eqb, ◌||◌, List, [], ◌∷◌, ◌++◌, Some, None, Ok, Err, Option, Result, length, take, refl, sym, ap, ◌∙◌, subst, arith}
@@ -14,6 +14,7 @@ use Rattle.ends.proofs.Flights.{Passed}
 use Rattle.ends.proofs.Follows.{up_of, to_up, to_ready, to_away, Went, same_ok, ok_err, given_live_keeps, given_recovered_keeps}
 use Rattle.ends.proofs.Keeping.{Keeps, Phase, Ready, Up, Still, Staged, Sided, SidedBy, Taking, Flowing}
 use Rattle.ends.proofs.Living.{place_in, tallied_as}
+use Rattle.ends.proofs.Refusals.{refused_stays}
 use Rattle.ends.proofs.Requested.{request_long}
 use Rattle.ends.proofs.Serves.{quietly, real_time, recovery, sends_on, recovers_on}
 use Rattle.ends.specs.Agreement.{Agrees, AllTaken, SameOrders, Taken, Takes, HeardAs, Took, is_hers, is_unfit, place, refuses_report}
@@ -482,10 +483,20 @@ call_keeps c s d x t (done.Recovered m r) w e x' k (h, a, q) told sound few ok =
 
 -- ---- any log
 
--- the line goes on behind a call that it allows
-pub went_on : (r : Went) (f : Line → Went) (l : Line) → onward r f ≡ Ok l → (x : Line) × (r ≡ Ok x) × (f x ≡ Ok l)
-went_on (Ok x) f l h = (x, refl, h)
-went_on (Err b) f l h = absurd cc
+-- a log that is allowed was allowed up to each call
+went_on : (c : ℕ) (r : Went) (xs : List Done) (l : Line) → fold (onward c) r xs ≡ Ok l
+    → (x : Line) × (r ≡ Ok x) × (after_log c xs x ≡ Ok l)
+went_on c (Ok x) xs l h = (x, refl, h)
+went_on c (Err b) xs l h =
+    absurd (let z : Err b ≡ Ok l = sym (refused_stays c b xs) ∙ h in cc)
+
+-- what one of the calls gave was given by the first of them or by one behind it
+took_one : (p : Partition) (n : ℕ) (x : Done) (xs : List Done) → Took p n (x ∷ xs) → Takes p n x ⊎ Took p n xs
+took_one p n x xs (zero, y, l, e, h) = inl (subst (Takes p n) (sym e) h)
+took_one p n x xs (suc k, y, l, e, h) = inr (k, y, omega arith, e, h)
+
+took_none : (p : Partition) (n : ℕ) → Took p n [] → ⊥
+took_none p n (k, y, l, e, h) = omega arith
 
 both_false : (a b : Bool) → a ≡ false → b ≡ false → (a || b) ≡ false
 both_false false b h g = g
@@ -496,24 +507,23 @@ pub log_keeps : (c : ℕ) (xs : List Done) (s : State) (d : Desk) (x : Line) (t 
     × Keeps c w e l (λ p n. t p n ⊎ Took p n xs)
 log_keeps c [] s d x t w e l k (a, b) ok = (
   refl,
-  subst (λ y. Keeps c w e y (λ p n. t p n ⊎ ⊥)) (same_ok x l (Ok x) refl ok)
-      (subst (λ y. Keeps c y e x (λ p n. t p n ⊎ ⊥)) (sym a)
-      (subst (λ y. Keeps c s y x (λ p n. t p n ⊎ ⊥)) (sym b)
-      (keeps_taken c s d x t (λ p n. t p n ⊎ ⊥) (no_more t (λ p n. ⊥) (λ p n i. i)) k))),
+  subst (λ y. Keeps c w e y (λ p n. t p n ⊎ Took p n [])) (same_ok x l (Ok x) refl ok)
+      (subst (λ y. Keeps c y e x (λ p n. t p n ⊎ Took p n [])) (sym a)
+      (subst (λ y. Keeps c s y x (λ p n. t p n ⊎ Took p n [])) (sym b)
+      (keeps_taken c s d x t (λ p n. t p n ⊎ Took p n []) (no_more t (λ p n. Took p n []) took_none) k))),
 )
 log_keeps c (z ∷ xs) s d x t w e l k (u, f, does, tells, sound, few, tied, rest) ok =
-    let (y, h, g) = went_on (after_call c z x) (λ i. after_log c xs i) l ok in
+    let (y, h, g) = went_on c (after_call c z x) xs l ok in
     let (fits, kept) = call_keeps c s d x t z u f y k does tells sound few h in
     let (all, keeps) = log_keeps c xs u f y (λ p n. t p n ⊎ Takes p n z) w e l kept rest g in (
       both_false (refuses_report z) (list_any refuses_report xs) fits all,
-      keeps_taken c w e l (λ p n. (t p n ⊎ Takes p n z) ⊎ Took p n xs) (λ p n. t p n ⊎ (Takes p n z ⊎ Took p n xs))
-          (λ p n i. either (t p n) (Takes p n z) (Took p n xs) i) keeps,
+      keeps_taken c w e l (λ p n. (t p n ⊎ Takes p n z) ⊎ Took p n xs) (λ p n. t p n ⊎ Took p n (z ∷ xs))
+          (λ p n i. either p n i) keeps,
     )
   where
-    either : (a b i : Type 0) → a ⊎ (b ⊎ i) → (a ⊎ b) ⊎ i
-    either a b i (inl h) = inl (inl h)
-    either a b i (inr (inl h)) = inl (inr h)
-    either a b i (inr (inr h)) = inr h
+    either : (p : Partition) (n : ℕ) → t p n ⊎ Took p n (z ∷ xs) → (t p n ⊎ Takes p n z) ⊎ Took p n xs
+    either p n (inl h) = inl (inl h)
+    either p n (inr h) = elim (took_one p n z xs h) [ inl g ↦ inl (inr g) | inr g ↦ inr g ]
 
 -- ---- the start
 

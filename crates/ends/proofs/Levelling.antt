@@ -1,8 +1,9 @@
 -- That a partition is level behind the complete end of its download. Assumes nothing.
 use Rattle.std.proofs.Common.{◌≡◌, ◌⊎◌, ℕ, true, false, cond, List, [], ◌∷◌, ◌++◌, Ok, Err, Result, refl, sym, ap, ◌∙◌, subst}
+use Rattle.std.proofs.lemmas.List.Sums.{fold_push}
 use Rattle.codes.specs.declared.session.Partition.{Partition}
 use Rattle.codes.specs.declared.session.ReportResponse.TheVariants.{Complete}
-use Rattle.ends.proofs.Agreeing.{log_keeps, begun, went_on}
+use Rattle.ends.proofs.Agreeing.{log_keeps, begun}
 use Rattle.ends.proofs.Carrying.{at_written}
 use Rattle.ends.proofs.Follows.{Went, given_recovered_keeps}
 use Rattle.ends.proofs.Keeping.{Keeps}
@@ -28,13 +29,12 @@ use Rattle.reports.specs.declared.standings.FoldRefusal.{FoldRefusal}
 -- a log that the line allows is one that it allows up to its last call
 allowed_before : (c : ℕ) (xs : List Done) (x : Done) (l k : Line) → after_log c (xs ++ x ∷ []) l ≡ Ok k → (y : Line)
     × (after_log c xs l ≡ Ok y) × (z : Line) × (after_call c x y ≡ Ok z)
-allowed_before c [] x l k e =
-    let (z, h, g) = went_on (after_call c x l) (λ i. after_log c [] i) k e in
-    (l, refl, z, h)
-allowed_before c (a ∷ xs) x l k e =
-    let (y, h, g) = went_on (after_call c a l) (λ i. after_log c (xs ++ x ∷ []) i) k e in
-    let (u, m, z, n) = allowed_before c xs x y k g in
-    (u, ap (λ (r : Went). onward r (λ i. after_log c xs i)) h ∙ m, z, n)
+allowed_before c xs x l k e =
+    let (y, h, g) = last_of (after_log c xs l) (sym (fold_push (onward c) (Ok l) xs x) ∙ e) in (y, h, k, g)
+  where
+    last_of : (r : Went) → onward c r x ≡ Ok k → (y : Line) × (r ≡ Ok y) × (after_call c x y ≡ Ok k)
+    last_of (Ok y) h = (y, refl, h)
+    last_of (Err b) h = absurd cc
 
 -- what was held was folded, so the partition is level
 fits_level : (f : Following) (p : Partition) (r : Result Reached FoldRefusal) → is_unfit (levelled f p r).answer

@@ -13,3 +13,4 @@ pub mod Serves
 pub mod Requested
 pub mod Agreeing
 pub mod Levelling
+pub mod Refusals

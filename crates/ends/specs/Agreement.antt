@@ -1,6 +1,6 @@
 -- What holds of both ends after every log that the line allows. Assumes nothing.
 use Rattle.std.specs.Prelude.{◌≡◌, ◌⊎◌, ℕ, Bool, true, false, List, [], ◌∷◌, ◌++◌, Ok, Err, Result}
-use Rattle.std.specs.List.{list_any}
+use Rattle.std.specs.List.{Any, list_any}
 use Rattle.std.specs.FinMap.{get}
 use Rattle.codes.specs.declared.session.Partition.{Partition}
 use Rattle.codes.specs.declared.session.ReportResponse.TheVariants.{Complete}
@@ -64,8 +64,7 @@ Takes p n d = ⊥
 
 -- and one of these calls did
 abbrev pub Took : Partition → ℕ → List Done → Type 0
-Took p n [] = ⊥
-Took p n (x ∷ xs) = Takes p n x ⊎ Took p n xs
+Took p n xs = Any (Takes p n) xs
 
 -- ---- the two ends
 

@@ -1,5 +1,5 @@
 -- What the line of a follower's CompID allows, told by the log of a run. Assumes nothing.
-use Rattle.std.specs.Prelude.{◌≡◌, ℕ, Bool, true, false, List, [], ◌∷◌, ◌++◌, pos, take, Some, None, Ok, Err, Option, Result, ◌==◌, if◌then◌else◌}
+use Rattle.std.specs.Prelude.{◌≡◌, ℕ, Bool, true, false, List, [], ◌∷◌, ◌++◌, fold, pos, take, Some, None, Ok, Err, Option, Result, ◌==◌, if◌then◌else◌}
 use Rattle.std.specs.List.{list_any}
 use Rattle.std.specs.Str.{bytes_eq}
 use Rattle.answers.specs.Bytes.{answer_bytes}
@@ -149,13 +149,13 @@ after_call c (done.Live m r) l = or_lost (is_full r) (given_live m.now (heard_in
 after_call c (done.Recovered m r) l = given_recovered m.now (heard_in m.now) l
 after_call c (done.Ask n r) l = Ok (after_ask r.answer r.buffer l)
 
-abbrev pub onward : Result Line Breach → (Line → Result Line Breach) → Result Line Breach
-onward (Ok l) f = f l
-onward (Err b) f = Err b
+-- one call more, where all before were allowed
+abbrev pub onward : ℕ → Result Line Breach → Done → Result Line Breach
+onward c (Ok l) x = after_call c x l
+onward c (Err b) x = Err b
 
 abbrev pub after_log : ℕ → List Done → Line → Result Line Breach
-after_log c [] l = Ok l
-after_log c (x ∷ xs) l = onward (after_call c x l) (λ k. after_log c xs k)
+after_log c xs l = fold (onward c) (Ok l) xs
 
 -- the line of a CompID allows a log
 abbrev pub Allowed : ℕ → List Done → Type 0

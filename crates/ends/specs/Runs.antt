@@ -1,5 +1,6 @@
 -- Runs of both ends. Assumes nothing.
-use Rattle.std.specs.Prelude.{◌≡◌, ℕ, ◌≤◌, true, false, List, [], ◌∷◌, length, replicate, IfOk}
+use Rattle.std.specs.Prelude.{◌≡◌, ℕ, ◌≤◌, true, false, List, [], ◌∷◌, length, replicate, Some, None, Option, IfOk}
+use Rattle.std.specs.List.{filter_map}
 use Rattle.call.specs.declared.both_ends.Call.{Call}
 use Rattle.call.specs.declared.both_ends.Call.TheVariants as call
 use Rattle.call.specs.declared.both_ends.Done.{Done}
@@ -70,7 +71,9 @@ Runs s d (x ∷ xs) w e =
     × Tied f.token f.follower × Runs u f xs w e
 
 -- the gateway's calls among them
+abbrev pub venue_call : Done → Option VenueDone
+venue_call (done.Venue v) = Some v
+venue_call x = None
+
 abbrev pub venue_log : List Done → List VenueDone
-venue_log [] = []
-venue_log (done.Venue v ∷ xs) = v ∷ venue_log xs
-venue_log (x ∷ xs) = venue_log xs
+venue_log xs = filter_map venue_call xs

@@ -37,6 +37,7 @@ use Rattle.requests.specs.declared.refusal.Turned.TheVariants.{NoPlace, UnknownI
 use Rattle.requests.specs.declared.replace.Replacement.{Replacement}
 use Rattle.texts.specs.Says.{says, kept}
 use Rattle.texts.specs.declared.values.Time.{Time}
+use Rattle.venue.proofs.Withdrawing.{withdrawn_more}
 use Rattle.venue.specs.Selection.{meant, picks_at, withdrawn_for, withdrawn_to, withdrawn_all}
 use Rattle.venue.specs.Steps.{accept_fault, expired_as, ledger_of, noted}
 use Rattle.venue.specs.View.{View}
@@ -240,8 +241,9 @@ to_moves : (p : Move → Type 0) (q : Row → Bool) (c : Cause) (t : Time) (n : 
 to_moves p q c t zero v may = still p v.rows
 to_moves p q c t (suc n) v may =
     let u = withdrawn_to q c t n v in
-    onward p v.rows u.rows _ (to_moves p q c t n v may)
-    (if_moves p (picks_at q (under u.rows (suc n))) c t (suc n) u may)
+    subst (λ (x : View). Moving p v.rows x.rows) (sym (withdrawn_more q c t n v))
+    (onward p v.rows u.rows _ (to_moves p q c t n v may)
+    (if_moves p (picks_at q (under u.rows (suc n))) c t (suc n) u may))
 
 pub all_moves : (p : Move → Type 0) (q : Row → Bool) (c : Cause) (t : Time) (v : View) → Withdrawals p
     → Moving p v.rows (withdrawn_all q c t v).rows

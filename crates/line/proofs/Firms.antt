@@ -68,6 +68,7 @@ use Rattle.texts.specs.Says.{says, kept}
 use Rattle.texts.specs.declared.fixed.FixedText.{FixedText}
 use Rattle.texts.specs.declared.identifiers.OrderId.{OrderId}
 use Rattle.texts.specs.declared.values.Time.{Time}
+use Rattle.venue.proofs.Withdrawing.{withdrawn_more}
 use Rattle.venue.specs.Flags.{is_firm}
 use Rattle.venue.specs.Ledger.{Ledger, rewritten}
 use Rattle.venue.specs.Selection.{meant, picks_at, withdrawn_for, withdrawn_to, withdrawn_all}
@@ -274,8 +275,9 @@ module _ (s : State) (line : ℕ) (sound : Sound s.venue) where
   ahead q c t zero v k h = refl
   ahead q c t (suc n) v k h =
       let u = withdrawn_to q c t n v in
-      apart_if (picks_at q (under u.rows (suc n))) c t (suc n) u k
-      (λ e. let no : ⊥ = omega arith in no) ∙ ahead q c t n v k (omega arith)
+      ap (λ (x : View). under x.rows k) (withdrawn_more q c t n v)
+      ∙ apart_if (picks_at q (under u.rows (suc n))) c t (suc n) u k (λ e. let no : ⊥ = omega arith in no)
+      ∙ ahead q c t n v k (omega arith)
 
   -- who is picked is of the firm
   abbrev Mine : (Row → Bool) → Type 0
@@ -308,9 +310,10 @@ module _ (s : State) (line : ℕ) (sound : Sound s.venue) where
       let u = withdrawn_to q c t n v in
       let was : under u.rows (suc n) ≡ under s.venue.rows (suc n) = ahead q c t n v (suc n) (omega arith) ∙ ap
       (λ (rows : List Row). under rows (suc n)) e in
-      onward Own v.rows u.rows _ (to_own q c t n v e mine)
+      subst (λ (x : View). Moving Own v.rows x.rows) (sym (withdrawn_more q c t n v))
+      (onward Own v.rows u.rows _ (to_own q c t n v e mine)
       (if_own (picks_at q (under u.rows (suc n))) c t (suc n) u
-      (λ h. subst (FirmOf s line) was (picked q (suc n) (under u.rows (suc n)) mine h)))
+      (λ h. subst (FirmOf s line) was (picked q (suc n) (under u.rows (suc n)) mine h))))
 
   all_own : (q : Row → Bool) (c : Cause) (t : Time) (v : View) → v.rows ≡ s.venue.rows → Mine q
       → Moving Own s.venue.rows (withdrawn_all q c t v).rows

@@ -63,6 +63,7 @@ use Rattle.sessions.specs.declared.session.RequestRefusal.{RequestRefusal}
 use Rattle.sessions.specs.declared.session.SessionState.{SessionState}
 use Rattle.texts.specs.Says.{says, kept}
 use Rattle.texts.specs.declared.values.Time.{Time}
+use Rattle.venue.proofs.Withdrawing.{withdrawn_more}
 use Rattle.venue.specs.Ledger.{Ledger, ledger, changed, entered}
 use Rattle.venue.specs.Selection.{meant, picks_at, withdrawn_for, withdrawn_to, withdrawn_all}
 use Rattle.venue.specs.Steps.{Leaves, accept_fault, expired_as, ledger_of, noted}
@@ -170,7 +171,8 @@ module _ (R : Ledger → Ledger → Type 0) (lines : ℕ) (leads : Leads R lines
     to_leads q c t zero v = leads.same (ledger_of v)
     to_leads q c t (suc n) v =
         let u = withdrawn_to q c t n v in
-        leads.then _ _ _ (to_leads q c t n v) (if_leads (picks_at q (under u.rows (suc n))) c t (suc n) u)
+        subst (From v) (sym (withdrawn_more q c t n v))
+        (leads.then _ _ _ (to_leads q c t n v) (if_leads (picks_at q (under u.rows (suc n))) c t (suc n) u))
 
     all_leads : (q : Row → Bool) (c : Cause) (t : Time) (v : View) → From v (withdrawn_all q c t v)
     all_leads q c t v = to_leads q c t (length v.rows) v

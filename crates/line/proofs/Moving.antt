@@ -1,5 +1,5 @@
 -- Changes of orders, one behind the other. Assumes nothing.
-use Rattle.std.specs.Prelude.{is_some}
+use Rattle.std.specs.Prelude.{is_some, filter, map, ◌==◌}
 use Rattle.std.proofs.Common.{◌≡◌, ℕ, zero, suc, ◌+◌, Bool, true, false, cond, eqb, List, [], ◌∷◌, ◌++◌, length, set, Some, None, Option, refl, sym, ap, ◌∙◌, subst, arith}
 use Rattle.std.proofs.lemmas.Bool.{eqb-true, eq-eqb}
 use Rattle.std.specs.List.{slice_get, AllByRecursion}
@@ -133,7 +133,7 @@ adds p rows s a o may = added_by p rows s a (length rows + 1) (omega arith) o ma
 
 one : (n : ℕ) (k : ℕ) (c : Change) (ms : List Move) (b : List Row) (x : List Row) (same : Bool) → eqb k n ≡ same
     → Moves (k, c) x b → Makes n (of n ms) (under x n)
-    → Makes n (cond same (c ∷ of n ms) (of n ms)) (under b n)
+    → Makes n (map (λ m. m.1) (cond same ((k, c) ∷ filter (λ m. m.0 == n) ms) (filter (λ m. m.0 == n) ms))) (under b n)
 one n k c ms b x true e m was =
     let is : k ≡ n = eqb-true k n e in (
       under x n,

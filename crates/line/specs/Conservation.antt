@@ -1,5 +1,5 @@
 -- What a run makes of the orders, and what is kept of each. Assumes nothing.
-use Rattle.std.specs.Prelude.{◌≡◌, ◌≢◌, ◌⊎◌, ℕ, List, [], ◌∷◌, ◌++◌, pos, Some, Ok, Option, Result, is_some, true, ◌==◌, if◌then◌else◌}
+use Rattle.std.specs.Prelude.{◌≡◌, ◌≢◌, ◌⊎◌, ℕ, List, [], ◌∷◌, ◌++◌, filter, map, pos, Some, Ok, Option, Result, is_some, true, ◌==◌}
 use Rattle.std.specs.List.{AllByRecursion}
 use Rattle.changes.specs.Changes.{after}
 use Rattle.changes.specs.Laws.{Conserved}
@@ -78,8 +78,7 @@ Made s (d ∷ ds) w ms =
 
 -- those of one order
 abbrev pub of : ℕ → List Move → List Change
-of n [] = []
-of n ((k, c) ∷ ms) = if k == n then c ∷ of n ms else of n ms
+of n ms = map (λ m. m.1) (filter (λ m. m.0 == n) ms)
 
 -- for every order: the quantity last accepted is what is executed, open and withdrawn of it, and what was undone since
 abbrev pub Conserves : State → List Done → State → Type 0

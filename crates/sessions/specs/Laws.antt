@@ -1,5 +1,5 @@
 -- What is handed out over many calls, while the store grows. Assumes nothing.
-use Rattle.std.specs.Prelude.{◌≡◌, ℕ, ◌+◌, ◌-◌, ◌≤◌, List, [], ◌∷◌, ◌++◌, length, map, take, filter, Some, None, Option, nat_le, ◌==◌, if◌then◌else◌}
+use Rattle.std.specs.Prelude.{◌≡◌, ℕ, ◌+◌, ◌-◌, ◌≤◌, List, [], ◌∷◌, ◌++◌, fold, length, map, take, filter, Some, None, Option, nat_le, ◌==◌, if◌then◌else◌}
 use Rattle.std.specs.List.{cons_option, filter_map, range_with_len}
 use Rattle.codes.specs.Session.{partition_code}
 use Rattle.codes.specs.declared.session.Partition.{Partition}
@@ -76,13 +76,11 @@ in_partition p (Some (q, n)) = if partition_code q == partition_code p then Some
 
 -- the marks after a call over each of the stores
 abbrev pub sent_by : ℕ → List Kept → PerPartition ℕ → PerPartition ℕ
-sent_by o [] sent = sent
-sent_by o (k ∷ ks) sent = sent_by o ks (sent_after k o sent)
+sent_by o ks sent = fold (λ marks k. sent_after k o marks) sent ks
 
 -- the last of the stores
 abbrev pub last_of : Kept → List Kept → Kept
-last_of k [] = k
-last_of k (k' ∷ ks) = last_of k' ks
+last_of k ks = fold (λ before next. next) k ks
 
 -- in each partition what was sent, and what then remains, are the owner's reports above the mark: in order, each once
 abbrev pub SendsEach : Type 0

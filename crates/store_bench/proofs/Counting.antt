@@ -8,6 +8,7 @@ use Rattle.std.proofs.lemmas.List.{map_push}
 use Rattle.codes.specs.declared.session.Partition.{Partition}
 use Rattle.codes.specs.declared.session.Partition.TheVariants.{One, Two, Three}
 use Rattle.reports.specs.declared.report.Entry.{Entry}
+use Rattle.keyed.proofs.Ranges.{fold_range}
 use Rattle.keyed.specs.Numbers.{under}
 use Rattle.partitions.proofs.Nexts.{next-from}
 use Rattle.partitions.specs.declared.per_partition.PerPartition.{PerPartition}
@@ -77,7 +78,7 @@ entry_there l n (Some x) lt e = refl
 
 below_more : (o : ℕ) (k : Kept) → owned_below (suc o) k ≡ owned_below o k + owned_in o k
 unfolding owned_below
-below_more o k = refl
+below_more o k = fold_range (λ (total n : ℕ). total + owned_in n k) 0 0 o o (omega arith)
 
 pub below_none : (k : Kept) → 0 ≡ owned_below 0 k
 unfolding owned_below
@@ -98,7 +99,8 @@ pub filled_more : (i : ℕ) (os now after : PerPartition (List ℕ)) → now ≡
 unfolding filled
 filled_more i os now after h e =
     let same : i + 1 ≡ suc i = omega arith in e ∙ ap (λ t. grown t (turn (i % 3)) (i % 8)) h ∙ sym
-    (ap (λ n. filled n os) same)
+    (ap (λ n. filled n os) same
+    ∙ fold_range (λ (t : PerPartition (List ℕ)) n. grown t (turn (n % 3)) (n % 8)) os 0 i i (omega arith))
 
 -- one report more, by its owner
 pub owners_grown : (k : Kept) (p : Partition) (e : Entry) → owners (grown k p e) ≡ grown (owners k) p e.owner

@@ -1,5 +1,6 @@
 -- A made-up day's reports by their owners, and how many are an owner's. Assumes nothing.
-use Rattle.std.specs.Prelude.{◌≡◌, ℕ, zero, suc, ◌+◌, ◌%◌, ◌<◌, ◌≤◌, List, length, drop, Some, None, Option, ◌==◌, count_by, sum_by}
+use Rattle.std.specs.Prelude.{◌≡◌, ℕ, zero, suc, ◌+◌, ◌%◌, ◌<◌, ◌≤◌, List, length, drop, Some, None, Option, ◌==◌, count_by, fold, sum_by}
+use Rattle.std.specs.List.{range_with_len}
 use Rattle.codes.specs.declared.session.Partition.{Partition}
 use Rattle.codes.specs.declared.session.Partition.TheVariants.{One, Two, Three}
 use Rattle.partitions.specs.declared.per_partition.PerPartition.{PerPartition}
@@ -21,8 +22,7 @@ owners k = mapped (λ e. e.owner) k
 
 -- the same after the day's first reports: eight owners in turn, three partitions in turn
 unfoldable pub filled : ℕ → PerPartition (List ℕ) → PerPartition (List ℕ)
-filled zero os = os
-filled (suc i) os = grown (filled i os) (turn (i % 3)) (i % 8)
+filled n os = fold (λ reports i. grown reports (turn (i % 3)) (i % 8)) os (range_with_len 0 n)
 
 -- the seconds on a report's clock
 abbrev pub seconds_of : Report → ℕ
@@ -47,8 +47,7 @@ owned_in o k = owned o k.one + owned o k.two + owned o k.three
 
 -- how many are of the first owners
 unfoldable pub owned_below : ℕ → Kept → ℕ
-owned_below zero k = 0
-owned_below (suc o) k = owned_below o k + owned_in o k
+owned_below n k = sum_by (λ o. owned_in o k) (range_with_len 0 n)
 
 -- the next number leaves out no report of the owner
 abbrev pub Counts : List Entry → ℕ → ℕ → Option ℕ → Type 0

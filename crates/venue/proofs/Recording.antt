@@ -105,7 +105,7 @@ module _ (p : Partition) (o : ℕ) where
   -- and his own
   own_fold : (k : Result Knowledge FoldRefusal) (es : List ExecutionReport) → told k (entries_of o es) ≡ fold_all p es k
   own_fold k [] = refl
-  own_fold (Err x) (e ∷ es) = refused_stays x (entries_of o es)
+  own_fold (Err x) (e ∷ es) = own_fold (Err x) es
   own_fold (Ok k) (e ∷ es) =
       ap (λ b. told (cond b (fold p (told_of (Execution e)) k) (Ok k)) (entries_of o es)) (eq-eqb o o refl) ∙ own_fold
       (fold p (told_of (Execution e)) k) es

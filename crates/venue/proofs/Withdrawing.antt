@@ -6,6 +6,7 @@ use Rattle.std.proofs.Common.{◌≡◌, ℕ, zero, suc, ◌+◌, ◌<◌, Bool,
 use Rattle.std.proofs.lemmas.Bool.{cond-true, and_parts}
 use Rattle.texts.specs.declared.values.Time.{Time}
 use Rattle.texts.specs.declared.fixed.FixedText.{FixedText}
+use Rattle.keyed.proofs.Ranges.{fold_range}
 use Rattle.keyed.specs.Numbers.{under}
 use Rattle.orders.specs.declared.row.Row.{Row}
 use Rattle.orders.specs.declared.row.Ending.{Ending}
@@ -73,6 +74,10 @@ if_apart true LineLost t n u f e = refl
 if_apart false c t n u f e = refl
 
 -- one order more
+pub withdrawn_more : (p : Row → Bool) (c : Cause) (t : Time) (n : ℕ) (v : View)
+    → withdrawn_to p c t (suc n) v ≡ withdrawn_if p c t (suc n) (withdrawn_to p c t n v)
+withdrawn_more p c t n v = fold_range (λ (u : View) i. withdrawn_if p c t i u) v 1 n (suc n) (omega arith)
+
 pub withdraws_more : (p : Row → Bool) (c : Cause) (t : Time) (i : ℕ) (v x y : View)
     → Withdraws v (withdrawn_to p c t i v) x
     → Withdraws x (withdrawn_if p c t (suc i) x) y → Withdraws v (withdrawn_to p c t (suc i) v) y
@@ -82,7 +87,7 @@ withdraws_more p c t i v x y before one =
     let fell' = one.fell in
     let places = before.places in
     let places' = one.places in
-    record {
+    subst (λ (z : View). Withdraws v z y) (sym (withdrawn_more p c t i v)) (record {
       state = one.state
           ∙ ap (λ (z : View). record (withdrawn_if p c t (suc i) z) { free = y.free; next = y.next }) before.state
           ∙ ap (λ (z : View). record z { free = y.free; next = y.next })
@@ -90,7 +95,7 @@ withdraws_more p c t i v x y before one =
           (withdrawn_to p c t i v) x.free x.next);
       fell = omega arith;
       places = omega arith;
-    }
+    })
 
 -- nor does a withdrawal change the instruments
 instruments_stay : (b : Bool) (c : Cause) (t : Time) (n : ℕ) (v : View)
@@ -103,7 +108,8 @@ pub same_instruments : (p : Row → Bool) (c : Cause) (t : Time) (n : ℕ) (v : 
     → (withdrawn_to p c t n v).instruments ≡ v.instruments
 same_instruments p c t zero v = refl
 same_instruments p c t (suc n) v =
-    instruments_stay (picks_at p (under (withdrawn_to p c t n v).rows (suc n))) c t (suc n)
+    ap (λ (z : View). z.instruments) (withdrawn_more p c t n v)
+    ∙ instruments_stay (picks_at p (under (withdrawn_to p c t n v).rows (suc n))) c t (suc n)
     (withdrawn_to p c t n v) ∙ same_instruments p c t n v
 
 -- one order more of a selection, whose instruments stay the same
@@ -122,8 +128,10 @@ to_apart : (p : Row → Bool) (c : Cause) (t : Time) (n : ℕ) (u : View) (f : �
     → withdrawn_to p c t n (record u { free = f; next = e }) ≡ record (withdrawn_to p c t n u) { free = f; next = e }
 to_apart p c t zero u f e = refl
 to_apart p c t (suc n) u f e =
-    ap (λ (z : View). withdrawn_if p c t (suc n) z) (to_apart p c t n u f e)
+    withdrawn_more p c t n (record u { free = f; next = e })
+    ∙ ap (λ (z : View). withdrawn_if p c t (suc n) z) (to_apart p c t n u f e)
     ∙ if_apart (picks_at p (under (withdrawn_to p c t n u).rows (suc n))) c t (suc n) (withdrawn_to p c t n u) f e
+    ∙ sym (ap (λ (z : View). record z { free = f; next = e }) (withdrawn_more p c t n u))
 
 pub withdrawn_apart : (p : Row → Bool) (c : Cause) (t : Time) (u : View) (f : ℕ) (e : Event)
     → withdrawn_all p c t (record u { free = f; next = e }) ≡ record (withdrawn_all p c t u) { free = f; next = e }
@@ -136,7 +144,8 @@ if_free false c t n v = refl
 to_free : (p : Row → Bool) (c : Cause) (t : Time) (n : ℕ) (v : View) → (withdrawn_to p c t n v).free ≡ v.free
 to_free p c t zero v = refl
 to_free p c t (suc n) v =
-    if_free (picks_at p (under (withdrawn_to p c t n v).rows (suc n))) c t (suc n)
+    ap (λ (z : View). z.free) (withdrawn_more p c t n v)
+    ∙ if_free (picks_at p (under (withdrawn_to p c t n v).rows (suc n))) c t (suc n)
     (withdrawn_to p c t n v) ∙ to_free p c t n v
 
 pub withdrawn_free : (p : Row → Bool) (c : Cause) (t : Time) (v : View) → (withdrawn_all p c t v).free ≡ v.free

@@ -1,6 +1,7 @@
 -- Open orders that are withdrawn together. Assumes nothing.
-use Rattle.std.specs.Prelude.{◌≡◌, ℕ, zero, suc, ◌+◌, ◌≤◌, Bool, true, false, not, ◌&&◌, ◌||◌, ◌==◌, List, Option}
-use Rattle.std.specs.Prelude.{length, slice_get, nat_lt, if◌then◌else◌}
+use Rattle.std.specs.Prelude.{◌≡◌, ℕ, ◌+◌, ◌≤◌, Bool, true, false, not, ◌&&◌, ◌||◌, ◌==◌, List, Option}
+use Rattle.std.specs.Prelude.{fold, length, slice_get, nat_lt, if◌then◌else◌}
+use Rattle.std.specs.List.{range_with_len}
 use Rattle.std.specs.Option.{option_map_or}
 use Rattle.configuration.specs.declared.instrument.Instrument.{Instrument as Listed}
 use Rattle.texts.specs.declared.values.Time.{Time}
@@ -53,8 +54,7 @@ withdrawn_if p c t n v = if picks_at p (under v.rows n) then withdrawn_for c t n
 
 -- those of the numbers up to one, by rising number
 abbrev pub withdrawn_to : (Row → Bool) → Cause → Time → ℕ → View → View
-withdrawn_to p c t zero v = v
-withdrawn_to p c t (suc n) v = withdrawn_if p c t (suc n) (withdrawn_to p c t n v)
+withdrawn_to p c t n v = fold (λ (u : View) i. withdrawn_if p c t i u) v (range_with_len 1 n)
 
 -- all of which p is true
 abbrev pub withdrawn_all : (Row → Bool) → Cause → Time → View → View
