@@ -2,3 +2,4 @@ pub mod Faults
 pub mod Holding
 pub mod Layout
 pub mod Writing
+pub mod Shapes

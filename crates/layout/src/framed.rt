@@ -1,8 +1,8 @@
 // What a message is to its reader and its writer, and the one reader and the one writer of all.
 ghost use Rattle.std.specs.Prelude.{◌≡◌, ◌≤◌, ℕ, true, List, length};
-ghost use Rattle.layout.specs.declared.field.Field.{Field as Fields};
-ghost use Rattle.layout.specs.Layout.{Content, Body, Checked, AllOk, Says, text_places, within};
-ghost use Rattle.layout.specs.Writing.{Wrote, over_all, tiled};
+ghost use Rattle.layout.specs.Layout.{Content, Body, Checked, AllOk, Says, text_places};
+ghost use Rattle.layout.specs.Shapes.{Laid, Shaped, fitting, laid};
+ghost use Rattle.layout.specs.Writing.{Wrote, over_all};
 ghost use Rattle.layout.specs.Holding.{HoldsIn};
 
 use crate::check::check;
@@ -22,37 +22,39 @@ pub struct Shape {
     pub table: &'static [Field],
 }
 
+impl Shape {
+    /// A type byte, how many bytes a message has, and its fields.
+    pub const fn new(letter: u8, total: u16, table: &'static [Field]) -> Shape
+        ensures { Shaped (laid letter total table.now) result }
+    {
+        Shape {
+            letter,
+            total,
+            table,
+        }
+    }
+}
+
 /// The layout of a message's bytes.
 pub trait Layout {
-    // the fields, one behind the other
-    ghost table: { List Fields };
-
-    // the byte that names the type
-    ghost letter: { ℕ };
-
-    // how many bytes a message has in all
-    ghost total: { ℕ };
+    // how such messages are laid out
+    ghost shape: { Laid };
 
     /// How such messages are laid out.
     fn shape() -> Shape
-        ensures letter { result.letter ≡ letter }
-        ensures total { result.total ≡ total }
-        ensures table { result.table.now ≡ table };
+        ensures { Shaped shape result };
 
     /// The check of all fields: the first that does not hold what its form asks for is refused.
     fn check(r: &Reader<'_>) -> Result<(), Fault>
-        requires { length r.now.src.now ≡ total }
-        ensures { Checked table r.now.src.now result }
+        requires { length r.now.src.now ≡ shape.total }
+        ensures { Checked shape.table r.now.src.now result }
     {
         let shape = Self::shape();
         check(shape.table, usize::from(shape.total), r)
     }
 
-    ghost inside: { within total table ≡ true };
-
-    ghost tiles: { tiled 4 total table ≡ true };
-
-    ghost headed: { 4 ≤ total };
+    // its fields fill it to the end behind the header, and each stands within it
+    ghost fits: { fitting shape ≡ true };
 }
 
 /// A message by its layout: what its fields hold, and where its texts stand.
@@ -67,22 +69,22 @@ pub trait Framed<'a>: Layout {
     fn fields(r: &Reader<'a>) -> Self
     where
         Self: Sized,
-        requires room { length r.now.src.now ≡ Self.total }
-        requires passed { AllOk Self.table r.now.src.now }
-        ensures says { Says (contents result) Self.table r.now.src.now }
-        ensures placed { places result ≡ text_places Self.table r.now.src.now };
+        requires room { length r.now.src.now ≡ Self.shape.total }
+        requires passed { AllOk Self.shape.table r.now.src.now }
+        ensures says { Says (contents result) Self.shape.table r.now.src.now }
+        ensures placed { places result ≡ text_places Self.shape.table r.now.src.now };
 
     /// Writes each field at its place.
     fn put(&self, out: &mut [u8])
-        requires { Self.total ≤ length out.old }
-        ensures wrote { out.new ≡ over_all Self.table (contents self.now) out.old }
-        ensures holds { HoldsIn Self.table (contents self.now) };
+        requires { Self.shape.total ≤ length out.old }
+        ensures wrote { out.new ≡ over_all Self.shape.table (contents self.now) out.old }
+        ensures holds { HoldsIn Self.shape.table (contents self.now) };
 }
 
 /// Reads a message, or says which field is the first bad one.
 pub fn read<'a, M: Framed<'a>>(r: &Reader<'a>) -> Result<M, Fault>
-    requires { length r.now.src.now ≡ M.total }
-    ensures { Body M.table M.contents M.places r.now.src.now result }
+    requires { length r.now.src.now ≡ M.shape.total }
+    ensures { Body M.shape.table M.contents M.places r.now.src.now result }
 {
     M::check(r)?;
     Ok(M::fields(r))
@@ -91,9 +93,9 @@ pub fn read<'a, M: Framed<'a>>(r: &Reader<'a>) -> Result<M, Fault>
 /// Writes a message to the front of a buffer; the bytes past it stay.
 #[tactic(auto, using(crate::proofs::Wholes::whole))]
 pub fn write<'a, M: Framed<'a>>(m: &M, out: &mut [u8])
-    requires { M.total ≤ length out.old }
-    ensures wrote { Wrote M.letter M.total M.table (M.contents m.now) out.old out.new }
-    ensures holds { HoldsIn M.table (M.contents m.now) }
+    requires { M.shape.total ≤ length out.old }
+    ensures wrote { Wrote M.shape.letter M.shape.total M.shape.table (M.contents m.now) out.old out.new }
+    ensures holds { HoldsIn M.shape.table (M.contents m.now) }
 {
     let shape = M::shape();
     put_header(out, shape.letter, shape.total);

@@ -1,6 +1,6 @@
 // New Order: type D, 97 bytes.
 ghost use Rattle.std.specs.Prelude.{◌≡◌, ◌+◌, ◌≤◌, length, refl};
-ghost use Rattle.std.proofs.Common.{rules};
+ghost use Rattle.layout.specs.Shapes.{Shaped, laid};
 ghost use Rattle.order_messages.specs.declared.new_order.TheConstants.{LETTER, TABLE, TOTAL};
 ghost use Rattle.codes.specs.Order.{order_type_code};
 ghost use Rattle.terms.specs.Pricing.{order_type_of};
@@ -84,28 +84,14 @@ pub const TABLE: [Field; 21] = [
 ];
 
 impl Layout for NewOrder<'_> {
-    ghost table = { TABLE };
+    ghost shape = { laid LETTER TOTAL TABLE };
 
-    ghost letter = { LETTER };
-
-    ghost total = { TOTAL };
-
-    ghost inside = { refl };
-
-    ghost tiles = { refl };
-
-    ghost headed = { Prim.search rules };
+    ghost fits = { refl };
 
     fn shape() -> Shape
-        ensures letter { result.letter ≡ LETTER }
-        ensures total { result.total ≡ TOTAL }
-        ensures table { result.table.now ≡ TABLE }
+        ensures { Shaped (laid LETTER TOTAL TABLE) result }
     {
-        Shape {
-            letter: LETTER,
-            total: TOTAL,
-            table: &TABLE,
-        }
+        Shape::new(LETTER, TOTAL, &TABLE)
     }
 }
 

@@ -1,6 +1,6 @@
 // Order Cancel Request: type F, 73 bytes.
-ghost use Rattle.std.specs.Prelude.{◌≡◌, refl};
-ghost use Rattle.std.proofs.Common.{rules};
+ghost use Rattle.std.specs.Prelude.{refl};
+ghost use Rattle.layout.specs.Shapes.{Shaped, laid};
 ghost use Rattle.order_messages.specs.declared.order_cancel_request.TheConstants.{LETTER, TABLE, TOTAL};
 
 use codes::lists::Codes;
@@ -44,28 +44,14 @@ pub const TABLE: [Field; 7] = [
 ];
 
 impl Layout for OrderCancelRequest<'_> {
-    ghost table = { TABLE };
+    ghost shape = { laid LETTER TOTAL TABLE };
 
-    ghost letter = { LETTER };
-
-    ghost total = { TOTAL };
-
-    ghost inside = { refl };
-
-    ghost tiles = { refl };
-
-    ghost headed = { Prim.search rules };
+    ghost fits = { refl };
 
     fn shape() -> Shape
-        ensures letter { result.letter ≡ LETTER }
-        ensures total { result.total ≡ TOTAL }
-        ensures table { result.table.now ≡ TABLE }
+        ensures { Shaped (laid LETTER TOTAL TABLE) result }
     {
-        Shape {
-            letter: LETTER,
-            total: TOTAL,
-            table: &TABLE,
-        }
+        Shape::new(LETTER, TOTAL, &TABLE)
     }
 }
 

@@ -1,6 +1,6 @@
 // Heartbeat: type 0, 4 bytes.
 ghost use Rattle.std.specs.Prelude.{refl};
-ghost use Rattle.std.proofs.Common.{rules};
+ghost use Rattle.layout.specs.Shapes.{Shaped, laid};
 ghost use Rattle.session_messages.specs.declared.heartbeat.TheConstants.{LETTER, TABLE, TOTAL};
 
 use layout::field::Field;
@@ -21,24 +21,14 @@ pub const TOTAL: u16 = 4;
 pub const TABLE: [Field; 0] = [];
 
 impl Layout for Heartbeat {
-    ghost table = { TABLE };
+    ghost shape = { laid LETTER TOTAL TABLE };
 
-    ghost letter = { LETTER };
+    ghost fits = { refl };
 
-    ghost total = { TOTAL };
-
-    ghost inside = { refl };
-
-    ghost tiles = { refl };
-
-    ghost headed = { Prim.search rules };
-
-    fn shape() -> Shape {
-        Shape {
-            letter: LETTER,
-            total: TOTAL,
-            table: &TABLE,
-        }
+    fn shape() -> Shape
+        ensures { Shaped (laid LETTER TOTAL TABLE) result }
+    {
+        Shape::new(LETTER, TOTAL, &TABLE)
     }
 }
 

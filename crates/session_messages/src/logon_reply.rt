@@ -1,6 +1,6 @@
 // Logon Reply: type B, 38 bytes.
-ghost use Rattle.std.specs.Prelude.{◌≡◌, refl};
-ghost use Rattle.std.proofs.Common.{rules};
+ghost use Rattle.std.specs.Prelude.{refl};
+ghost use Rattle.layout.specs.Shapes.{Shaped, laid};
 ghost use Rattle.session_messages.specs.declared.logon_reply.TheConstants.{LETTER, TABLE, TOTAL};
 
 use layout::field::{Field, Form};
@@ -32,28 +32,14 @@ pub const TABLE: [Field; 2] = [
 ];
 
 impl Layout for LogonReply<'_> {
-    ghost table = { TABLE };
+    ghost shape = { laid LETTER TOTAL TABLE };
 
-    ghost letter = { LETTER };
-
-    ghost total = { TOTAL };
-
-    ghost inside = { refl };
-
-    ghost tiles = { refl };
-
-    ghost headed = { Prim.search rules };
+    ghost fits = { refl };
 
     fn shape() -> Shape
-        ensures letter { result.letter ≡ LETTER }
-        ensures total { result.total ≡ TOTAL }
-        ensures table { result.table.now ≡ TABLE }
+        ensures { Shaped (laid LETTER TOTAL TABLE) result }
     {
-        Shape {
-            letter: LETTER,
-            total: TOTAL,
-            table: &TABLE,
-        }
+        Shape::new(LETTER, TOTAL, &TABLE)
     }
 }
 

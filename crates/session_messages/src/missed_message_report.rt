@@ -1,6 +1,6 @@
 // Missed Message Report: type P, 5 bytes.
 ghost use Rattle.std.specs.Prelude.{refl};
-ghost use Rattle.std.proofs.Common.{rules};
+ghost use Rattle.layout.specs.Shapes.{Shaped, laid};
 ghost use Rattle.session_messages.specs.declared.missed_message_report.TheConstants.{LETTER, TABLE, TOTAL};
 
 use codes::lists::Codes;
@@ -27,24 +27,14 @@ pub const TOTAL: u16 = 5;
 pub const TABLE: [Field; 1] = [Field::Always(4, Form::Code(Codes::ReportResponses))];
 
 impl Layout for MissedMessageReport {
-    ghost table = { TABLE };
+    ghost shape = { laid LETTER TOTAL TABLE };
 
-    ghost letter = { LETTER };
+    ghost fits = { refl };
 
-    ghost total = { TOTAL };
-
-    ghost inside = { refl };
-
-    ghost tiles = { refl };
-
-    ghost headed = { Prim.search rules };
-
-    fn shape() -> Shape {
-        Shape {
-            letter: LETTER,
-            total: TOTAL,
-            table: &TABLE,
-        }
+    fn shape() -> Shape
+        ensures { Shaped (laid LETTER TOTAL TABLE) result }
+    {
+        Shape::new(LETTER, TOTAL, &TABLE)
     }
 }
 

@@ -2,7 +2,7 @@
 use Rattle.std.specs.Prelude.{ℕ, List, Option, ◌==◌}
 use Rattle.std.specs.List.{find}
 use Rattle.layout.specs.declared.field.Field.{Field}
-use Rattle.layout.specs.declared.framed.Layout.{Ghosts}
+use Rattle.layout.specs.Shapes.{Laid}
 use Rattle.order_messages.specs.contracts.execution_report.ExecutionReportLayout.TheImpl as execution_report
 use Rattle.session_messages.specs.contracts.heartbeat.HeartbeatLayout.TheImpl as heartbeat
 use Rattle.session_messages.specs.contracts.logon.LogonLayout.TheImpl as logon
@@ -24,32 +24,23 @@ use Rattle.wire.specs.declared.kinds.Kind.{Kind}
 use Rattle.wire.specs.declared.kinds.Kind.TheVariants as kind
 use Rattle.wire.specs.declared.kinds.TheConstants.{REAL_TIME, RECOVERY, FOLLOWER}
 
--- how the messages of a kind are laid out: its type byte, its bytes in all, its fields
-pub record Layout : Type 0 where
-  pub letter : ℕ
-  pub total : ℕ
-  pub table : List Field
-
-abbrev pub laid_out : {M : Type 0} → Ghosts M → Layout
-laid_out m = record { letter = m.letter; total = m.total; table = m.table }
-
--- each as its message's own file says
-abbrev pub layout_of : Kind → Layout
-layout_of kind.Logon = laid_out logon.ghosts
-layout_of kind.LogonReply = laid_out logon_reply.ghosts
-layout_of kind.Logout = laid_out logout.ghosts
-layout_of kind.Heartbeat = laid_out heartbeat.ghosts
-layout_of kind.MissedMessageRequest = laid_out missed_message_request.ghosts
-layout_of kind.MissedMessageRequestAck = laid_out missed_message_request_ack.ghosts
-layout_of kind.MissedMessageReport = laid_out missed_message_report.ghosts
-layout_of kind.Reject = laid_out reject.ghosts
-layout_of kind.NewOrder = laid_out new_order.ghosts
-layout_of kind.OrderCancelRequest = laid_out order_cancel_request.ghosts
-layout_of kind.OrderCancelReplaceRequest = laid_out order_cancel_replace_request.ghosts
-layout_of kind.OrderMassCancelRequest = laid_out order_mass_cancel_request.ghosts
-layout_of kind.ExecutionReport = laid_out execution_report.ghosts
-layout_of kind.OrderCancelReject = laid_out order_cancel_reject.ghosts
-layout_of kind.OrderMassCancelReport = laid_out order_mass_cancel_report.ghosts
+-- how the messages of a kind are laid out, as its message's own file says
+abbrev pub layout_of : Kind → Laid
+layout_of kind.Logon = logon.ghosts.shape
+layout_of kind.LogonReply = logon_reply.ghosts.shape
+layout_of kind.Logout = logout.ghosts.shape
+layout_of kind.Heartbeat = heartbeat.ghosts.shape
+layout_of kind.MissedMessageRequest = missed_message_request.ghosts.shape
+layout_of kind.MissedMessageRequestAck = missed_message_request_ack.ghosts.shape
+layout_of kind.MissedMessageReport = missed_message_report.ghosts.shape
+layout_of kind.Reject = reject.ghosts.shape
+layout_of kind.NewOrder = new_order.ghosts.shape
+layout_of kind.OrderCancelRequest = order_cancel_request.ghosts.shape
+layout_of kind.OrderCancelReplaceRequest = order_cancel_replace_request.ghosts.shape
+layout_of kind.OrderMassCancelRequest = order_mass_cancel_request.ghosts.shape
+layout_of kind.ExecutionReport = execution_report.ghosts.shape
+layout_of kind.OrderCancelReject = order_cancel_reject.ghosts.shape
+layout_of kind.OrderMassCancelReport = order_mass_cancel_report.ghosts.shape
 
 abbrev pub letter_of : Kind → ℕ
 letter_of k = (layout_of k).letter

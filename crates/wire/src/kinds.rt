@@ -1,7 +1,8 @@
 // The kinds of messages, and which of them each reader takes.
 ghost use Rattle.std.specs.Prelude.{◌≡◌, ◌≤◌};
 ghost use Rattle.limits.specs.declared.TheConstants.{MESSAGE_BYTES};
-ghost use Rattle.wire.specs.Kinds.{kinds_of, letter_of, total_of, table_of, takes};
+ghost use Rattle.layout.specs.Shapes.{Shaped};
+ghost use Rattle.wire.specs.Kinds.{kinds_of, layout_of, letter_of, total_of, table_of, takes};
 
 use layout::field::Field;
 use layout::framed::{Layout, Shape};
@@ -118,9 +119,7 @@ macro_rules! shape_of {
 impl Kind {
     // How its messages are laid out.
     fn shape(self) -> Shape
-        ensures letter { result.letter ≡ letter_of self }
-        ensures total { result.total ≡ total_of self }
-        ensures table { result.table.now ≡ table_of self }
+        ensures { Shaped (layout_of self) result }
     {
         each_message!(shape_of, self)
     }
