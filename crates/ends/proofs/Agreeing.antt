@@ -12,7 +12,7 @@ use Rattle.ends.proofs.Carrying.{Flows}
 use Rattle.ends.proofs.Caught.{begins, shown}
 use Rattle.ends.proofs.Flights.{Passed}
 use Rattle.ends.proofs.Follows.{up_of, to_up, to_ready, to_away, Went, same_ok, ok_err, given_live_keeps, given_recovered_keeps}
-use Rattle.ends.proofs.Keeping.{Keeps, Phase, Ready, Up, Still, Staged, Sided, SidedBy, Taking, Flowing}
+use Rattle.ends.proofs.Keeping.{Keeps, Phase, Ready, Up, Still, Staged, Sided, SidedBy, Taking, Flowing, keeps_taken}
 use Rattle.ends.proofs.Living.{place_in, tallied_as}
 use Rattle.ends.proofs.Refusals.{refused_stays}
 use Rattle.ends.proofs.Requested.{request_long}
@@ -63,41 +63,6 @@ use Rattle.wire.specs.declared.kinds.Kind.TheVariants.{MissedMessageRequest as R
 -- where the line goes on
 abbrev went : Line → Went
 went l = Ok l
-
--- ---- what was taken may be told in other words
-
-keeps_taken : (c : ℕ) (s : State) (d : Desk) (x : Line) (t t' : Taking) → ((p : Partition) (n : ℕ) → t' p n → t p n)
-    → Keeps c s d x t → Keeps c s d x t'
-keeps_taken c s d x t t' less k = record {
-  up = k.up;
-  quiet = k.quiet;
-  layered = k.layered;
-  placed = k.placed;
-  known = k.known;
-  hers = λ p n h. k.hers p n (less p n h);
-  sound = k.sound;
-  few = k.few;
-  phase = by x.ready x.up k.phase;
-}
-  where
-    flowing : (y : PerPartition ℕ) → Flowing c s.venue.kept (session s c).sent (place d) x t y
-        → Flowing c s.venue.kept (session s c).sent (place d) x t' y
-    flowing y h = record { within = h.within; flows = h.flows; taken = λ p n i. h.taken p n (less p n i) }
-
-    by : (r b : Bool) → Phase r b c s.venue.kept (session s c) d.follower (place d) x t
-        → Phase r b c s.venue.kept (session s c) d.follower (place d) x t'
-    by false false h = tt
-    by true false h = record { y = h.y; flowing = flowing h.y h.flowing; still = h.still }
-    by false true h =
-        record {
-          y = h.y;
-          b = h.b;
-          flowing = flowing h.y h.flowing;
-          bases = h.bases;
-          sides = h.sides;
-          staged = h.staged;
-        }
-    by true true h = absurd h
 
 -- ---- the gateway's calls
 
@@ -424,7 +389,7 @@ pub call_keeps : (c : ℕ) (s : State) (d : Desk) (x : Line) (t : Taking) (z : D
 call_keeps c s d x t (done.Venue v) w e x' k (h, q) told sound few ok = (
   refl,
   subst (λ y. Keeps c w y x' (λ p n. t p n ⊎ ⊥)) (sym q)
-      (keeps_taken c w d x' t (λ p n. t p n ⊎ ⊥) (no_more t (λ p n. ⊥) (λ p n i. i))
+      (keeps_taken c w d x' t (λ p n. t p n ⊎ ⊥) d.token (no_more t (λ p n. ⊥) (λ p n i. i))
       (venue_keeps c s d x t k w sound few v h told x' ok)),
 )
 call_keeps c s d x t done.Up w e x' k (h, q) told sound few ok =
@@ -432,7 +397,7 @@ call_keeps c s d x t done.Up w e x' k (h, q) told sound few ok =
     let few' = subst (λ (y : State). length y.venue.rows ≤ ORDERS) h few in (
       refl,
       subst (λ y. Keeps c y e x' (λ p n. t p n ⊎ ⊥)) (sym h) (subst (λ y. Keeps c s y x' (λ p n. t p n ⊎ ⊥)) (sym q)
-          (keeps_taken c s _ x' t (λ p n. t p n ⊎ ⊥) (no_more t (λ p n. ⊥) (λ p n i. i))
+          (keeps_taken c s _ x' t (λ p n. t p n ⊎ ⊥) _ (no_more t (λ p n. ⊥) (λ p n i. i))
           (up_keeps c s d x t k sound' few' x' ok))),
     )
 call_keeps c s d x t done.Lost w e x' k (h, q) told sound few ok =
@@ -440,7 +405,7 @@ call_keeps c s d x t done.Lost w e x' k (h, q) told sound few ok =
     let few' = subst (λ (y : State). length y.venue.rows ≤ ORDERS) h few in (
       refl,
       subst (λ y. Keeps c y e x' (λ p n. t p n ⊎ ⊥)) (sym h) (subst (λ y. Keeps c s y x' (λ p n. t p n ⊎ ⊥)) (sym q)
-          (keeps_taken c s _ x' t (λ p n. t p n ⊎ ⊥) (no_more t (λ p n. ⊥) (λ p n i. i))
+          (keeps_taken c s _ x' t (λ p n. t p n ⊎ ⊥) _ (no_more t (λ p n. ⊥) (λ p n i. i))
           (lost_keeps c s d x t k sound' few' x' ok))),
     )
 call_keeps c s d x t (done.Ask n r) w e x' k (h, a, b, q) told sound few ok =
@@ -448,7 +413,7 @@ call_keeps c s d x t (done.Ask n r) w e x' k (h, a, b, q) told sound few ok =
     let few' = subst (λ (y : State). length y.venue.rows ≤ ORDERS) h few in (
       refl,
       subst (λ y. Keeps c y e x' (λ p n. t p n ⊎ ⊥)) (sym h)
-          (keeps_taken c s e x' t (λ p n. t p n ⊎ ⊥) (no_more t (λ p n. ⊥) (λ p n i. i))
+          (keeps_taken c s e x' t (λ p n. t p n ⊎ ⊥) e.token (no_more t (λ p n. ⊥) (λ p n i. i))
           (subst (λ y. Keeps c s e y t) (same_ok (after_ask r.answer r.buffer x) x'
           (Ok (after_ask r.answer r.buffer x)) refl ok) (ask_keeps c s d x t k sound' few' n r e a b q told))),
     )
@@ -510,7 +475,7 @@ log_keeps c [] s d x t w e l k (a, b) ok = (
   subst (λ y. Keeps c w e y (λ p n. t p n ⊎ Took p n [])) (same_ok x l (Ok x) refl ok)
       (subst (λ y. Keeps c y e x (λ p n. t p n ⊎ Took p n [])) (sym a)
       (subst (λ y. Keeps c s y x (λ p n. t p n ⊎ Took p n [])) (sym b)
-      (keeps_taken c s d x t (λ p n. t p n ⊎ Took p n []) (no_more t (λ p n. Took p n []) took_none) k))),
+      (keeps_taken c s d x t (λ p n. t p n ⊎ Took p n []) d.token (no_more t (λ p n. Took p n []) took_none) k))),
 )
 log_keeps c (z ∷ xs) s d x t w e l k (u, f, does, tells, sound, few, tied, rest) ok =
     let (y, h, g) = went_on c (after_call c z x) xs l ok in
@@ -518,7 +483,7 @@ log_keeps c (z ∷ xs) s d x t w e l k (u, f, does, tells, sound, few, tied, res
     let (all, keeps) = log_keeps c xs u f y (λ p n. t p n ⊎ Takes p n z) w e l kept rest g in (
       both_false (refuses_report z) (list_any refuses_report xs) fits all,
       keeps_taken c w e l (λ p n. (t p n ⊎ Takes p n z) ⊎ Took p n xs) (λ p n. t p n ⊎ Took p n (z ∷ xs))
-          (λ p n i. either p n i) keeps,
+          e.token (λ p n i. either p n i) keeps,
     )
   where
     either : (p : Partition) (n : ℕ) → t p n ⊎ Took p n (z ∷ xs) → (t p n ⊎ Takes p n z) ⊎ Took p n xs

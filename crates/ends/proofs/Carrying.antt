@@ -11,6 +11,7 @@ use Rattle.follower.specs.Hearing.{heard_in}
 use Rattle.follower.specs.declared.heard.Heard.TheVariants.{Report, End}
 use Rattle.follower.specs.declared.heard.Held.{Held}
 use Rattle.keyed.specs.Numbers.{under}
+use Rattle.partitions.proofs.Written.{at_written, written}
 use Rattle.partitions.specs.PerPartition.{at, with_at}
 use Rattle.partitions.specs.declared.per_partition.PerPartition.{PerPartition}
 use Rattle.reports.specs.Tally.{is_of}
@@ -35,25 +36,6 @@ pub brings_grown : (c : ℕ) (l l' : List Entry) (p : Partition) (n : ℕ) (m : 
     → Brings c l p n m → Brings c l' p n m
 brings_grown c l l' p n m g w h =
     record { entry = h.entry; stands = stays_under l l' n g w ∙ h.stands; owner = h.owner; heard = h.heard }
-
--- ---- what is written for a partition
-
-written : {T : Type 0} (P : Partition → T → Type 0) (xs : PerPartition T) (q p : Partition) (y : T) → (q ≡ p → P p y)
-    → P p (at xs p) → P p (at (with_at xs q y) p)
-written P xs One One y f g = f refl
-written P xs One Two y f g = g
-written P xs One Three y f g = g
-written P xs Two One y f g = g
-written P xs Two Two y f g = f refl
-written P xs Two Three y f g = g
-written P xs Three One y f g = g
-written P xs Three Two y f g = g
-written P xs Three Three y f g = f refl
-
-pub at_written : {T : Type 0} (xs : PerPartition T) (q : Partition) (y : T) → at (with_at xs q y) q ≡ y
-at_written xs One y = refl
-at_written xs Two y = refl
-at_written xs Three y = refl
 
 -- ---- the real-time channel
 

@@ -7,7 +7,7 @@ use Rattle.codes.specs.declared.session.Partition.TheVariants.{One, Two, Three}
 use Rattle.ends.proofs.Carrying.{held, Brings, Flows}
 use Rattle.ends.proofs.Flights.{Next}
 use Rattle.ends.proofs.Given.{same_bytes, Stands, Lives, lives, Recovers, acks, rejects, ends, reports, repeats}
-use Rattle.ends.proofs.Keeping.{Keeps, Phase, Ready, Up, Taking, Flowing}
+use Rattle.ends.proofs.Keeping.{Keeps, Phase, Ready, Up, Taking, Flowing, keeps_taken}
 use Rattle.ends.proofs.Living.{place_in, Only, or_one, flowing_popped, tallied_as}
 use Rattle.ends.specs.Agreement.{is_hers, is_unfit, place, Taken, HeardAs}
 use Rattle.ends.specs.Allowed.{Line, next_of, next_live, given_live, or_lost, repeated, next_report, next_other, given_recovered}
@@ -104,44 +104,13 @@ module _ (c : ℕ) (s : State) (d : Desk) (x : Line) (t : Taking) (sound : Sound
   nothing a u e fits none = record {
     fits = fits;
     keeps = λ token. subst (λ g. Keeps c s (record { follower = g; token = token }) x
-        (or_one c s.venue.kept (session s c) t u)) (sym e) (record {
-          up = k.up;
-          quiet = k.quiet;
-          layered = k.layered;
-          placed = k.placed;
-          known = k.known;
-          hers = λ p n h. hers p n h;
-          sound = λ q. sound;
-          few = λ q. few;
-          phase = by x.ready x.up k.phase;
-        });
+        (or_one c s.venue.kept (session s c) t u)) (sym e)
+        (keeps_taken c s d x t (or_one c s.venue.kept (session s c) t u) token old k);
   }
     where
       old : (p : Partition) (n : ℕ) → or_one c s.venue.kept (session s c) t u p n → t p n
       old p n (inl h) = h
       old p n (inr h) = absurd (none p n h)
-
-      hers : (p : Partition) (n : ℕ) → or_one c s.venue.kept (session s c) t u p n → is_hers c s p n ≡ true
-      hers p n h = k.hers p n (old p n h)
-
-      flowing : (y : PerPartition ℕ) → Flowing c s.venue.kept (session s c).sent (place d) x t y
-          → Flowing c s.venue.kept (session s c).sent (place d) x (or_one c s.venue.kept (session s c) t u) y
-      flowing y h = record { within = h.within; flows = h.flows; taken = λ p n i. h.taken p n (old p n i) }
-
-      by : (r b : Bool) → Phase r b c s.venue.kept (session s c) f (place d) x t
-          → Phase r b c s.venue.kept (session s c) f (place d) x (or_one c s.venue.kept (session s c) t u)
-      by false false h = tt
-      by true false h = record { y = h.y; flowing = flowing h.y h.flowing; still = h.still }
-      by false true h =
-          record {
-            y = h.y;
-            b = h.b;
-            flowing = flowing h.y h.flowing;
-            bases = h.bases;
-            sides = h.sides;
-            staged = h.staged;
-          }
-      by true true h = absurd h
 
   -- ---- live
 

@@ -10,10 +10,10 @@ use Rattle.codes.specs.declared.session.AckResponse.TheVariants.{Successful, Lim
 use Rattle.codes.specs.declared.session.Partition.{Partition}
 use Rattle.codes.specs.declared.session.ReportResponse.{ReportResponse}
 use Rattle.codes.specs.declared.session.ReportResponse.TheVariants as ending
-use Rattle.ends.proofs.Carrying.{held, Brings, Flows, Holding, Loads, Over, at_written, holding_down}
+use Rattle.ends.proofs.Carrying.{held, Brings, Flows, Holding, Loads, Over, holding_down}
 use Rattle.ends.proofs.Flights.{Passed, Next, next_above, next_either}
 use Rattle.ends.proofs.Keeping.{repeats_up, Sided, SidedBy, Staged, Repeats, Refuses, Taking, Up}
-use Rattle.ends.proofs.Living.{place_in, Placed, by_partition, or_as_it_was, after_fold, moves, up_folded, Only, or_one, up_popped, with_hold, hold_places, up_held, tallied_as, reaches}
+use Rattle.ends.proofs.Living.{place_in, Placed, after_fold, moves, up_folded, Only, or_one, up_popped, with_hold, hold_places, up_held, tallied_as, reaches}
 use Rattle.ends.specs.Agreement.{is_unfit}
 use Rattle.ends.specs.Allowed.{Line}
 use Rattle.ends.specs.Laws.{is_full}
@@ -38,6 +38,7 @@ use Rattle.follower.specs.declared.stage.Stage.TheVariants.{Idle, Asked, Running
 use Rattle.keyed.specs.Numbers.{under}
 use Rattle.layout.specs.declared.fault.Fault.{Fault}
 use Rattle.limits.specs.declared.TheConstants.{ORDERS}
+use Rattle.partitions.proofs.Written.{at_written, by_partition, or_as_it_was}
 use Rattle.partitions.specs.PerPartition.{at, with_at}
 use Rattle.reports.specs.Tally.{is_of}
 use Rattle.reports.specs.declared.report.Entry.{Entry}

@@ -14,6 +14,7 @@ use Rattle.follower.specs.Hearing.{heard_in}
 use Rattle.follower.specs.Quiet.{Quiet}
 use Rattle.follower.specs.declared.heard.Heard.{Heard}
 use Rattle.follower.specs.declared.heard.Heard.TheVariants.{Report, Ack, End, Reject, Nothing}
+use Rattle.follower.specs.declared.pending.Pending.{Pending}
 use Rattle.follower.specs.declared.side.Side.{Side}
 use Rattle.follower.specs.declared.side.State.{State as Standing}
 use Rattle.follower.specs.declared.side.State.TheVariants.{Level, Behind}
@@ -226,3 +227,38 @@ pub record Keeps (c : ℕ) (s : State) (d : Desk) (x : Line) (t : Taking) : Type
   pub sound : d.follower.up ≡ true → Sound s.venue
   pub few : d.follower.up ≡ true → length s.venue.rows ≤ ORDERS
   pub phase : Phase x.ready x.up c s.venue.kept (session s c) d.follower (place d) x t
+
+-- what was taken may be told in other words, and who keeps it does not hang on the token
+pub keeps_taken : (c : ℕ) (s : State) (d : Desk) (x : Line) (t t' : Taking) (token : Pending)
+    → ((p : Partition) (n : ℕ) → t' p n → t p n) → Keeps c s d x t
+    → Keeps c s (record { follower = d.follower; token = token }) x t'
+keeps_taken c s d x t t' token less k = record {
+  up = k.up;
+  quiet = k.quiet;
+  layered = k.layered;
+  placed = k.placed;
+  known = k.known;
+  hers = λ p n h. k.hers p n (less p n h);
+  sound = k.sound;
+  few = k.few;
+  phase = by x.ready x.up k.phase;
+}
+  where
+    flowing : (y : PerPartition ℕ) → Flowing c s.venue.kept (session s c).sent (place d) x t y
+        → Flowing c s.venue.kept (session s c).sent (place d) x t' y
+    flowing y h = record { within = h.within; flows = h.flows; taken = λ p n i. h.taken p n (less p n i) }
+
+    by : (r b : Bool) → Phase r b c s.venue.kept (session s c) d.follower (place d) x t
+        → Phase r b c s.venue.kept (session s c) d.follower (place d) x t'
+    by false false h = tt
+    by true false h = record { y = h.y; flowing = flowing h.y h.flowing; still = h.still }
+    by false true h =
+        record {
+          y = h.y;
+          b = h.b;
+          flowing = flowing h.y h.flowing;
+          bases = h.bases;
+          sides = h.sides;
+          staged = h.staged;
+        }
+    by true true h = absurd h

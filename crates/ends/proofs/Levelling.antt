@@ -4,7 +4,6 @@ use Rattle.std.proofs.lemmas.List.Sums.{fold_push}
 use Rattle.codes.specs.declared.session.Partition.{Partition}
 use Rattle.codes.specs.declared.session.ReportResponse.TheVariants.{Complete}
 use Rattle.ends.proofs.Agreeing.{log_keeps, begun}
-use Rattle.ends.proofs.Carrying.{at_written}
 use Rattle.ends.proofs.Follows.{Went, given_recovered_keeps}
 use Rattle.ends.proofs.Keeping.{Keeps}
 use Rattle.ends.specs.Agreement.{DownloadsLevel, IsComplete, Took, is_unfit}
@@ -23,6 +22,7 @@ use Rattle.follower.specs.declared.side.Side.{Side}
 use Rattle.follower.specs.declared.side.State.TheVariants.{Level}
 use Rattle.follower.specs.declared.stage.Stage.TheVariants.{Running}
 use Rattle.gateway.specs.State.{State}
+use Rattle.partitions.proofs.Written.{at_written}
 use Rattle.partitions.specs.PerPartition.{at}
 use Rattle.reports.specs.declared.standings.FoldRefusal.{FoldRefusal}
 

@@ -34,23 +34,11 @@ use Rattle.follower.specs.declared.stage.Stage.{Stage}
 use Rattle.follower.specs.declared.stage.Stage.TheVariants.{Idle, Asked, Running}
 use Rattle.gateway.specs.State.{State}
 use Rattle.layout.specs.declared.fault.Fault.{Fault}
+use Rattle.partitions.proofs.Written.{written}
 use Rattle.partitions.specs.PerPartition.{at, with_at}
 use Rattle.partitions.specs.declared.per_partition.PerPartition.{PerPartition}
 use Rattle.reports.specs.Fold.{Knowledge}
 use Rattle.reports.specs.declared.standings.FoldRefusal.{FoldRefusal}
-
--- what stands in a partition after another thing was written to one
-written : (P : Side → Type 0) (xs : PerPartition Side) (q p : Partition) (y : Side) → (q ≡ p → P y) → P (at xs p)
-    → P (at (with_at xs q y) p)
-written P xs One One y f g = f refl
-written P xs One Two y f g = g
-written P xs One Three y f g = g
-written P xs Two One y f g = g
-written P xs Two Two y f g = f refl
-written P xs Two Three y f g = g
-written P xs Three One y f g = g
-written P xs Three Two y f g = g
-written P xs Three Three y f g = f refl
 
 abbrev IsLevel : Side → Type 0
 IsLevel s = s.state ≡ Level
@@ -63,7 +51,7 @@ module _ {A : Type 0} (p : Partition) where
       → LevelAt (folded_to a f q n r).after p
   folded_level a f q n (Err e) h = h
   folded_level a f q n (Ok k) h =
-      written IsLevel f.sides q p _ (λ e. subst (λ u. (at f.sides u).state ≡ Level) (sym e) h) h
+      written (λ q y. IsLevel y) f.sides q p _ (λ e. subst (λ u. (at f.sides u).state ≡ Level) (sym e) h) h
 
   either : (f : Following) (b : Bool) (x y : Step A) → LevelAt x.after p → LevelAt y.after p
       → LevelAt (cond b x y).after p
@@ -72,7 +60,7 @@ module _ {A : Type 0} (p : Partition) where
 
 module _ (p : Partition) where
   held_level : (f : Following) (q : Partition) (h : Held) → LevelAt f p → LevelAt (held f q h).after p
-  held_level f q h l = written IsLevel f.sides q p _ (λ e. subst (λ u. (at f.sides u).state ≡ Level) (sym e) l) l
+  held_level f q h l = written (λ q y. IsLevel y) f.sides q p _ (λ e. subst (λ u. (at f.sides u).state ≡ Level) (sym e) l) l
 
   if_room : (b : Bool) (f : Following) (q : Partition) (h : Held) → LevelAt f p
       → is_full (cond b (held f q h) (overrun f)).answer ≡ false → LevelAt (cond b (held f q h) (overrun f)).after p
@@ -134,7 +122,7 @@ module _ (p : Partition) where
   levelled_level : (f : Following) (q : Partition) (r : Result Reached FoldRefusal) → LevelAt f p
       → LevelAt (levelled f q r).after p
   levelled_level f q (Err e) l = l
-  levelled_level f q (Ok r) l = written IsLevel f.sides q p _ (λ e. refl) l
+  levelled_level f q (Ok r) l = written (λ q y. IsLevel y) f.sides q p _ (λ e. refl) l
 
   ended_level : (f : Following) (q : Partition) (r : ReportResponse) → LevelAt f p → LevelAt (ended_of f q r).after p
   ended_level f q ending.Complete l =

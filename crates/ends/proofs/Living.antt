@@ -5,7 +5,7 @@ use Rattle.std.proofs.lemmas.Bool.{leb-true, le-leb}
 use Rattle.codes.specs.declared.session.Partition.{Partition}
 use Rattle.codes.specs.declared.session.Partition.TheVariants.{One, Two, Three}
 use Rattle.codes.specs.Session.{same_partition}
-use Rattle.ends.proofs.Carrying.{held, Flows, Holding, at_written, holding_up, holding_more, holding_on}
+use Rattle.ends.proofs.Carrying.{held, Flows, Holding, holding_up, holding_more, holding_on}
 use Rattle.ends.proofs.Caught.{Folded, folds}
 use Rattle.ends.proofs.Flights.{Passed, Next, next_within, passed_less}
 use Rattle.ends.proofs.Keeping.{Sided, SidedBy, Taking, Flowing, Up, staged_up, staged_live}
@@ -19,6 +19,7 @@ use Rattle.follower.specs.declared.side.State.{State as Standing}
 use Rattle.follower.specs.declared.side.State.TheVariants.{Level, Behind}
 use Rattle.keyed.specs.Numbers.{under}
 use Rattle.limits.specs.declared.TheConstants.{ORDERS}
+use Rattle.partitions.proofs.Written.{at_written, by_partition, or_as_it_was}
 use Rattle.partitions.specs.PerPartition.{at, with_at}
 use Rattle.partitions.specs.declared.per_partition.PerPartition.{PerPartition}
 use Rattle.reports.specs.Fold.{Knowledge, fold}
@@ -38,25 +39,6 @@ place_in f p = (at f.sides p).place
 -- a place is 0 or the number of a report of the owner's
 abbrev pub Placed : ℕ → Kept → (Partition → ℕ) → Type 0
 Placed c k place = (p : Partition) → (place p ≡ 0) ⊎ (is_of c (under (at k p) (place p)) ≡ true)
-
--- what is true of a thing written for one partition, and of those of all others
-module _ {T : Type 0} where
-  pub by_partition : (P : Partition → T → Type 0) (xs : PerPartition T) (q : Partition) (y : T) → P q y
-      → ((p : Partition) → (q ≢ p) → P p (at xs p)) → (p : Partition) → P p (at (with_at xs q y) p)
-  by_partition P xs One y f g One = f
-  by_partition P xs One y f g Two = g Two (λ e. cc)
-  by_partition P xs One y f g Three = g Three (λ e. cc)
-  by_partition P xs Two y f g One = g One (λ e. cc)
-  by_partition P xs Two y f g Two = f
-  by_partition P xs Two y f g Three = g Three (λ e. cc)
-  by_partition P xs Three y f g One = g One (λ e. cc)
-  by_partition P xs Three y f g Two = g Two (λ e. cc)
-  by_partition P xs Three y f g Three = f
-
-  -- the same where nothing is asked of the others but what was
-  pub or_as_it_was : (P : Partition → T → Type 0) (xs : PerPartition T) (q : Partition) (y : T) → P q y
-      → ((p : Partition) → P p (at xs p)) → (p : Partition) → P p (at (with_at xs q y) p)
-  or_as_it_was P xs q y f g = by_partition P xs q y f (λ p n. g p)
 
 abbrev to_place : Following → Partition → ℕ → Side
 to_place f p n = record (at f.sides p) { place = n }

@@ -8,6 +8,7 @@ use Rattle.codes.specs.declared.session.ReportResponse.{ReportResponse}
 use Rattle.codes.specs.declared.session.ReportResponse.TheVariants as ending
 use Rattle.codes.specs.Session.{same_partition}
 use Rattle.layout.specs.declared.fault.Fault.{Fault}
+use Rattle.partitions.proofs.Written.{or_as_it_was}
 use Rattle.partitions.specs.declared.per_partition.PerPartition.{PerPartition}
 use Rattle.partitions.specs.PerPartition.{at, with_at}
 use Rattle.reports.specs.Fold.{Knowledge, fold}
@@ -32,19 +33,6 @@ use Rattle.follower.specs.Folding.{Reached, reached, caught_up}
 use Rattle.follower.specs.Following.{Following, Step, start, turned, answered, refused, folded, folded_to, held, overrun, live_by, lived, acked_of, acked, recovered_of, reported, levelled, ended_of, ended, rejected, recovering, live_step, recovered_step}
 use Rattle.follower.specs.Asking.{asks_of, asks, asking, asking_of, partition_of}
 use Rattle.follower.specs.Quiet.{HoldsNothing, Quiet, StaysQuiet}
-
--- one partition more that is quiet among those that are
-with_quiet : (x : PerPartition Side) (p : Partition) (s : Side) → HoldsNothing s
-    → ((q : Partition) → HoldsNothing (at x q)) → (q : Partition) → HoldsNothing (at (with_at x p s) q)
-with_quiet x One s h all One = h
-with_quiet x One s h all Two = all Two
-with_quiet x One s h all Three = all Three
-with_quiet x Two s h all One = all One
-with_quiet x Two s h all Two = h
-with_quiet x Two s h all Three = all Three
-with_quiet x Three s h all One = all One
-with_quiet x Three s h all Two = all Two
-with_quiet x Three s h all Three = h
 
 -- a follower that is up, whatever its download
 up_quiet : (f : Following) → f.up ≡ true → ((q : Partition) → HoldsNothing (at f.sides q)) → Quiet f
@@ -76,12 +64,12 @@ module _ (f : Following) (u : f.up ≡ true) (quiet : Quiet f) where
   folds a p n (Err e) = quiet
   folds a p n (Ok k) =
       up_quiet (record f { standings = k; sides = with_at f.sides p (record (at f.sides p) { place = n }) }) u
-      (with_quiet f.sides p (record (at f.sides p) { place = n }) (quiet.level p) quiet.level)
+      (or_as_it_was (λ q y. HoldsNothing y) f.sides p (record (at f.sides p) { place = n }) (quiet.level p) quiet.level)
 
   holds : (p : Partition) (h : Held) → (at f.sides p).state ≡ Behind → Leaves (held f p h)
   holds p h b =
       up_quiet (held f p h).after u
-      (with_quiet f.sides p (record (at f.sides p) { hold = (at f.sides p).hold ++ h ∷ [] })
+      (or_as_it_was (λ q y. HoldsNothing y) f.sides p (record (at f.sides p) { hold = (at f.sides p).hold ++ h ∷ [] })
       (λ l. absurd (let no : Behind ≡ Level = sym b ∙ l in cc))
       quiet.level)
 
@@ -131,7 +119,7 @@ module _ (f : Following) (u : f.up ≡ true) (quiet : Quiet f) where
   level p (Err e) = quiet
   level p (Ok r) =
       up_quiet (levelled f p (Ok r)).after u
-      (with_quiet f.sides p (record { place = r.place; state = Level; hold = [] }) (λ e. refl) quiet.level)
+      (or_as_it_was (λ q y. HoldsNothing y) f.sides p (record { place = r.place; state = Level; hold = [] }) (λ e. refl) quiet.level)
 
   end_of : (p : Partition) (r : ReportResponse) → Leaves (ended_of f p r)
   end_of p ending.Complete = level p (caught_up p (reached f.standings (at f.sides p).place) (at f.sides p).hold)

@@ -27,18 +27,21 @@ pub record Stop (rs ws : List Order) (p : Event × Lit) : Type 0 where
   pub quiet : settled rs ≡ true → settled at_rest ≡ true
   pub ends : Ends at_rest in_wait p
 
-pub stop : (rs ws : List Order) → Stop rs ws (next_of rs ws)
-stop rs [] =
+-- it stops at once: nothing came to rest
+at_once : (rs ws : List Order) (p : Event × Lit) → Ends rs ws p → Stop rs ws p
+at_once rs ws p e =
     record {
       at_rest = rs;
-      in_wait = [];
+      in_wait = ws;
       came = [];
-      rested = sym
-          (append-nil rs);
+      rested = sym (append-nil rs);
       waited = refl;
       quiet = λ s. s;
-      ends = refl;
+      ends = e;
     }
+
+pub stop : (rs ws : List Order) → Stop rs ws (next_of rs ws)
+stop rs [] = at_once rs [] (next_of rs []) refl
 stop rs (a ∷ ws) = go (best a rs) refl (cases_Bool (rests a)) (stop (rs ++ a ∷ []) ws)
   where
     now_is : (w : Option Order) → best a rs ≡ w → next_of rs (a ∷ ws)
@@ -48,28 +51,9 @@ stop rs (a ∷ ws) = go (best a rs) refl (cases_Bool (rests a)) (stop (rs ++ a �
 
     go : (w : Option Order) → best a rs ≡ w → (rests a ≡ true) ⊎ (rests a ≡ false)
         → Stop (rs ++ a ∷ []) ws (next_of (rs ++ a ∷ []) ws) → Stop rs (a ∷ ws) (next_of rs (a ∷ ws))
-    go (Some o) e r later =
-        record {
-          at_rest = rs;
-          in_wait = a ∷ ws;
-          came = [];
-          rested = sym
-              (append-nil rs);
-          waited = refl;
-          quiet = λ s. s;
-          ends = inl (o, e, now_is (Some o) e);
-        }
+    go (Some o) e r later = at_once rs (a ∷ ws) (next_of rs (a ∷ ws)) (inl (o, e, now_is (Some o) e))
     go None e (inr f) later =
-        record {
-          at_rest = rs;
-          in_wait = a ∷ ws;
-          came = [];
-          rested = sym
-              (append-nil rs);
-          waited = refl;
-          quiet = λ s. s;
-          ends = inr (now_is None e ∙ cond-false (rests a) _ _ f);
-        }
+        at_once rs (a ∷ ws) (next_of rs (a ∷ ws)) (inr (now_is None e ∙ cond-false (rests a) _ _ f))
     go None e (inl t) later = record {
       at_rest = later.at_rest;
       in_wait = later.in_wait;

@@ -1,3 +1,4 @@
 pub mod Totals
 pub mod Nexts
 pub mod Places
+pub mod Written

@@ -65,6 +65,14 @@ withdraws_one p c t n v w r k was meant some l =
       places = omega arith;
     }
 
+-- and one that a selection picks
+pub withdraws_picked : (s : Selection) (c : Cause) (t : Time) (n : ℕ) (v w : View) (is : List Instrument) (r : Row)
+    → Sound v → under v.rows n ≡ Some r → is ≡ v.instruments → picks is s r ≡ true → Leaves 1 (withdrawn_for c t n v) w
+    → Withdraws v (withdrawn_if (picks v.instruments s) c t n v) w
+withdraws_picked s c t n v w is r k was same h l =
+    let meant = subst (λ js. picks js s r ≡ true) same h in
+    withdraws_one (picks v.instruments s) c t n v w r k was meant (picked_open v.instruments s r meant) l
+
 -- what is withdrawn does not hang on the free places, nor on what the matcher does next
 if_apart : (b : Bool) (c : Cause) (t : Time) (n : ℕ) (u : View) (f : ℕ) (e : Event)
     → cond b (withdrawn_for c t n (record u { free = f; next = e })) (record u { free = f; next = e })

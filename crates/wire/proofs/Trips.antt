@@ -53,6 +53,30 @@ look_by true at f v bs n m c q s h e k =
     ap (λ j. le (part j 1 bs)) (sym (eqb-true (place f) n q)) ∙ code_read at f v bs s h e
 look_by false at f v bs n m c q s h e k = k s
 
+-- the front field of a table as it is written, behind the bytes p, and what follows it
+record Front (f : Field) (v : Content) (fs : List Field) (vs : List Content) (bs p r : List ℕ) (n end : ℕ) : Type 0 where
+  pub tiles : tiled (n + width f) end fs ≡ true
+  pub wide : length (field_bytes f v) ≡ width f
+  pub here : part (place f) (width f) bs ≡ field_bytes f v
+  pub behind : bs ≡ (p ++ field_bytes f v) ++ (encode fs vs ++ r)
+  pub long : length (p ++ field_bytes f v) ≡ n + width f
+
+front : (at : ℕ → ℕ) (f : Field) (v : Content) (fs : List Field) (vs : List Content) (bs p r : List ℕ) (n end : ℕ)
+    → bs ≡ p ++ ((field_bytes f v ++ encode fs vs) ++ r) → length p ≡ n → tiled n end (f ∷ fs) ≡ true → Holds at f v
+    → Front f v fs vs bs p r n end
+front at f v fs vs bs p r n end e l t h =
+    let q = both_true (eqb (place f) n) (tiled (n + width f) end fs) t in
+    let a : place f ≡ n = eqb-true (place f) n q.0 in
+    let k = field_wide at f v h in
+    let e' : bs ≡ p ++ (field_bytes f v ++ (encode fs vs ++ r)) = e ∙ simp append_assoc in
+    record {
+      tiles = q.1;
+      wide = k;
+      here = rw e' (part_mid p (field_bytes f v) (encode fs vs ++ r) (place f) (width f) (l ∙ sym a) k);
+      behind = e ∙ simp append_assoc;
+      long = rw (length-append p (field_bytes f v), k, l);
+    }
+
 -- the number that a listed field holds is the byte at its place
 look : (at : ℕ → ℕ) (fs : List Field) (vs : List Content) (bs p r : List ℕ) (n end o : ℕ) → bs ≡ p
     ++ (encode fs vs ++ r) → length p ≡ n → tiled n end fs ≡ true → HoldsAll at fs vs → code_at fs o ≡ true
@@ -61,16 +85,9 @@ unfolding encode
 look at [] vs bs p r n end o e l t h c = cc
 look at (f ∷ fs) [] bs p r n end o e l t h c = absurd h
 look at (f ∷ fs) (v ∷ vs) bs p r n end o e l t h c =
-    let q = both_true (eqb (place f) n) (tiled (n + width f) end fs) t in
-    let a : place f ≡ n = eqb-true (place f) n q.0 in
-    let k = field_wide at f v h.0 in
-    let e' : bs ≡ p ++ (field_bytes f v ++ (encode fs vs ++ r)) = e ∙ simp append_assoc in
-    let e'' : bs ≡ (p ++ field_bytes f v) ++ (encode fs vs ++ r) = e ∙ simp append_assoc in
-    let l' : length (p ++ field_bytes f v) ≡ n + width f = rw (length-append p (field_bytes f v), k, l) in
-    let m : part (place f) (width f) bs ≡ field_bytes f v = rw e'
-    (part_mid p (field_bytes f v) (encode fs vs ++ r) (place f) (width f) (l ∙ sym a) k) in
-    look_by (eqb (place f) o) at f v bs o (figure_at fs vs o) (code_at fs o) refl c h.0 m
-    (look at fs vs bs (p ++ field_bytes f v) r (n + width f) end o e'' l' q.1 h.1)
+    let w = front at f v fs vs bs p r n end e l t h.0 in
+    look_by (eqb (place f) o) at f v bs o (figure_at fs vs o) (code_at fs o) refl c h.0 w.here
+    (look at fs vs bs (p ++ field_bytes f v) r (n + width f) end o w.behind w.long w.tiles h.1)
 
 seen : (whole : List Field) (at : ℕ → ℕ) (fs : List Field) (bs : List ℕ)
     → ((o : ℕ) → code_at whole o ≡ true → le (part o 1 bs) ≡ at o) → looked whole fs ≡ true → Seen at fs bs
@@ -112,18 +129,11 @@ read_all at [] [] bs p r n end e l t h s = (refl, tt, omega (arith, eqb-true n e
 read_all at [] (v ∷ vs) bs p r n end e l t h s = absurd h
 read_all at (f ∷ fs) [] bs p r n end e l t h s = absurd h
 read_all at (f ∷ fs) (v ∷ vs) bs p r n end e l t h s =
-    let q = both_true (eqb (place f) n) (tiled (n + width f) end fs) t in
-    let a : place f ≡ n = eqb-true (place f) n q.0 in
-    let k = field_wide at f v h.0 in
-    let e' : bs ≡ p ++ (field_bytes f v ++ (encode fs vs ++ r)) = e ∙ simp append_assoc in
-    let e'' : bs ≡ (p ++ field_bytes f v) ++ (encode fs vs ++ r) = e ∙ simp append_assoc in
-    let l' : length (p ++ field_bytes f v) ≡ n + width f = rw (length-append p (field_bytes f v), k, l) in
-    let m : part (place f) (width f) bs ≡ field_bytes f v = rw e'
-    (part_mid p (field_bytes f v) (encode fs vs ++ r) (place f) (width f) (l ∙ sym a) k) in
-    let w = split_seen at f fs bs s in
-    let o = read_one at f v bs w.0 h.0 m in
-    let j = read_all at fs vs bs (p ++ field_bytes f v) r (n + width f) end e'' l' q.1 h.1 w.1 in
-    (rw o.0 j.0, (o.1, j.1), omega (arith, j.2, k, length-append (field_bytes f v) (encode fs vs)))
+    let w = front at f v fs vs bs p r n end e l t h.0 in
+    let x = split_seen at f fs bs s in
+    let o = read_one at f v bs x.0 h.0 w.here in
+    let j = read_all at fs vs bs (p ++ field_bytes f v) r (n + width f) end w.behind w.long w.tiles h.1 x.1 in
+    (rw o.0 j.0, (o.1, j.1), omega (arith, j.2, w.wide, length-append (field_bytes f v) (encode fs vs)))
 
 pub says_same : (fs : List Field) (us vs : List Content) (bs : List ℕ) → Says us fs bs → Says vs fs bs → us ≡ vs
 says_same [] [] [] bs a b = refl

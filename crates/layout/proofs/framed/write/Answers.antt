@@ -1,6 +1,6 @@
 use Rattle.std.proofs.Common.{◌≡◌, true, rules}
 use Rattle.std.proofs.lemmas.Bool.{and_parts}
-use Rattle.layout.specs.Writing.{over, header, tiled}
+use Rattle.layout.specs.Writing.{over, header}
 use Rattle.layout.specs.Shapes.{fitting}
 use Rattle.layout.proofs.Wholes.{whole}
 use Rattle.layout.proofs.framed.write.Goals as goal
