@@ -7,7 +7,7 @@ use Rattle.codes.specs.declared.session.Partition.TheVariants.{One, Two, Three}
 use Rattle.ends.proofs.Carrying.{held, Brings, Flows}
 use Rattle.ends.proofs.Flights.{Next}
 use Rattle.ends.proofs.Given.{same_bytes, Stands, Lives, lives, Recovers, acks, rejects, ends, reports, repeats}
-use Rattle.ends.proofs.Keeping.{Keeps, Phase, Ready, Up, Taking, Flowing, keeps_taken}
+use Rattle.ends.proofs.Keeping.{Keeps, Phase, Ready, Up, Taking, keeps_taken}
 use Rattle.ends.proofs.Living.{place_in, Only, or_one, flowing_popped, tallied_as}
 use Rattle.ends.specs.Agreement.{is_hers, is_unfit, place, Taken, HeardAs}
 use Rattle.ends.specs.Allowed.{Line, next_of, next_live, given_live, or_lost, repeated, next_report, next_other, given_recovered}

@@ -35,7 +35,7 @@ use Rattle.follower.specs.declared.stage.Stage.TheVariants.{Idle, Asked, Running
 use Rattle.gateway.specs.State.{State}
 use Rattle.layout.specs.declared.fault.Fault.{Fault}
 use Rattle.partitions.proofs.Written.{written}
-use Rattle.partitions.specs.PerPartition.{at, with_at}
+use Rattle.partitions.specs.PerPartition.{at}
 use Rattle.partitions.specs.declared.per_partition.PerPartition.{PerPartition}
 use Rattle.reports.specs.Fold.{Knowledge}
 use Rattle.reports.specs.declared.standings.FoldRefusal.{FoldRefusal}

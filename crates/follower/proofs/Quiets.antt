@@ -9,7 +9,6 @@ use Rattle.codes.specs.declared.session.ReportResponse.TheVariants as ending
 use Rattle.codes.specs.Session.{same_partition}
 use Rattle.layout.specs.declared.fault.Fault.{Fault}
 use Rattle.partitions.proofs.Written.{or_as_it_was}
-use Rattle.partitions.specs.declared.per_partition.PerPartition.{PerPartition}
 use Rattle.partitions.specs.PerPartition.{at, with_at}
 use Rattle.reports.specs.Fold.{Knowledge, fold}
 use Rattle.reports.specs.declared.standings.FoldRefusal.{FoldRefusal}
@@ -23,7 +22,6 @@ use Rattle.follower.specs.declared.heard.Heard.TheVariants.{Report, Ack, End, Re
 use Rattle.follower.specs.declared.hold.TheConstants.{HOLD}
 use Rattle.follower.specs.declared.pending.Pending.{Pending}
 use Rattle.wire.specs.declared.message.TheConstants.{BUFFER}
-use Rattle.follower.specs.declared.side.Side.{Side}
 use Rattle.follower.specs.declared.side.State.{State}
 use Rattle.follower.specs.declared.side.State.TheVariants.{Level, Behind}
 use Rattle.follower.specs.declared.stage.Stage.{Stage}
