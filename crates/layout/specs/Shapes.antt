@@ -15,8 +15,8 @@ abbrev pub laid : ℕ → ℕ → List Field → Laid
 laid l n fs = record { letter = l; total = n; table = fs }
 
 -- behind the four bytes of the header the fields fill the message, one behind the other
-abbrev pub fitting : Laid → Bool
-fitting s = nat_le 4 s.total && (within s.total s.table && tiled 4 s.total s.table)
+abbrev pub well_laid : Laid → Bool
+well_laid s = nat_le 4 s.total && (within s.total s.table && tiled 4 s.total s.table)
 
 abbrev pub Shaped : Laid → Shape → Type 0
 Shaped l s = (s.letter ≡ l.letter) × (s.total ≡ l.total) × (s.table.now ≡ l.table)

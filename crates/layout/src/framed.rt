@@ -1,7 +1,7 @@
 // What a message is to its reader and its writer, and the one reader and the one writer of all.
 ghost use Rattle.std.specs.Prelude.{◌≡◌, ◌≤◌, ℕ, true, List, length};
 ghost use Rattle.layout.specs.Layout.{Content, Body, Checked, AllOk, Says, text_places};
-ghost use Rattle.layout.specs.Shapes.{Laid, Shaped, fitting, laid};
+ghost use Rattle.layout.specs.Shapes.{Laid, Shaped, well_laid, laid};
 ghost use Rattle.layout.specs.Writing.{Wrote, over_all};
 ghost use Rattle.layout.specs.Holding.{HoldsIn};
 
@@ -54,7 +54,7 @@ pub trait Layout {
     }
 
     // its fields fill it to the end behind the header, and each stands within it
-    ghost fits: { fitting shape ≡ true };
+    ghost fits: { well_laid shape ≡ true };
 }
 
 /// A message by its layout: what its fields hold, and where its texts stand.
