@@ -34,11 +34,12 @@ and_also e (Some f) = e ∷ f ∷ []
 abbrev pub reports_of : Told → Change → Row → List ExecutionReport
 reports_of t c r = and_also (report_of t c r) (restated_of t c r)
 
--- reports folded in turn, up to the first that is refused
+-- one report more, where none was refused before
 abbrev pub fold_one : Partition → Result Knowledge FoldRefusal → ExecutionReport → Result Knowledge FoldRefusal
 fold_one p (Ok k) e = fold p (told_of (Execution e)) k
 fold_one p (Err x) e = Err x
 
+-- reports folded in turn, up to the first that is refused
 abbrev pub fold_all : Partition → List ExecutionReport → Result Knowledge FoldRefusal → Result Knowledge FoldRefusal
 fold_all p es k = fold_each (fold_one p) k es
 

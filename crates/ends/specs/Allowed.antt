@@ -154,6 +154,7 @@ abbrev pub onward : ℕ → Result Line Breach → Done → Result Line Breach
 onward c (Ok l) x = after_call c x l
 onward c (Err b) x = Err b
 
+-- the line after a log, or the first breach
 abbrev pub after_log : ℕ → List Done → Line → Result Line Breach
 after_log c xs l = fold (onward c) (Ok l) xs
 

@@ -70,10 +70,11 @@ Runs s d (x ∷ xs) w e =
     (u : State) × (f : Desk) × Does s d x u f × Tells s d x × Sound u.venue × (length u.venue.rows ≤ ORDERS)
     × Tied f.token f.follower × Runs u f xs w e
 
--- the gateway's calls among them
+-- the gateway's call, if it was one
 abbrev pub venue_call : Done → Option VenueDone
 venue_call (done.Venue v) = Some v
 venue_call x = None
 
+-- the gateway's calls among them
 abbrev pub venue_log : List Done → List VenueDone
 venue_log xs = filter_map venue_call xs

@@ -18,5 +18,6 @@ laid l n fs = record { letter = l; total = n; table = fs }
 abbrev pub well_laid : Laid → Bool
 well_laid s = nat_le 4 s.total && (within s.total s.table && tiled 4 s.total s.table)
 
+-- a shape says so
 abbrev pub Shaped : Laid → Shape → Type 0
 Shaped l s = (s.letter ≡ l.letter) × (s.total ≡ l.total) × (s.table.now ≡ l.table)
