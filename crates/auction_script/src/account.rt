@@ -17,6 +17,7 @@ pub struct Account {
 }
 
 impl Account {
+    /// An account of nothing.
     pub fn new() -> Account
         ensures { result ≡ record { accepted = 0; refused = 0; trades = 0; traded = 0; expired = 0 } }
     {

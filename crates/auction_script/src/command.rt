@@ -117,7 +117,7 @@ fn cancel(number: &str) -> Result<Command, Misread>
     Ok(Command::Cancel(words::number(number)?))
 }
 
-/// The call of a line's words. Of several words that cannot be read the first is answered.
+/// The call of a line's words, or the first word that cannot be read.
 pub fn read(words: &[&str]) -> Result<Command, Misread>
     ensures { WordsRead words.now result }
 {

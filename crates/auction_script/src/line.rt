@@ -16,7 +16,8 @@ pub enum Line {
     Misread(Misread),
 }
 
-/// What a line says, given without the bytes that end it. One that is no text is misread like any other.
+/// What a line says, given without the bytes that end it. One that is no text is misread like any other. Its one error
+/// is want of memory.
 pub fn read(heap: Global, line: &[u8]) -> Result<Line, AllocError>
     ensures { IfOk result (LineRead line.now) }
 {

@@ -1,6 +1,6 @@
 -- How answers are written. Assumes nothing.
-use Rattle.std.specs.Prelude.{ℕ, ◌+◌, ◌/◌, ◌%◌, if◌then◌else◌, List, [], ◌∷◌, ◌++◌, codes, decimal, nat_lt}
-use Rattle.std.specs.Fmt.{signed_decimal}
+use Rattle.std.specs.Prelude.{ℕ, ◌+◌, ◌/◌, ◌%◌, false, List, ◌++◌, codes, decimal}
+use Rattle.std.specs.Fmt.{digits, signed_decimal}
 use Rattle.std.specs.List.{flat_map}
 use Rattle.texts.specs.Parties.{party_text}
 use Rattle.bench_account.specs.declared.answer.Answer.{Answer}
@@ -9,12 +9,9 @@ use Rattle.bench_account.specs.declared.answer.Payload.{Payload}
 use Rattle.bench_account.specs.declared.answer.Payload.TheVariants as payload
 use Rattle.bench_account.specs.declared.answer.Trade.{Trade}
 
--- a hex digit, a to f for 10 to 15
-abbrev pub glyph : ℕ → ℕ
-glyph d = if nat_lt d 10 then 48 + d else 87 + d
-
+-- a byte as two hex digits
 abbrev pub pair_text : ℕ → List ℕ
-pair_text b = glyph (b / 16) ∷ (glyph (b % 16) ∷ [])
+pair_text b = digits 16 false (b / 16) ++ digits 16 false (b % 16)
 
 abbrev pub hex_text : List ℕ → List ℕ
 hex_text bs = flat_map pair_text bs

@@ -1,22 +1,10 @@
 // What a call is answered, as a line of text.
-ghost use Rattle.std.specs.Prelude.{◌≡◌, ◌<◌, Some};
-ghost use Rattle.bench_account.specs.Answers.{answer_text, glyph, hex_text, payload_text, trade_text};
+ghost use Rattle.std.specs.Prelude.{Some};
+ghost use Rattle.bench_account.specs.Answers.{answer_text, hex_text, payload_text, trade_text};
 
 use std::fmt;
 use texts::party::Party;
 use texts::values::Price;
-
-fn digit(d: u8) -> char
-    requires { d < 16 }
-    ensures value { result ≡ glyph d }
-    ensures ascii { result < 128 }
-{
-    if d < 10 {
-        char::from(b'0' + d)
-    } else {
-        char::from(b'a' + (d - 10))
-    }
-}
 
 // Bytes as pairs of hex digits.
 #[derive(Clone, Copy)]
@@ -29,9 +17,9 @@ impl fmt::Display for Pairs<'_> {
 
     fn fmt<W: fmt::Write>(&self, f: &mut fmt::Formatter<W>) -> fmt::Result {
         for byte in self.bytes {
-            let high = digit(*byte / 16);
-            let low = digit(*byte % 16);
-            write!(f, "{high}{low}")?;
+            let high = *byte / 16;
+            let low = *byte % 16;
+            write!(f, "{high:x}{low:x}")?;
         }
         Ok(())
     }

@@ -74,6 +74,7 @@ impl Desk {
     ghost use Rattle.partitions.specs.PerPartition.{at};
     ghost use Rattle.bench_calls.specs.Seeing.{is_level, place_of, seen_as};
 
+    /// The desk of a line, whose follower is not up and knows no order. Its one error is want of memory.
     pub fn new(heap: Global, line: usize) -> Result<Desk, AllocError> {
         Ok(Desk {
             line,
@@ -92,6 +93,7 @@ impl Desk {
         let _idle = follower.lost(pending);
     }
 
+    /// Tells the follower that its line is up, keeps the call in the log, and prints the answer.
     pub fn up<R: Print>(&mut self, rt: &R, state: &mut State) -> io::Result<()> {
         let pending = mem::replace(&mut self.pending, Pending::Idle);
         self.pending = self.follower.up(pending);
@@ -99,6 +101,7 @@ impl Desk {
         state.tell(rt, Answer::Up)
     }
 
+    /// Tells the follower that its line is lost, keeps the call in the log, and prints the answer.
     pub fn lost<R: Print>(&mut self, rt: &R, state: &mut State) -> io::Result<()> {
         let pending = mem::replace(&mut self.pending, Pending::Idle);
         self.pending = self.follower.lost(pending);
@@ -106,6 +109,7 @@ impl Desk {
         state.tell(rt, Answer::Lost)
     }
 
+    /// Gives the follower a message of the real-time channel, keeps the call in the log, and prints what it became.
     pub fn live<R: Print>(&mut self, rt: &R, state: &mut State, message: &[u8]) -> io::Result<()> {
         let pending = mem::replace(&mut self.pending, Pending::Idle);
         let (outcome, pending) = self.follower.live(message, pending);
@@ -114,6 +118,7 @@ impl Desk {
         became_live(rt, state, outcome)
     }
 
+    /// The same with a message of the recovery channel.
     pub fn recovered<R: Print>(
         &mut self,
         rt: &R,
@@ -181,12 +186,14 @@ impl Desk {
         self.pending.owed().is_some()
     }
 
+    /// Whether the follower is up.
     pub fn is_up(&self) -> bool
         ensures { result ≡ self.now.follower.up }
     {
         self.follower.is_up()
     }
 
+    /// Whether the follower says level of a partition.
     pub fn is_level(&self, partition: Partition) -> bool
         ensures { result ≡ is_level (at self.now.follower.sides partition).state }
     {

@@ -17,6 +17,8 @@ pub fn front(buffer: &[u8; BUFFER], length: usize) -> &[u8] {
     &buffer[..length.min(BUFFER)]
 }
 
+/// What is kept while a script is played: its account, the clock, how messages are printed, what is under way on the
+/// line, what came of it, and the log of the calls.
 #[derive(Drop)]
 pub struct State {
     pub account: Account,
@@ -58,6 +60,7 @@ impl Carried {
 }
 
 impl State {
+    /// Nothing has happened yet, and the clock stands at 0.
     pub fn new(heap: Global) -> State {
         State {
             account: Account::new(),

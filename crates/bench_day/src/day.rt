@@ -13,6 +13,7 @@ use wire_store::codec::WireCodec;
 
 type WireStore = Buffered<WireCodec>;
 
+/// A gateway over one of the two engines and one of the two stores.
 #[derive(Drop)]
 pub enum Day {
     LitRecords(Gateway<LitBook, Records>),

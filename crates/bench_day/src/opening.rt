@@ -24,8 +24,8 @@ pub enum Shelf {
     Wire(usize),
 }
 
-/// What the lines of the configuration came to. With none that says otherwise, a lit book and a store of records with as
-/// many places as a day can need.
+/// What the lines of the configuration came to. With none that says otherwise, a lit book and a store of records with
+/// as many places as a day can need.
 #[derive(Drop)]
 pub struct Opening {
     participants: Vec<Participant>,
@@ -37,6 +37,7 @@ pub struct Opening {
 }
 
 impl Opening {
+    /// No line yet.
     pub fn new(heap: Global) -> Opening {
         Opening {
             participants: Vec::new(heap),
@@ -47,6 +48,7 @@ impl Opening {
         }
     }
 
+    /// A line of a CompID; that its texts do not fit is told by `finish`. Its one error is want of memory.
     pub fn comp_id(
         &mut self,
         name: &str,
@@ -61,6 +63,8 @@ impl Opening {
         Ok(())
     }
 
+    /// A line of an instrument; that its texts do not fit, or that there is no such partition, is told by `finish`. Its
+    /// one error is want of memory.
     pub fn instrument(
         &mut self,
         symbol: &str,
@@ -74,10 +78,12 @@ impl Opening {
         Ok(())
     }
 
+    /// The engine to start with.
     pub fn engine(&mut self, engine: Engine) {
         self.engine = engine;
     }
 
+    /// The store to start with.
     pub fn shelf(&mut self, shelf: Shelf) {
         self.shelf = shelf;
     }

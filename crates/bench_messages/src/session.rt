@@ -41,6 +41,7 @@ impl Logon {
     ghost use Rattle.session_messages.specs.Session.{logon_contents};
     ghost use Rattle.bench_messages.specs.Sessions.{logon_asked};
 
+    /// A Logon of this sender, whose password stays.
     pub fn new(sender: &Sender) -> Logon
         ensures { result.sender ≡ sender.now }
     {
@@ -75,6 +76,7 @@ impl Logout {
     ghost use Rattle.session_messages.specs.Session.{logout_contents};
     ghost use Rattle.bench_messages.specs.Sessions.{logout_asked};
 
+    /// A Logout without a reason.
     pub fn new() -> Logout {
         Logout {
             reason: FixedText::empty(),

@@ -114,8 +114,8 @@ impl Play {
         }
     }
 
-    /// Ends it; what the follower owes ends too. Each part is let go by a call: where a value goes at the end of a scope,
-    /// all that it holds is taken apart in that function's proof.
+    /// Ends it; what the follower owes ends too. Each part is let go by a call: where a value goes at the end of a
+    /// scope, all that it holds is taken apart in that function's proof.
     pub fn close(self) {
         let Play {
             opening,
@@ -281,10 +281,12 @@ impl Play {
         }
     }
 
+    /// Whether a day was started.
     pub fn is_started(&self) -> bool {
         self.day.is_some()
     }
 
+    /// Whether a desk follows the day.
     pub fn is_followed(&self) -> bool {
         self.desk.is_some()
     }

@@ -47,7 +47,7 @@ impl<C: Codec + Drop> Buffered<C> {
     ghost use Rattle.byte_store.specs.Places.{free_places};
     ghost use Rattle.byte_store.specs.Views.{kept_in, free_in};
 
-    /// A store with so many bytes.
+    /// A store with so many bytes. Its one error is want of memory.
     pub fn new(alloc: Global, codec: C, size: usize) -> Result<Buffered<C>, AllocError>
         ensures { IfOk result (λ s. (kept_in C.Codec.decoded s ≡ empty) × (free_in s ≡ free_places size 0 0)) }
     {

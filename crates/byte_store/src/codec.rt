@@ -27,6 +27,7 @@ pub trait Codec {
         ensures short { result ≤ MESSAGE_BYTES }
         ensures back { decoded (coded partition number.value report) ≡ report };
 
+    /// The report that bytes hold.
     fn decode(&self, bytes: &[u8]) -> Report
         ensures { result ≡ decoded bytes.now };
 }

@@ -29,6 +29,7 @@ pub trait Session {
 
 /// What a program that reads no input does.
 pub trait Task {
+    /// Does the work, and prints what comes of it.
     fn work<R: Print + Eprint + Clock + AllocGlobal>(&mut self, rt: &R) -> io::Result<()>;
 }
 
@@ -152,8 +153,8 @@ fn ended<R: Eprint>(rt: &R, about: About, outcome: io::Result<ExitCode>) -> Exit
     }
 }
 
-/// Runs a program: `--help` is answered and a command line that is not understood gets its usage and status 2; else each
-/// input is fed to the session, a line at a time.
+/// Runs a program: `--help` is answered and a command line that is not understood gets its usage and status 2; else
+/// each input is fed to the session, a line at a time.
 pub fn run<R: Print + Eprint + Input + Files + Env + AllocGlobal, S: Session>(
     rt: &R,
     about: About,

@@ -3,7 +3,7 @@
 
 ghost use Rattle.examples.specs.Examples.{Examples};
 
-// It gives nothing: its contract is the theorem.
+/// Gives nothing: its contract is that the worked examples of every layer hold.
 pub fn examples_hold()
     ensures { Examples }
 {}

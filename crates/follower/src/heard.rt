@@ -26,6 +26,7 @@ impl Held {
     ghost use Rattle.std.specs.Prelude.{◌≡◌};
     ghost use Rattle.follower.specs.Numbers.{number_of};
 
+    /// The number that the report states; one below 0 counts as 0.
     pub fn number(&self) -> Number
         ensures { result ≡ number_of self.now }
     {

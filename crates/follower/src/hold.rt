@@ -37,6 +37,7 @@ impl Hold {
     ghost use Rattle.reports.specs.Known.{known};
     ghost use Rattle.follower.specs.Folding.{reached, caught_up, CatchesUp};
 
+    /// A hold with nothing in it.
     pub fn new() -> Hold
         ensures { result ≡ [] }
     {

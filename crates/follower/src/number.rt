@@ -28,6 +28,7 @@ impl Model for Number {
 }
 
 impl Number {
+    /// The number below that of the first report.
     pub fn zero() -> Number
         ensures { result ≡ 0 }
     {
@@ -43,6 +44,7 @@ impl Number {
         }
     }
 
+    /// The number itself.
     pub fn get(self) -> u32
         ensures { result ≡ self }
     {

@@ -43,7 +43,7 @@ impl Pending {
         Pending::Owed(Download { partition })
     }
 
-    /// The partition of the download that is owed.
+    /// The partition of the download that is owed, if one is.
     pub fn owed(&self) -> Option<Partition>
         ensures { result ≡ owed self.now }
     {

@@ -56,6 +56,7 @@ impl Follower {
         self.sides.at(partition).hold.len()
     }
 
+    /// Whether the follower is up.
     pub fn is_up(&self) -> bool
         ensures { result ≡ self.now.up }
     {

@@ -39,7 +39,7 @@ impl<M: Matcher, S: Store> Gateway<M, S> {
         self.hear(Channel::RealTime, line, message, time, reply)
     }
 
-    /// Takes a message on a line's recovery channel, as `real_time_message` does on the other.
+    /// Takes a message on a line's recovery channel, as `real_time_message` does on the other, with the same refusals.
     pub fn recovery_message(
         &mut self,
         line: usize,

@@ -1,6 +1,6 @@
 -- A message as text: its name, and each field that is not reserved under its name. Assumes nothing.
-use Rattle.std.specs.Prelude.{ℕ, suc, ◌+◌, ◌*◌, ◌/◌, ◌%◌, Bool, true, false, if◌then◌else◌, ◌&&◌, List, [], ◌∷◌, ◌++◌, ℤ, pos, negsuc, codes, decimal, Option, ◌==◌, nat_le, nat_lt}
-use Rattle.std.specs.Fmt.{signed_decimal}
+use Rattle.std.specs.Prelude.{ℕ, suc, ◌+◌, ◌*◌, ◌/◌, ◌%◌, Bool, true, false, if◌then◌else◌, ◌&&◌, List, [], ◌∷◌, ◌++◌, ℤ, pos, negsuc, codes, decimal, Option, ◌==◌, nat_le}
+use Rattle.std.specs.Fmt.{digits, signed_decimal}
 use Rattle.std.specs.Option.{option_map_or}
 use Rattle.texts.specs.Identifiers.{order_id_text}
 use Rattle.codes.specs.Lists.{alpha}
@@ -34,15 +34,12 @@ abbrev pub price_text : ℤ → List ℕ
 price_text (pos n) = amount n
 price_text (negsuc n) = 45 ∷ amount (suc n)
 
-abbrev pub hex_glyph : ℕ → ℕ
-hex_glyph d = if nat_lt d 10 then 48 + d else 55 + d
-
 -- a byte that is a character: itself where it is printable and no space, null, or 0x and two hex digits
 abbrev pub alpha_text : ℕ → List ℕ
 alpha_text b =
     if b == 0 then codes "null"
     else if nat_le 33 b && nat_le b 126 then b ∷ []
-    else 48 ∷ (120 ∷ (hex_glyph (b / 16) ∷ (hex_glyph (b % 16) ∷ [])))
+    else codes "0x" ++ (digits 16 true (b / 16) ++ digits 16 true (b % 16))
 
 -- whether a field's byte is a character and no number
 abbrev pub holds_alpha : Form → Bool

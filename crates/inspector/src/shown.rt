@@ -1,11 +1,11 @@
 // A message as a line of text: its name, and what each of its fields holds, read at its place in the checked bytes.
-ghost use Rattle.std.specs.Prelude.{◌≡◌, ◌+◌, ◌*◌, ◌<◌, ◌≤◌, length, true, Some};
+ghost use Rattle.std.specs.Prelude.{◌≡◌, ◌+◌, ◌*◌, ◌≤◌, length, true, Some};
 ghost use Rattle.std.specs.Option.{option_map};
 ghost use Rattle.texts.specs.Bytes.{all_printable, part, said};
 ghost use Rattle.layout.specs.Layout.{span, form_of, got, within};
 ghost use Rattle.wire.specs.Kinds.{table_of};
 ghost use Rattle.inspector.specs.Labels.{spelt};
-ghost use Rattle.inspector.specs.Shown.{hex_glyph, quoted, four, amount, price_text, alpha_text, order_text, content_text, field_text, bytes_text, shown_text};
+ghost use Rattle.inspector.specs.Shown.{quoted, four, amount, price_text, alpha_text, order_text, content_text, field_text, bytes_text, shown_text};
 
 use crate::labels::{names, title};
 use layout::field::{Field, Form};
@@ -117,18 +117,6 @@ impl fmt::Display for Decimal {
     }
 }
 
-fn hex_digit(d: u8) -> char
-    requires { d < 16 }
-    ensures value { result ≡ hex_glyph d }
-    ensures ascii { result < 128 }
-{
-    if d < 10 {
-        char::from(b'0' + d)
-    } else {
-        char::from(b'A' + (d - 10))
-    }
-}
-
 /// A byte that is a character.
 #[derive(Clone, Copy)]
 struct Alpha(u8);
@@ -140,7 +128,7 @@ impl fmt::Display for Alpha {
         match self.0 {
             0 => f.write_str("null"),
             0x21..=0x7e => write!(f, "{}", char::from(self.0)),
-            _ => write!(f, "0x{}{}", hex_digit(self.0 / 16), hex_digit(self.0 % 16)),
+            _ => write!(f, "0x{:X}{:X}", self.0 / 16, self.0 % 16),
         }
     }
 }

@@ -113,6 +113,7 @@ pub fn put_u8(out: &mut [u8], at: usize, byte: u8)
     put(out, at, &[byte]);
 }
 
+/// A number of four bytes, the lowest first.
 #[tactic(auto, unfolding(crate::specs::Writing::field_bytes))]
 pub fn put_u32(out: &mut [u8], at: usize, number: u32)
     requires { at + 4 ≤ length out.old }
@@ -122,6 +123,7 @@ pub fn put_u32(out: &mut [u8], at: usize, number: u32)
     put(out, at, &number.to_le_bytes());
 }
 
+/// A number of eight bytes, the lowest first.
 #[tactic(auto, unfolding(crate::specs::Writing::field_bytes))]
 pub fn put_u64(out: &mut [u8], at: usize, number: u64)
     requires { at + 8 ≤ length out.old }
@@ -132,6 +134,7 @@ pub fn put_u64(out: &mut [u8], at: usize, number: u64)
 }
 
 // Signed numbers come by reference: by value a clause would see them by their bits.
+/// A signed number of one byte.
 #[tactic(auto, unfolding(crate::specs::Writing::field_bytes))]
 pub fn put_i8(out: &mut [u8], at: usize, number: &i8)
     requires { at + 1 ≤ length out.old }
@@ -141,6 +144,7 @@ pub fn put_i8(out: &mut [u8], at: usize, number: &i8)
     put(out, at, &number.cast_unsigned().to_le_bytes());
 }
 
+/// A signed number of four bytes, the lowest first.
 #[tactic(auto, unfolding(crate::specs::Writing::field_bytes))]
 pub fn put_i32(out: &mut [u8], at: usize, number: &i32)
     requires { at + 4 ≤ length out.old }
@@ -150,6 +154,7 @@ pub fn put_i32(out: &mut [u8], at: usize, number: &i32)
     put(out, at, &number.cast_unsigned().to_le_bytes());
 }
 
+/// A price: a signed number of eight bytes, in hundred-millionths.
 #[tactic(auto, unfolding(crate::specs::Writing::field_bytes))]
 pub fn put_price(out: &mut [u8], at: usize, amount: &Price)
     requires { at + 8 ≤ length out.old }
@@ -159,6 +164,7 @@ pub fn put_price(out: &mut [u8], at: usize, amount: &Price)
     put(out, at, &amount.raw.cast_unsigned().to_le_bytes());
 }
 
+/// A time: the seconds, and behind them the microseconds, four bytes each.
 #[tactic(auto, using(crate::proofs::Overs::over_over), unfolding(crate::specs::Writing::field_bytes))]
 pub fn put_time(out: &mut [u8], at: usize, time: &Time)
     requires { at + 8 ≤ length out.old }

@@ -30,6 +30,7 @@ impl<'a> Reader<'a> {
         &src[at..at + width]
     }
 
+    /// The byte at a place.
     #[tactic(auto, using(crate::proofs::Parts::le_1))]
     pub fn u8(&self, at: usize) -> u8
         requires { at + 1 ≤ length self.now.src.now }
@@ -38,6 +39,7 @@ impl<'a> Reader<'a> {
         self.src[at]
     }
 
+    /// The number of two bytes at a place, the lowest first.
     #[tactic(auto, using(crate::proofs::Parts::le_2))]
     pub fn u16(&self, at: usize) -> u16
         requires { at + 2 ≤ length self.now.src.now }
@@ -47,6 +49,7 @@ impl<'a> Reader<'a> {
         u16::from_le_bytes([s[at], s[at + 1]])
     }
 
+    /// The number of four bytes at a place, the lowest first.
     #[tactic(auto, using(crate::proofs::Parts::le_4))]
     pub fn u32(&self, at: usize) -> u32
         requires { at + 4 ≤ length self.now.src.now }
@@ -56,6 +59,7 @@ impl<'a> Reader<'a> {
         u32::from_le_bytes([s[at], s[at + 1], s[at + 2], s[at + 3]])
     }
 
+    /// The number of eight bytes at a place, the lowest first.
     #[tactic(auto, using(crate::proofs::Parts::le_8))]
     pub fn u64(&self, at: usize) -> u64
         requires { at + 8 ≤ length self.now.src.now }
@@ -74,6 +78,7 @@ impl<'a> Reader<'a> {
         ])
     }
 
+    /// The signed number of one byte at a place.
     pub fn i8(&self, at: usize) -> i8
         requires { at + 1 ≤ length self.now.src.now }
         ensures value { result ≡ to_z w8 (le (part at 1 self.now.src.now)) }
@@ -82,6 +87,7 @@ impl<'a> Reader<'a> {
         self.u8(at).cast_signed()
     }
 
+    /// The signed number of four bytes at a place, the lowest first.
     pub fn i32(&self, at: usize) -> i32
         requires { at + 4 ≤ length self.now.src.now }
         ensures value { result ≡ to_z w32 (le (part at 4 self.now.src.now)) }
@@ -90,6 +96,7 @@ impl<'a> Reader<'a> {
         self.u32(at).cast_signed()
     }
 
+    /// The price at a place: a signed number of eight bytes, in hundred-millionths.
     pub fn price(&self, at: usize) -> Price
         requires { at + 8 ≤ length self.now.src.now }
         ensures value { result.raw ≡ to_z w64 (le (part at 8 self.now.src.now)) }
@@ -100,6 +107,7 @@ impl<'a> Reader<'a> {
         }
     }
 
+    /// The time at a place: the seconds, and behind them the microseconds, four bytes each.
     #[tactic(auto, using(crate::proofs::Parts::first_half, crate::proofs::Parts::second_half))]
     pub fn time(&self, at: usize) -> Time
         requires { at + 8 ≤ length self.now.src.now }

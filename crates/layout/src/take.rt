@@ -80,6 +80,7 @@ pub fn u8_at(r: &Reader<'_>, at: usize) -> u8
     r.u8(at)
 }
 
+/// A number of four bytes.
 pub fn u32_at(r: &Reader<'_>, at: usize) -> u32
     requires { at + 4 ≤ length r.now.src.now }
     ensures { figure result ≡ got r.now.src.now (field.Always at form.UInt32) }
@@ -87,6 +88,7 @@ pub fn u32_at(r: &Reader<'_>, at: usize) -> u32
     r.u32(at)
 }
 
+/// A number of eight bytes.
 pub fn u64_at(r: &Reader<'_>, at: usize) -> u64
     requires { at + 8 ≤ length r.now.src.now }
     ensures { figure result ≡ got r.now.src.now (field.Always at form.UInt64) }
@@ -95,6 +97,7 @@ pub fn u64_at(r: &Reader<'_>, at: usize) -> u64
 }
 
 // This and the next in the form in which a struct's field holds the number: by its bits.
+/// A signed number of one byte.
 pub fn i8_at(r: &Reader<'_>, at: usize) -> i8
     requires { at + 1 ≤ length r.now.src.now }
     ensures { int8 (to_z w8 (of_z w8 result)) ≡ got r.now.src.now (field.Always at form.Int8) }
@@ -102,6 +105,7 @@ pub fn i8_at(r: &Reader<'_>, at: usize) -> i8
     r.i8(at)
 }
 
+/// A signed number of four bytes.
 pub fn i32_at(r: &Reader<'_>, at: usize) -> i32
     requires { at + 4 ≤ length r.now.src.now }
     ensures { int32 (to_z w32 (of_z w32 result)) ≡ got r.now.src.now (field.Always at form.Int32) }
@@ -109,6 +113,7 @@ pub fn i32_at(r: &Reader<'_>, at: usize) -> i32
     r.i32(at)
 }
 
+/// A price, in hundred-millionths.
 pub fn price_at(r: &Reader<'_>, at: usize) -> Price
     requires { at + 8 ≤ length r.now.src.now }
     ensures { price result.raw ≡ got r.now.src.now (field.Always at form.Price) }
@@ -116,6 +121,7 @@ pub fn price_at(r: &Reader<'_>, at: usize) -> Price
     r.price(at)
 }
 
+/// A time, in seconds and microseconds.
 pub fn time_at(r: &Reader<'_>, at: usize) -> Time
     requires { at + 8 ≤ length r.now.src.now }
     ensures { clock result.seconds result.microseconds ≡ got r.now.src.now (field.Always at form.Time) }

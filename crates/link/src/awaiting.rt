@@ -63,7 +63,8 @@ impl Awaiting {
         }
     }
 
-    /// Takes the bytes of the answer to the Logon. What is no Logon Reply leaves the link as it is.
+    /// Takes the bytes of the answer to the Logon: an accepting one makes the link trade, a refusing one takes it off
+    /// the line, and what is no Logon Reply leaves it as it is.
     #[tactic(auto, using(crate::proofs::Reading::accepted))]
     pub fn reply(self, bytes: &[u8]) -> Result<Trading, NotTrading>
         ensures becomes { Replied self bytes.now result }

@@ -27,21 +27,22 @@ impl Trading {
     ghost use Rattle.link.specs.Requests.{Sent};
     ghost use Rattle.link.specs.Replies.{LoggedOut};
 
-    /// A sign of life.
+    /// Writes a sign of life to the front of the buffer, and says how many bytes it has; those past it stay. A buffer
+    /// that is too short stays as it is.
     pub fn heartbeat(&self, out: &mut [u8]) -> Result<usize, TooShort>
         ensures { Sent (message.Heartbeat (record {})) out.old out.new result }
     {
         send(&Message::Heartbeat(Heartbeat), out)
     }
 
-    /// A new order.
+    /// Writes a new order, as `heartbeat` does its message.
     pub fn new_order(&self, order: &NewOrder<'_>, out: &mut [u8]) -> Result<usize, TooShort>
         ensures { Sent (message.NewOrder order.now) out.old out.new result }
     {
         send(&Message::NewOrder(*order), out)
     }
 
-    /// A request to cancel an order.
+    /// Writes a request to cancel an order, in the same way.
     pub fn cancel(
         &self,
         request: &OrderCancelRequest<'_>,
@@ -52,7 +53,7 @@ impl Trading {
         send(&Message::OrderCancelRequest(*request), out)
     }
 
-    /// A request to change an order's quantity and price.
+    /// Writes a request to change an order's quantity and price, in the same way.
     pub fn replace(
         &self,
         request: &OrderCancelReplaceRequest<'_>,
@@ -63,7 +64,7 @@ impl Trading {
         send(&Message::OrderCancelReplaceRequest(*request), out)
     }
 
-    /// A request to cancel many orders.
+    /// Writes a request to cancel many orders, in the same way.
     pub fn mass_cancel(
         &self,
         request: &OrderMassCancelRequest<'_>,
@@ -74,7 +75,7 @@ impl Trading {
         send(&Message::OrderMassCancelRequest(*request), out)
     }
 
-    /// Ends the session. Where the buffer is too short, the link trades on.
+    /// Writes a Logout, in the same way, and ends the session. Where the buffer is too short, the link trades on.
     pub fn logout(
         self,
         logout: &Logout<'_>,

@@ -107,7 +107,7 @@ pub trait Matcher {
         ensures after { meaning self.new ≡ happened (meaning self.old) result }
         ensures quiet { Quiet result (next self.new) };
 
-    /// The order that is open under a number.
+    /// The order that is open under a number, if one is.
     fn open_order(&self, number: u64) -> Option<Held>
         ensures { result ≡ get (meaning self.now).orders number };
 
@@ -123,6 +123,7 @@ pub trait Matcher {
     fn serves(&self, book: Book) -> bool
         ensures { result ≡ serves (meaning self.now) book };
 
+    /// Whether an order is open under a number.
     fn is_open(&self, number: u64) -> bool
         ensures { result ≡ is_some (get (meaning self.now).orders number) }
     {
@@ -136,6 +137,7 @@ pub trait Matcher {
         self.open_order(number).map_or(0, |order| order.quantity)
     }
 
+    /// Whether no order is open.
     fn is_empty(&self) -> bool
         ensures { result ≡ (len (meaning self.now).orders == 0) }
     {

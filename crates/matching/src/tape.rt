@@ -59,7 +59,7 @@ impl Tape {
     ghost use Rattle.matching.specs.Tapes.{NextLine, ahead, fits, played, tape_meaning, trade};
     ghost use Rattle.matching.specs.declared.tape.TheConstants as limit;
 
-    /// A tape with no order open that is to play the lines.
+    /// A tape with no order open that is to play the lines. Its one error is want of memory.
     pub fn new(heap: Global, lines: Vec<Line>) -> Result<Tape, AllocError>
         ensures { IfOk result (λ t. ((tape_meaning t).orders ≡ empty) × (ahead t ≡ lines.items)) }
     {

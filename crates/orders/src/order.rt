@@ -19,6 +19,7 @@ pub enum ReplaceRefusal {
 impl ReplaceRefusal {
     ghost use Rattle.orders.specs.Orders.{replace_number};
 
+    /// The number of the reason.
     pub fn number(self) -> u8
         ensures { result ≡ replace_number self }
     {
@@ -106,7 +107,9 @@ impl Order {
         Some(Order { row })
     }
 
-    /// The order with another quantity, price and client order id.
+    /// The order with another quantity, price and client order id. Refused with 26 where it is not open, 22 where the
+    /// quantity is 0 or above 1,000,000,000, and 27 where it is not above what is executed, tried in this order; the
+    /// order is then as it was.
     pub fn replace(self, ask: Ask) -> Result<Order, ReplaceRefusal>
         ensures answer { Replaces (replace_fault ask.quantity self) (replaced ask self) result }
         ensures figures { IfOk result (λ r. (r.ordered ≡ ask.quantity)

@@ -35,6 +35,7 @@ pub enum TradeRefusal {
 impl TradeRefusal {
     ghost use Rattle.orders.specs.Trades.{trade_number};
 
+    /// The number of the reason.
     pub fn number(self) -> u8
         ensures { result ≡ trade_number self }
     {
@@ -63,6 +64,7 @@ impl Model for Trades {
 impl Trades {
     ghost use Rattle.orders.specs.Trades.{Notes, Voids};
 
+    /// No trade, and room for those of a day. Its one error is want of memory.
     pub fn new(heap: Global) -> Result<Trades, AllocError>
         ensures { IfOk result (λ t. t ≡ []) }
     {
@@ -78,7 +80,7 @@ impl Trades {
         self.trades.len() as u64
     }
 
-    /// The trade of a number.
+    /// The trade of a number, if there is one.
     pub fn trade(&self, number: u64) -> Option<Trade>
         ensures { result ≡ under self.now number }
     {

@@ -15,6 +15,7 @@ pub struct PerPartition<T> {
 impl<T> PerPartition<T> {
     ghost use Rattle.partitions.specs.PerPartition.{at, LendsAt};
 
+    /// The thing of a partition.
     pub fn at(&self, partition: Partition) -> &T
         ensures { result.now ≡ at self.now partition }
     {

@@ -15,6 +15,7 @@ use std::marker::Model;
 pub trait Owned {
     ghost owner_of: { Self → ℕ };
 
+    /// Whose the item is.
     fn owner(&self) -> usize
         ensures { result ≡ owner_of self.now };
 }
@@ -84,6 +85,7 @@ impl<T: Copy + Owned> Series<T> {
     ghost use Rattle.partitions.specs.PerPartition.{for_each};
     ghost use Rattle.partitions.specs.Series.{next_of};
 
+    /// No item, and room for all that there can be. Its one error is want of memory.
     pub fn new(alloc: Global) -> Result<Series<T>, AllocError>
         ensures { IfOk result (λ s. s ≡ []) }
     {
@@ -92,7 +94,7 @@ impl<T: Copy + Owned> Series<T> {
         Ok(Series { items, marks })
     }
 
-    /// No items in any partition.
+    /// No items in any partition. Its one error is want of memory.
     pub fn for_each(alloc: Global) -> Result<PerPartition<Series<T>>, AllocError>
         ensures { IfOk result (λ s. s ≡ for_each []) }
     {
@@ -120,14 +122,14 @@ impl<T: Copy + Owned> Series<T> {
         self.marks.push_reserved(mark_of(item.owner()));
     }
 
-    /// The item of a number.
+    /// The item of a number, if there is one.
     pub fn item(&self, number: u32) -> Option<T>
         ensures { result ≡ under self.now number }
     {
         item_under(&self.items, u64::from(number))
     }
 
-    /// The lowest number above a given one whose item is the owner's.
+    /// The lowest number above a given one whose item is the owner's, if there is one.
     pub fn next(&self, owner: usize, above: u32) -> Option<u32>
         ensures { result ≡ next_of T.owner_of self.now owner above }
     {

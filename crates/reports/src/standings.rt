@@ -36,6 +36,7 @@ pub enum FoldRefusal {
 impl FoldRefusal {
     ghost use Rattle.reports.specs.Fold.{fold_number};
 
+    /// The number of the reason.
     pub fn number(self) -> u8
         ensures { result ≡ fold_number self }
     {
@@ -75,6 +76,7 @@ impl Standings {
     ghost use Rattle.reports.specs.Known.{known, Once};
     ghost use Rattle.reports.specs.Fold.{nothing_known, fold_order, fold, Folds};
 
+    /// No order is known, and there is room for those of a day. Its one error is want of memory.
     pub fn new(heap: Global) -> Result<Standings, AllocError>
         ensures { IfOk result (λ s. (s ≡ []) × (known s ≡ nothing_known)) }
     {
@@ -93,7 +95,7 @@ impl Standings {
         self.rows.len()
     }
 
-    /// The known order at an index, in the order in which they were added.
+    /// The known order at an index, in the order in which they were added; none past the last.
     pub fn get(&self, index: usize) -> Option<Known>
         ensures value { result ≡ slice_get self.now index }
         ensures standing { IfSome result (λ k. get (known self.now) k.number ≡ Some k.standing) }
@@ -118,7 +120,7 @@ impl Standings {
         place_of(&self.rows, number)
     }
 
-    /// Where an order stands.
+    /// Where an order stands, if it is known.
     #[tactic(auto, using(crate::proofs::Rows::standing_some, crate::proofs::Rows::standing_none))]
     pub fn standing(&self, number: u64) -> Option<Standing>
         ensures { result ≡ get (known self.now) number }

@@ -72,7 +72,7 @@ fn named_by(line: usize, listing: &Listing, m: &OrderCancelRequest<'_>) -> Namin
     }
 }
 
-/// Cancels an open order of a line's CompID, or reports why not.
+/// Cancels an open order of a line's CompID, or reports why not. Turned down, nothing changes.
 #[tactic(auto, using(crate::proofs::Found::opened))]
 pub fn cancel<M: Matcher, S: Store>(
     venue: &mut Venue<M, S>,

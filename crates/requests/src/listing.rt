@@ -26,7 +26,7 @@ fn place_of(instruments: &[Instrument], symbol: &[u8]) -> Option<usize>
         .position(|instrument| is_called(instrument, symbol))
 }
 
-/// The instrument of a symbol.
+/// The instrument of a symbol, if there is one.
 pub fn look_up(instruments: &[Instrument], symbol: &[u8]) -> Option<Listing>
     ensures { result ≡ look_up instruments.now symbol.now }
 {

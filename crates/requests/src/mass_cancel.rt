@@ -184,7 +184,8 @@ fn in_segment<M: Matcher, S: Store>(
 }
 
 /// Cancels the open orders in a request's scope: those of a line's CompID, or of its firm among the participants. The
-/// requester is told in the instrument's partition or in all three, and then each order's owner.
+/// requester is told in the instrument's partition or in all three, and then each order's owner. Turned down, nothing
+/// changes.
 pub fn mass_cancel<M: Matcher, S: Store>(
     venue: &mut Venue<M, S>,
     participants: &[Participant],

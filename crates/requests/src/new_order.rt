@@ -108,7 +108,7 @@ fn asked<M: Matcher, S: Store>(venue: &Venue<M, S>, m: &NewOrder<'_>) -> Result<
     ask_of(m).ok_or(Refusal::BadTerms)
 }
 
-/// Accepts an order of a line's CompID, or reports why not.
+/// Accepts an order of a line's CompID, or reports why not. Turned down, nothing changes.
 pub fn new_order<M: Matcher, S: Store>(
     venue: &mut Venue<M, S>,
     line: usize,

@@ -15,6 +15,7 @@ pub enum Turned {
 }
 
 impl Turned {
+    /// The number of the reason.
     pub fn number(self) -> u8
         ensures { result ≡ turned_number self }
     {
@@ -37,6 +38,7 @@ pub enum Refusal {
 }
 
 impl Refusal {
+    /// The number of the reason.
     pub fn number(self) -> u8
         ensures { result ≡ refusal_number self }
     {

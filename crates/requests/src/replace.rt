@@ -83,7 +83,8 @@ fn judge<M: Matcher, S: Store>(
     })
 }
 
-/// Replaces quantity, price and client order id of an open order of a line's CompID, or reports why not.
+/// Replaces quantity, price and client order id of an open order of a line's CompID, or reports why not. Turned down,
+/// nothing changes.
 pub fn replace<M: Matcher, S: Store>(
     venue: &mut Venue<M, S>,
     line: usize,

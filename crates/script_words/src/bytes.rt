@@ -43,7 +43,7 @@ impl<'a> Bytes<'a> {
         }
     }
 
-    /// The bytes.
+    /// The bytes. Its one error is want of memory.
     pub fn to_vec(self, heap: Global) -> Result<Vec<u8>, AllocError>
         ensures { IfOk result (λ bytes. bytes.items ≡ bytes_of self.entry.word.now) }
     {

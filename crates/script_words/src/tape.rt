@@ -30,7 +30,7 @@ impl<'a> Tape<'a> {
         }
     }
 
-    /// The trades.
+    /// The trades. Its one error is want of memory.
     pub fn lines(self, heap: Global) -> Result<Vec<Line>, AllocError>
         ensures { IfOk result (λ lines. lines.items ≡ lines_of self.entry.words.now) }
     {

@@ -32,6 +32,7 @@ pub enum RequestRefusal {
 }
 
 impl LogonRefusal {
+    /// The number of the reason.
     pub fn number(self) -> u8
         ensures { result ≡ logon_number self }
     {
@@ -40,6 +41,7 @@ impl LogonRefusal {
 }
 
 impl RequestRefusal {
+    /// The number of the reason.
     pub fn number(self) -> u8
         ensures { result ≡ request_number self }
     {
@@ -116,7 +118,8 @@ impl Session {
     }
 
     /// The session with a channel logged on. A Logon on the real-time channel fixes each partition's last number, above
-    /// which reports are sent.
+    /// which reports are sent. Refused with 12 where the channel is on already, and 13 where the recovery channel is to
+    /// be on without the real-time one; the session is then as it was.
     pub fn logon(self, channel: Channel, lasts: PerPartition<u32>) -> Result<Session, LogonRefusal>
         ensures { result ≡ logged_on channel lasts self }
     {
@@ -199,7 +202,8 @@ impl Session {
         next
     }
 
-    /// The next report to send to the line's CompID: of the lowest partition that has one. It is then sent.
+    /// The next report to send to the line's CompID, if there is one: of the lowest partition that has one. It is then
+    /// sent.
     pub fn next_live<S: Store>(&mut self, owner: usize, store: &S) -> Option<(Partition, u32)>
         ensures answer { result ≡ next_to_send (S.kept store.now) owner self.old.sent }
         ensures after { self.new ≡ with_sent self.old (sent_after (S.kept store.now) owner self.old.sent) }

@@ -32,11 +32,11 @@ pub trait Store {
     fn append(&mut self, partition: Partition, entry: Entry) -> Option<u32>
         ensures { Appends (kept self.old) (free self.old) partition entry result (kept self.new) (free self.new) };
 
-    /// The report of a number, with its owner.
+    /// The report of a number, with its owner, if there is one.
     fn read(&self, partition: Partition, number: u32) -> Option<Entry>
         ensures { result ≡ under (at (kept self.now) partition) number };
 
-    /// The lowest number above a given one whose report is the owner's.
+    /// The lowest number above a given one whose report is the owner's, if there is one.
     fn next(&self, partition: Partition, owner: usize, above: u32) -> Option<u32>
         ensures { result ≡ next_after (at (kept self.now) partition) owner above };
 

@@ -23,7 +23,7 @@ pub struct Records {
 }
 
 impl Records {
-    /// A store with so many places, at most 16,384.
+    /// A store with so many places, at most 16,384. Its one error is want of memory.
     pub fn new(alloc: Global, places: usize) -> Result<Records, AllocError>
         ensures { IfOk result (λ s. (s.reports ≡ empty) × (s.places ≡ min places REPORTS)) }
     {

@@ -21,6 +21,7 @@ pub enum Execution {
 impl Execution {
     ghost use Rattle.terms.specs.Execution.{kind_of};
 
+    /// What happened, without what is told of it.
     pub fn kind(&self) -> ExecType
         ensures { result ≡ kind_of self.now }
     {

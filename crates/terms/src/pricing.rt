@@ -24,6 +24,7 @@ impl Pricing {
         }
     }
 
+    /// The type that such an order has.
     pub fn order_type(&self) -> OrderType
         ensures { result ≡ order_type_of self.now }
     {

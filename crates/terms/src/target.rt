@@ -13,6 +13,7 @@ pub enum Target {
 impl Target {
     ghost use Rattle.terms.specs.Target.{book_of};
 
+    /// The book, without when the order takes part in it.
     pub fn book(&self) -> Book
         ensures { result ≡ book_of self.now }
     {

@@ -37,7 +37,7 @@ fn filled<const N: usize>(text: &[u8]) -> [u8; N]
 }
 
 impl<const N: usize> FixedText<N> {
-    /// Keeps a text that fits the field and is printable throughout.
+    /// Keeps a text, if it fits the field and is printable throughout.
     pub fn new(text: &[u8]) -> Option<FixedText<N>>
         ensures { MatchOption result (fitting N text.now ≡ false)
             (λ t. (fitting N text.now ≡ true) × (t.bytes ≡ padded N text.now) × (said t.bytes ≡ text.now)) }
@@ -79,7 +79,7 @@ impl<const N: usize> FixedText<N> {
 }
 
 impl RequestId {
-    /// Keeps a text that fits the field, is printable throughout and is not empty.
+    /// Keeps a text, if it fits the field, is printable throughout and is not empty.
     pub fn new(text: &[u8]) -> Option<RequestId>
         ensures { MatchOption result (fitting_name 20 text.now ≡ false)
             (λ t. (fitting_name 20 text.now ≡ true) × (t.id.bytes ≡ padded 20 text.now)

@@ -13,6 +13,7 @@ pub enum AcceptRefusal {
 impl AcceptRefusal {
     ghost use Rattle.venue.specs.Steps.{accept_number};
 
+    /// The number of the reason.
     pub fn number(self) -> u8
         ensures { result ≡ accept_number self }
     {

@@ -303,14 +303,14 @@ impl<M: Matcher, S: Store> Venue<M, S> {
         self.table.len()
     }
 
-    /// The order of a number.
+    /// The order of a number, if there is one.
     pub fn order(&self, number: u64) -> Option<Order>
         ensures { result ≡ under self.now.rows number }
     {
         self.table.order(number)
     }
 
-    /// The owner's highest-numbered order whose current client order id this is.
+    /// The owner's highest-numbered order whose current client order id this is, if he has one.
     pub fn named(&self, owner: usize, client: FixedText<20>) -> Option<Order>
         ensures { result ≡ latest owner (said client.bytes) self.now.rows }
     {
@@ -324,7 +324,7 @@ impl<M: Matcher, S: Store> Venue<M, S> {
         self.trades.len()
     }
 
-    /// The trade of a number.
+    /// The trade of a number, if there is one.
     pub fn trade(&self, number: u64) -> Option<Trade>
         ensures { result ≡ under self.now.trades number }
     {

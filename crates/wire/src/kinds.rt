@@ -159,7 +159,7 @@ impl Channel {
         }
     }
 
-    /// The kind that a type byte names, of those that are read here.
+    /// The kind that a type byte names, if it is one of those that are read here.
     pub fn kind(self, letter: u8) -> Option<Kind>
         ensures { result ≡ takes self letter }
     {

@@ -18,6 +18,7 @@ pub struct Texts {
 }
 
 impl Texts {
+    /// The texts of the one order.
     pub fn new() -> Texts {
         Texts {
             client: RequestId::new(b"ORDER-0000000001").unwrap(),

@@ -13,7 +13,7 @@ use std::alloc::{AllocError, Global};
 
 pub mod codec;
 
-/// A store of so many wire bytes that has no report yet.
+/// A store of so many wire bytes that has no report yet. Its one error is want of memory.
 pub fn new(alloc: Global, size: usize) -> Result<Buffered<WireCodec>, AllocError>
     ensures { IfOk result (λ s. (kept_in decoded s ≡ empty) × (free_in s ≡ free_places size 0 0)) }
 {
