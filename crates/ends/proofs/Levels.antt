@@ -60,7 +60,8 @@ module _ {A : Type 0} (p : Partition) where
 
 module _ (p : Partition) where
   held_level : (f : Following) (q : Partition) (h : Held) → LevelAt f p → LevelAt (held f q h).after p
-  held_level f q h l = written (λ q y. IsLevel y) f.sides q p _ (λ e. subst (λ u. (at f.sides u).state ≡ Level) (sym e) l) l
+  held_level f q h l =
+      written (λ q y. IsLevel y) f.sides q p _ (λ e. subst (λ u. (at f.sides u).state ≡ Level) (sym e) l) l
 
   if_room : (b : Bool) (f : Following) (q : Partition) (h : Held) → LevelAt f p
       → is_full (cond b (held f q h) (overrun f)).answer ≡ false → LevelAt (cond b (held f q h) (overrun f)).after p

@@ -117,7 +117,8 @@ module _ (f : Following) (u : f.up ≡ true) (quiet : Quiet f) where
   level p (Err e) = quiet
   level p (Ok r) =
       up_quiet (levelled f p (Ok r)).after u
-      (or_as_it_was (λ q y. HoldsNothing y) f.sides p (record { place = r.place; state = Level; hold = [] }) (λ e. refl) quiet.level)
+      (or_as_it_was (λ q y. HoldsNothing y) f.sides p
+      (record { place = r.place; state = Level; hold = [] }) (λ e. refl) quiet.level)
 
   end_of : (p : Partition) (r : ReportResponse) → Leaves (ended_of f p r)
   end_of p ending.Complete = level p (caught_up p (reached f.standings (at f.sides p).place) (at f.sides p).hold)
