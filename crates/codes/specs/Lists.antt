@@ -1,6 +1,7 @@
 -- The lists of codes, by name. Assumes nothing.
-use Rattle.std.specs.Prelude.{ℕ, Bool, ◌&&◌, ◌||◌, nat_le, List, [], ◌∷◌, map}
+use Rattle.std.specs.Prelude.{◌≡◌, ℕ, Bool, true, ◌&&◌, ◌||◌, nat_le, List, [], ◌∷◌, map}
 use Rattle.std.specs.List.{list_any}
+use Rattle.codes.specs.Member.{member}
 use Rattle.codes.specs.declared.lists.Codes.{Codes}
 use Rattle.codes.specs.declared.lists.Codes.TheVariants as list
 use Rattle.codes.specs.declared.order.OrderType.TheVariants as order_type
@@ -43,6 +44,11 @@ listed list.BySegment = map mass_cancel_type_code (mass_cancel_type.FirmSegment 
 listed list.RejectedOnly = map exec_type_code (exec_type.Rejected ∷ [])
 listed list.TradeOnly = map exec_type_code (exec_type.Trade ∷ [])
 listed list.TradeOrCancel = map exec_type_code (exec_type.Trade ∷ exec_type.TradeCancel ∷ [])
+
+-- a type's values have bytes of the list, and no two the same
+pub record AreSound {V : Type 0} (list : Codes) (coded : V → ℕ) : Type 0 where
+  pub every : (x : V) → member (coded x) (listed list) ≡ true
+  pub one : (x y : V) → coded x ≡ coded y → x ≡ y
 
 -- a digit or a capital letter
 abbrev pub is_character : ℕ → Bool

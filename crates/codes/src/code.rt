@@ -1,7 +1,7 @@
 // A byte that stands for one of a few values.
-ghost use Rattle.std.specs.Prelude.{◌≡◌, ℕ, true, is_some, IfSome};
+ghost use Rattle.std.specs.Prelude.{◌≡◌, ℕ, is_some, IfSome};
 ghost use Rattle.codes.specs.declared.lists.Codes.{Codes as Lists};
-ghost use Rattle.codes.specs.Lists.{listed};
+ghost use Rattle.codes.specs.Lists.{listed, AreSound};
 ghost use Rattle.codes.specs.Member.{member};
 
 /// What a field of one byte says: one of a few values, each with a byte of its own.
@@ -23,11 +23,8 @@ pub trait Code {
     fn byte(&self) -> u8
         ensures { result ≡ Self.coded self.now };
 
-    // each value's byte is listed
-    ghost every: { (x : Self) → member (coded x) (listed list) ≡ true };
-
-    // no two values have one byte
-    ghost one: { (x y : Self) → coded x ≡ coded y → x ≡ y };
+    // each value's byte is listed, and no two values have one byte
+    ghost sound: { AreSound list coded };
 }
 
 /// The value of an enum that a byte stands for, of those that are named: each by the number that the enum gives it.

@@ -1,7 +1,7 @@
 // The codes of an order's terms.
 ghost use Rattle.std.specs.Prelude.{◌≡◌, Some};
-ghost use Rattle.codes.specs.Order.{side_text};
 ghost use Rattle.std.proofs.Common.{arith};
+ghost use Rattle.codes.specs.Order as codes;
 ghost use Rattle.codes.specs.declared.lists.Codes.TheVariants as lists;
 
 use crate::code::Code;
@@ -16,15 +16,11 @@ pub enum Side {
 }
 
 impl Code for Side {
-    ghost use Rattle.codes.specs.Order.{side_code};
-
     ghost list = { lists.Sides };
 
-    ghost coded = { λ x. side_code x };
+    ghost coded = { λ x. codes.side_code x };
 
-    ghost every = { λ x. Prim.grind arith };
-
-    ghost one = { λ x y h. Prim.grind arith };
+    ghost sound = { record { every = λ x. Prim.grind arith; one = λ x y h. Prim.grind arith } };
 
     fn of(byte: u8) -> Option<Side> {
         value_of!(byte, Side::{Buy, Sell})
@@ -38,7 +34,7 @@ impl Code for Side {
 impl Side {
     /// The word that a person types and reads.
     pub fn text(self) -> &'static str
-        ensures { result.now ≡ side_text self }
+        ensures { result.now ≡ codes.side_text self }
     {
         match self {
             Side::Buy => "buy",
@@ -48,7 +44,7 @@ impl Side {
 }
 
 impl fmt::Display for Side {
-    ghost output = { λ side. Some (side_text side) };
+    ghost output = { λ side. Some (codes.side_text side) };
 
     fn fmt<W: fmt::Write>(&self, f: &mut fmt::Formatter<W>) -> fmt::Result {
         f.write_str(self.text())
@@ -63,15 +59,11 @@ pub enum OrderType {
 }
 
 impl Code for OrderType {
-    ghost use Rattle.codes.specs.Order.{order_type_code};
-
     ghost list = { lists.OrderTypes };
 
-    ghost coded = { λ x. order_type_code x };
+    ghost coded = { λ x. codes.order_type_code x };
 
-    ghost every = { λ x. Prim.grind arith };
-
-    ghost one = { λ x y h. Prim.grind arith };
+    ghost sound = { record { every = λ x. Prim.grind arith; one = λ x y h. Prim.grind arith } };
 
     fn of(byte: u8) -> Option<OrderType> {
         value_of!(byte, OrderType::{Market, Limit})
@@ -94,15 +86,11 @@ pub enum TimeInForce {
 }
 
 impl Code for TimeInForce {
-    ghost use Rattle.codes.specs.Order.{time_in_force_code};
-
     ghost list = { lists.TimesInForce };
 
-    ghost coded = { λ x. time_in_force_code x };
+    ghost coded = { λ x. codes.time_in_force_code x };
 
-    ghost every = { λ x. Prim.grind arith };
-
-    ghost one = { λ x y h. Prim.grind arith };
+    ghost sound = { record { every = λ x. Prim.grind arith; one = λ x y h. Prim.grind arith } };
 
     fn of(byte: u8) -> Option<TimeInForce> {
         value_of!(byte, TimeInForce::{
@@ -123,15 +111,11 @@ pub enum ClearingAccount {
 }
 
 impl Code for ClearingAccount {
-    ghost use Rattle.codes.specs.Order.{clearing_account_code};
-
     ghost list = { lists.ClearingAccounts };
 
-    ghost coded = { λ x. clearing_account_code x };
+    ghost coded = { λ x. codes.clearing_account_code x };
 
-    ghost every = { λ x. Prim.grind arith };
-
-    ghost one = { λ x y h. Prim.grind arith };
+    ghost sound = { record { every = λ x. Prim.grind arith; one = λ x y h. Prim.grind arith } };
 
     fn of(byte: u8) -> Option<ClearingAccount> {
         value_of!(byte, ClearingAccount::{Client, House})
@@ -152,15 +136,11 @@ pub enum OrderCapacity {
 }
 
 impl Code for OrderCapacity {
-    ghost use Rattle.codes.specs.Order.{order_capacity_code};
-
     ghost list = { lists.OrderCapacities };
 
-    ghost coded = { λ x. order_capacity_code x };
+    ghost coded = { λ x. codes.order_capacity_code x };
 
-    ghost every = { λ x. Prim.grind arith };
-
-    ghost one = { λ x y h. Prim.grind arith };
+    ghost sound = { record { every = λ x. Prim.grind arith; one = λ x y h. Prim.grind arith } };
 
     fn of(byte: u8) -> Option<OrderCapacity> {
         value_of!(byte, OrderCapacity::{RisklessPrincipal, Principal, Agency, CfdGiveUp})
@@ -179,15 +159,11 @@ pub enum AutoCancel {
 }
 
 impl Code for AutoCancel {
-    ghost use Rattle.codes.specs.Order.{auto_cancel_code};
-
     ghost list = { lists.AutoCancels };
 
-    ghost coded = { λ x. auto_cancel_code x };
+    ghost coded = { λ x. codes.auto_cancel_code x };
 
-    ghost every = { λ x. Prim.grind arith };
-
-    ghost one = { λ x y h. Prim.grind arith };
+    ghost sound = { record { every = λ x. Prim.grind arith; one = λ x y h. Prim.grind arith } };
 
     fn of(byte: u8) -> Option<AutoCancel> {
         value_of!(byte, AutoCancel::{Keep, AsConfigured})
@@ -205,15 +181,11 @@ pub enum OrderSubType {
 }
 
 impl Code for OrderSubType {
-    ghost use Rattle.codes.specs.Order.{order_sub_type_code};
-
     ghost list = { lists.OrderSubTypes };
 
-    ghost coded = { λ x. order_sub_type_code x };
+    ghost coded = { λ x. codes.order_sub_type_code x };
 
-    ghost every = { λ x. Prim.grind arith };
-
-    ghost one = { λ x y h. Prim.grind arith };
+    ghost sound = { record { every = λ x. Prim.grind arith; one = λ x y h. Prim.grind arith } };
 
     fn of(byte: u8) -> Option<OrderSubType> {
         value_of!(byte, OrderSubType::{Order})
@@ -232,15 +204,11 @@ pub enum Book {
 }
 
 impl Code for Book {
-    ghost use Rattle.codes.specs.Order.{book_code};
-
     ghost list = { lists.Books };
 
-    ghost coded = { λ x. book_code x };
+    ghost coded = { λ x. codes.book_code x };
 
-    ghost every = { λ x. Prim.grind arith };
-
-    ghost one = { λ x y h. Prim.grind arith };
+    ghost sound = { record { every = λ x. Prim.grind arith; one = λ x y h. Prim.grind arith } };
 
     fn of(byte: u8) -> Option<Book> {
         value_of!(byte, Book::{DarkMidpoint, Integrated})
@@ -260,15 +228,11 @@ pub enum ExecInstruction {
 }
 
 impl Code for ExecInstruction {
-    ghost use Rattle.codes.specs.Order.{exec_instruction_code};
-
     ghost list = { lists.ExecInstructions };
 
-    ghost coded = { λ x. exec_instruction_code x };
+    ghost coded = { λ x. codes.exec_instruction_code x };
 
-    ghost every = { λ x. Prim.grind arith };
-
-    ghost one = { λ x y h. Prim.grind arith };
+    ghost sound = { record { every = λ x. Prim.grind arith; one = λ x y h. Prim.grind arith } };
 
     fn of(byte: u8) -> Option<ExecInstruction> {
         value_of!(byte, ExecInstruction::{ContinuousAndPeriodic, PeriodicOnly, ContinuousOnly})
@@ -291,15 +255,11 @@ pub enum PassiveOnly {
 }
 
 impl Code for PassiveOnly {
-    ghost use Rattle.codes.specs.Order.{passive_only_code};
-
     ghost list = { lists.PassiveOnlys };
 
-    ghost coded = { λ x. passive_only_code x };
+    ghost coded = { λ x. codes.passive_only_code x };
 
-    ghost every = { λ x. Prim.grind arith };
-
-    ghost one = { λ x y h. Prim.grind arith };
+    ghost sound = { record { every = λ x. Prim.grind arith; one = λ x y h. Prim.grind arith } };
 
     fn of(byte: u8) -> Option<PassiveOnly> {
         value_of!(byte, PassiveOnly::{
@@ -324,15 +284,11 @@ pub enum MassCancelType {
 }
 
 impl Code for MassCancelType {
-    ghost use Rattle.codes.specs.Order.{mass_cancel_type_code};
-
     ghost list = { lists.MassCancelTypes };
 
-    ghost coded = { λ x. mass_cancel_type_code x };
+    ghost coded = { λ x. codes.mass_cancel_type_code x };
 
-    ghost every = { λ x. Prim.grind arith };
-
-    ghost one = { λ x y h. Prim.grind arith };
+    ghost sound = { record { every = λ x. Prim.grind arith; one = λ x y h. Prim.grind arith } };
 
     fn of(byte: u8) -> Option<MassCancelType> {
         value_of!(byte, MassCancelType::{

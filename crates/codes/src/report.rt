@@ -1,5 +1,6 @@
 // The codes of reports. `Unspecified` is a null byte.
 ghost use Rattle.std.proofs.Common.{arith};
+ghost use Rattle.codes.specs.Report as codes;
 ghost use Rattle.codes.specs.declared.lists.Codes.TheVariants as lists;
 
 use crate::code::Code;
@@ -20,15 +21,11 @@ pub enum ExecType {
 }
 
 impl Code for ExecType {
-    ghost use Rattle.codes.specs.Report.{exec_type_code};
-
     ghost list = { lists.ExecTypes };
 
-    ghost coded = { λ x. exec_type_code x };
+    ghost coded = { λ x. codes.exec_type_code x };
 
-    ghost every = { λ x. Prim.grind arith };
-
-    ghost one = { λ x y h. Prim.grind arith };
+    ghost sound = { record { every = λ x. Prim.grind arith; one = λ x y h. Prim.grind arith } };
 
     fn of(byte: u8) -> Option<ExecType> {
         value_of!(byte, ExecType::{
@@ -53,15 +50,11 @@ pub enum Status {
 }
 
 impl Code for Status {
-    ghost use Rattle.codes.specs.Report.{status_code};
-
     ghost list = { lists.Statuses };
 
-    ghost coded = { λ x. status_code x };
+    ghost coded = { λ x. codes.status_code x };
 
-    ghost every = { λ x. Prim.grind arith };
-
-    ghost one = { λ x y h. Prim.grind arith };
+    ghost sound = { record { every = λ x. Prim.grind arith; one = λ x y h. Prim.grind arith } };
 
     fn of(byte: u8) -> Option<Status> {
         value_of!(byte, Status::{New, PartiallyFilled, Filled, Cancelled, Expired, Rejected})
@@ -82,15 +75,11 @@ pub enum Liquidity {
 }
 
 impl Code for Liquidity {
-    ghost use Rattle.codes.specs.Report.{liquidity_code};
-
     ghost list = { lists.Liquidities };
 
-    ghost coded = { λ x. liquidity_code x };
+    ghost coded = { λ x. codes.liquidity_code x };
 
-    ghost every = { λ x. Prim.grind arith };
-
-    ghost one = { λ x y h. Prim.grind arith };
+    ghost sound = { record { every = λ x. Prim.grind arith; one = λ x y h. Prim.grind arith } };
 
     fn of(byte: u8) -> Option<Liquidity> {
         value_of!(byte, Liquidity::{Unspecified, Added, Uncrossing, Removed})
@@ -109,15 +98,11 @@ pub enum TradeType {
 }
 
 impl Code for TradeType {
-    ghost use Rattle.codes.specs.Report.{trade_type_code};
-
     ghost list = { lists.TradeTypes };
 
-    ghost coded = { λ x. trade_type_code x };
+    ghost coded = { λ x. codes.trade_type_code x };
 
-    ghost every = { λ x. Prim.grind arith };
-
-    ghost one = { λ x y h. Prim.grind arith };
+    ghost sound = { record { every = λ x. Prim.grind arith; one = λ x y h. Prim.grind arith } };
 
     fn of(byte: u8) -> Option<TradeType> {
         value_of!(byte, TradeType::{Visible, Hidden})
@@ -137,15 +122,11 @@ pub enum Capacity {
 }
 
 impl Code for Capacity {
-    ghost use Rattle.codes.specs.Report.{capacity_code};
-
     ghost list = { lists.Capacities };
 
-    ghost coded = { λ x. capacity_code x };
+    ghost coded = { λ x. codes.capacity_code x };
 
-    ghost every = { λ x. Prim.grind arith };
-
-    ghost one = { λ x y h. Prim.grind arith };
+    ghost sound = { record { every = λ x. Prim.grind arith; one = λ x y h. Prim.grind arith } };
 
     fn of(byte: u8) -> Option<Capacity> {
         value_of!(byte, Capacity::{RisklessPrincipal, Principal, Agency})
@@ -175,15 +156,11 @@ pub enum PriceDifferential {
 }
 
 impl Code for PriceDifferential {
-    ghost use Rattle.codes.specs.Report.{price_differential_code};
-
     ghost list = { lists.PriceDifferentials };
 
-    ghost coded = { λ x. price_differential_code x };
+    ghost coded = { λ x. codes.price_differential_code x };
 
-    ghost every = { λ x. Prim.grind arith };
-
-    ghost one = { λ x y h. Prim.grind arith };
+    ghost sound = { record { every = λ x. Prim.grind arith; one = λ x y h. Prim.grind arith } };
 
     fn of(byte: u8) -> Option<PriceDifferential> {
         value_of!(byte, PriceDifferential::{
@@ -205,15 +182,11 @@ pub enum MassResponse {
 }
 
 impl Code for MassResponse {
-    ghost use Rattle.codes.specs.Report.{mass_response_code};
-
     ghost list = { lists.MassResponses };
 
-    ghost coded = { λ x. mass_response_code x };
+    ghost coded = { λ x. codes.mass_response_code x };
 
-    ghost every = { λ x. Prim.grind arith };
-
-    ghost one = { λ x y h. Prim.grind arith };
+    ghost sound = { record { every = λ x. Prim.grind arith; one = λ x y h. Prim.grind arith } };
 
     fn of(byte: u8) -> Option<MassResponse> {
         value_of!(byte, MassResponse::{Rejected, Accepted})

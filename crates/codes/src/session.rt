@@ -1,5 +1,6 @@
 // The codes of sessions and of downloads.
 ghost use Rattle.std.proofs.Common.{arith};
+ghost use Rattle.codes.specs.Session as codes;
 ghost use Rattle.codes.specs.declared.lists.Codes.TheVariants as lists;
 
 use crate::code::Code;
@@ -12,15 +13,11 @@ pub enum Version {
 }
 
 impl Code for Version {
-    ghost use Rattle.codes.specs.Session.{version_code};
-
     ghost list = { lists.Versions };
 
-    ghost coded = { λ x. version_code x };
+    ghost coded = { λ x. codes.version_code x };
 
-    ghost every = { λ x. Prim.grind arith };
-
-    ghost one = { λ x y h. Prim.grind arith };
+    ghost sound = { record { every = λ x. Prim.grind arith; one = λ x y h. Prim.grind arith } };
 
     fn of(byte: u8) -> Option<Version> {
         value_of!(byte, Version::{One})
@@ -40,15 +37,11 @@ pub enum Partition {
 }
 
 impl Code for Partition {
-    ghost use Rattle.codes.specs.Session.{partition_code};
-
     ghost list = { lists.Partitions };
 
-    ghost coded = { λ x. partition_code x };
+    ghost coded = { λ x. codes.partition_code x };
 
-    ghost every = { λ x. Prim.grind arith };
-
-    ghost one = { λ x y h. Prim.grind arith };
+    ghost sound = { record { every = λ x. Prim.grind arith; one = λ x y h. Prim.grind arith } };
 
     fn of(byte: u8) -> Option<Partition> {
         value_of!(byte, Partition::{One, Two, Three})
@@ -69,15 +62,11 @@ pub enum AckResponse {
 }
 
 impl Code for AckResponse {
-    ghost use Rattle.codes.specs.Session.{ack_response_code};
-
     ghost list = { lists.AckResponses };
 
-    ghost coded = { λ x. ack_response_code x };
+    ghost coded = { λ x. codes.ack_response_code x };
 
-    ghost every = { λ x. Prim.grind arith };
-
-    ghost one = { λ x y h. Prim.grind arith };
+    ghost sound = { record { every = λ x. Prim.grind arith; one = λ x y h. Prim.grind arith } };
 
     fn of(byte: u8) -> Option<AckResponse> {
         value_of!(byte, AckResponse::{Successful, LimitReached, InvalidAppId, ServiceUnavailable})
@@ -97,15 +86,11 @@ pub enum ReportResponse {
 }
 
 impl Code for ReportResponse {
-    ghost use Rattle.codes.specs.Session.{report_response_code};
-
     ghost list = { lists.ReportResponses };
 
-    ghost coded = { λ x. report_response_code x };
+    ghost coded = { λ x. codes.report_response_code x };
 
-    ghost every = { λ x. Prim.grind arith };
-
-    ghost one = { λ x y h. Prim.grind arith };
+    ghost sound = { record { every = λ x. Prim.grind arith; one = λ x y h. Prim.grind arith } };
 
     fn of(byte: u8) -> Option<ReportResponse> {
         value_of!(byte, ReportResponse::{Complete, MessageLimit, ServiceUnavailable})
