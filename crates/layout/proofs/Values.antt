@@ -5,8 +5,7 @@ use Rattle.std.specs.Option.{unwrap_or}
 use Rattle.std.proofs.lemmas.Bool.{ne_eqb}
 use Rattle.std.proofs.lemmas.Bool.Decides.{eqb_tells}
 use Rattle.codes.specs.Member.{member}
-use Rattle.layout.specs.declared.field.Field.{Field}
-use Rattle.layout.specs.Layout.{Content, Says, got, value_of}
+use Rattle.layout.specs.Layout.{value_of}
 use Rattle.layout.specs.Layout.Content.{figure}
 
 -- a value by its byte, where the byte is listed and no other value has it
@@ -23,10 +22,3 @@ value_back code (v ∷ vs) other x listed one =
     go (inr other_one) later =
         let n : eqb (code x) (code v) ≡ false = ne_eqb _ _ (λ e. other_one.1 (sym e)) in
         rw other_one.0 (later (rw n at listed))
-
--- contents that bytes hold are those that are got from them
-pub all_got : (fs : List Field) (vs : List Content) (bs : List ℕ) → Says vs fs bs → map (got bs) fs ≡ vs
-all_got [] [] bs h = refl
-all_got [] (v ∷ vs) bs h = absurd h
-all_got (f ∷ fs) [] bs h = absurd h
-all_got (f ∷ fs) (v ∷ vs) bs h = let a = sym h.0 in let b = all_got fs vs bs h.1 in cc

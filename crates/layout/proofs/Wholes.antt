@@ -1,6 +1,6 @@
 -- What a message that can be held is written as: as many bytes as its fields are wide, one field behind the other.
 -- Assumes nothing.
-use Rattle.std.proofs.Common.{◌≡◌, ℕ, ◌+◌, Bool, true, false, cond, eqb, List, [], ◌∷◌, ◌++◌, length, drop, replicate, Some, None, Option, refl, ap, ◌∙◌, append_assoc, length-append, eqb-true}
+use Rattle.std.proofs.Common.{◌≡◌, ℕ, ◌+◌, Bool, true, false, cond, eqb, List, [], ◌∷◌, ◌++◌, length, drop, replicate, Some, None, Option, refl, ap, ◌∙◌, append_assoc, length-append, eqb-true, arith}
 use lib.ListN.{length-replicate}
 use Rattle.codes.specs.Lists.{listed}
 use Rattle.texts.proofs.Padding.{both_true, length-padded}
@@ -9,8 +9,8 @@ use Rattle.layout.specs.declared.field.Form.{Form}
 use Rattle.layout.specs.declared.field.Form.TheVariants.{Text, Name, Order, Reserved}
 use Rattle.layout.specs.declared.field.Field.{Field}
 use Rattle.layout.specs.declared.field.Field.TheVariants.{Always, When}
-use Rattle.layout.specs.Layout.{Content, place, width, wide, form_of, taken, words_of, order_of, absent}
-use Rattle.layout.specs.Layout.Content.{nothing}
+use Rattle.layout.specs.Layout.{Content, place, width, wide, taken}
+use Rattle.layout.specs.Layout.Content.{words, order, nothing}
 use Rattle.layout.specs.Holding.{HoldsForm, If, Holds, HoldsAll, HoldsIn, figure_at}
 use Rattle.layout.specs.Writing.{over, over_all, order_bytes, bytes_of, field_bytes, encode, tiled, header, Wrote}
 use Rattle.layout.proofs.Overs.{over_front}
@@ -21,26 +21,24 @@ order_wide None = refl
 order_wide (Some n) = length-id_of 79 n
 
 form_wide : (f : Form) (v : Content) → HoldsForm f v → length (bytes_of f v) ≡ wide f
-form_wide (Text w) v h = length-padded w (words_of v) h.1
-form_wide (Name w) v h = length-padded w (words_of v) h.1
-form_wide Order v h = order_wide (order_of v)
-form_wide (Reserved w) v h = length-replicate {A = ℕ} w 0
-form_wide f v h = refl
+form_wide (Text w) (words t) h = length-padded w t h.0
+form_wide (Name w) (words t) h = length-padded w t h.0
+form_wide Order (order o) h = order_wide o
+form_wide (Reserved w) nothing h = length-replicate {A = ℕ} w 0
+form_wide f v h = grind arith
 
-wide_by : (b : Bool) (f : Field) (v : Content) → (b ≡ false → HoldsForm (form_of f) v) → absent v ≡ b
-    → length (cond b (replicate (width f) 0) (bytes_of (form_of f) v)) ≡ width f
-wide_by true f v h e = length-replicate {A = ℕ} (width f) 0
-wide_by false f v h e = form_wide (form_of f) v (h refl)
+pub nothing_bytes : (f : Form) → bytes_of f nothing ≡ replicate (wide f) 0
+nothing_bytes (Text w) = refl
+nothing_bytes f = refl
 
-held_or : (b : Bool) (f : Form) (v : Content) → If b (HoldsForm f v) (v ≡ nothing) → absent v ≡ false → HoldsForm f v
-held_or true f v h e = h
-held_or false f v h e = let k : absent v ≡ true = rw h in cc
+wide_if : (b : Bool) (f : Form) (v : Content) → If b (HoldsForm f v) (v ≡ nothing) → length (bytes_of f v) ≡ wide f
+wide_if true f v h = form_wide f v h
+wide_if false f v h = rw (h, nothing_bytes f) (length-replicate {A = ℕ} (wide f) 0)
 
 pub field_wide : (at : ℕ → ℕ) (f : Field) (v : Content) → Holds at f v → length (field_bytes f v) ≡ width f
 unfolding field_bytes
-field_wide at (Always here f) v h = wide_by (absent v) (Always here f) v (λ e. h) refl
-field_wide at (When here f other cs) v h =
-    wide_by (absent v) (When here f other cs) v (λ e. held_or (taken (at other) (listed cs)) f v h e) refl
+field_wide at (Always here f) v h = form_wide f v h
+field_wide at (When here f other cs) v h = wide_if (taken (at other) (listed cs)) f v h
 
 -- a table that is tiled, written behind the front p
 behind : (at : ℕ → ℕ) (fs : List Field) (vs : List Content) (p b : List ℕ) (n end : ℕ) → length p ≡ n → tiled n end fs

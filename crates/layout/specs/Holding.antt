@@ -8,7 +8,7 @@ use Rattle.layout.specs.declared.field.Form.TheVariants.{Text, Name, Order, UInt
 use Rattle.layout.specs.declared.field.Field.{Field}
 use Rattle.layout.specs.declared.field.Field.TheVariants.{Always, When}
 use Rattle.layout.specs.declared.sequence.TheConstants.{SEQUENCE_LIMIT}
-use Rattle.layout.specs.Layout.{Content, place, taken, words_of, order_of, figure_of, int8_of, int32_of, price_of, seconds_of, micros_of}
+use Rattle.layout.specs.Layout.{Content, place, taken, figure_of}
 use Rattle.layout.specs.Layout.Content.{words, order, figure, int8, int32, price, clock, nothing}
 
 abbrev pub Below : Option ℕ → Type 0
@@ -17,23 +17,20 @@ Below (Some n) = n < 2 ^ 64
 
 -- a content that a field of a form can hold
 abbrev pub HoldsForm : Form → Content → Type 0
-HoldsForm (Text w) v = (v ≡ words (words_of v)) × (length (words_of v) ≤ w) × (all_printable (words_of v) ≡ true)
-HoldsForm (Name w) v =
-    (v ≡ words (words_of v))
-    × (length (words_of v) ≤ w)
-    × (all_printable (words_of v) ≡ true)
-    × (0 < length (words_of v))
-HoldsForm Order v = (v ≡ order (order_of v)) × Below (order_of v)
-HoldsForm UInt32 v = (v ≡ figure (figure_of v)) × (figure_of v < 2 ^ 32)
-HoldsForm UInt64 v = (v ≡ figure (figure_of v)) × (figure_of v < 2 ^ 64)
-HoldsForm Sequence v = (v ≡ figure (figure_of v)) × (figure_of v < SEQUENCE_LIMIT)
-HoldsForm Int8 v = (v ≡ int8 (int8_of v)) × FitsSigned w8 (int8_of v)
-HoldsForm Int32 v = (v ≡ int32 (int32_of v)) × FitsSigned w32 (int32_of v)
-HoldsForm Price v = (v ≡ price (price_of v)) × FitsSigned w64 (price_of v)
-HoldsForm Time v = (v ≡ clock (seconds_of v) (micros_of v)) × (seconds_of v < 2 ^ 32) × (micros_of v < 2 ^ 32)
-HoldsForm (Code cs) v = (v ≡ figure (figure_of v)) × (taken (figure_of v) (listed cs) ≡ true)
-HoldsForm Alpha v = (v ≡ figure (figure_of v)) × (figure_of v < 2 ^ 8)
-HoldsForm (Reserved w) v = v ≡ nothing
+HoldsForm (Text w) (words t) = (length t ≤ w) × (all_printable t ≡ true)
+HoldsForm (Name w) (words t) = (length t ≤ w) × (all_printable t ≡ true) × (0 < length t)
+HoldsForm Order (order o) = Below o
+HoldsForm UInt32 (figure n) = n < 2 ^ 32
+HoldsForm UInt64 (figure n) = n < 2 ^ 64
+HoldsForm Sequence (figure n) = n < SEQUENCE_LIMIT
+HoldsForm Int8 (int8 z) = FitsSigned w8 z
+HoldsForm Int32 (int32 z) = FitsSigned w32 z
+HoldsForm Price (price z) = FitsSigned w64 z
+HoldsForm Time (clock s u) = (s < 2 ^ 32) × (u < 2 ^ 32)
+HoldsForm (Code cs) (figure n) = taken n (listed cs) ≡ true
+HoldsForm Alpha (figure n) = n < 2 ^ 8
+HoldsForm (Reserved w) nothing = Unit {0}
+HoldsForm f v = ⊥
 
 abbrev pub If : Bool → Type 0 → Type 0 → Type 0
 If true P Q = P

@@ -127,10 +127,7 @@ AllOk fs bs = AllByRecursion (λ f. ok bs f ≡ true) fs
 
 -- each content is what its field holds
 abbrev pub Says : List Content → List Field → List ℕ → Type 0
-Says [] [] bs = Unit {0}
-Says [] (f ∷ fs) bs = ⊥
-Says (v ∷ vs) [] bs = ⊥
-Says (v ∷ vs) (f ∷ fs) bs = (v ≡ got bs f) × Says vs fs bs
+Says vs fs bs = vs ≡ map (got bs) fs
 
 abbrev pub is_words : Form → Bool
 is_words (Text w) = true
@@ -196,7 +193,3 @@ seconds_of _ = 0
 abbrev pub micros_of : Content → ℕ
 micros_of (clock s u) = u
 micros_of _ = 0
-
-abbrev pub absent : Content → Bool
-absent nothing = true
-absent _ = false

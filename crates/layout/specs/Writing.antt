@@ -1,39 +1,39 @@
 -- A message's bytes, from its table and what its fields hold. Assumes nothing.
-use Rattle.std.specs.Prelude.{◌&&◌, ◌≡◌, ℕ, ◌+◌, ◌-◌, Bool, if◌then◌else◌, List, [], ◌∷◌, ◌++◌, length, take, drop, replicate, Option, ◌==◌}
+use Rattle.std.specs.Prelude.{◌&&◌, ◌≡◌, ℕ, ◌+◌, ◌-◌, Bool, List, [], ◌∷◌, ◌++◌, length, take, drop, replicate, Option, ◌==◌}
 use Rattle.std.proofs.Common.{of_z}
 use Rattle.std.specs.Int.{w8, w32, w64}
 use Rattle.std.specs.Option.{option_map_or}
 use Rattle.texts.specs.Bytes.{to_le, padded}
 use Rattle.texts.specs.Identifiers.{order_id_text}
 use Rattle.layout.specs.declared.field.Form.{Form}
-use Rattle.layout.specs.declared.field.Form.TheVariants.{Text, Name, Order, UInt32, UInt64, Sequence, Int8, Int32, Price, Time, Code, Alpha, Reserved}
+use Rattle.layout.specs.declared.field.Form.TheVariants.{Text, Name, Order, UInt32, UInt64, Sequence, Int8, Int32, Price, Time, Code, Alpha}
 use Rattle.layout.specs.declared.field.Field.{Field}
 use Rattle.layout.specs.declared.put.TheConstants.{START}
-use Rattle.layout.specs.Layout.{Content, place, width, form_of, words_of, order_of, figure_of, int8_of, int32_of, price_of, seconds_of, micros_of, absent}
+use Rattle.layout.specs.Layout.{Content, place, wide, width, form_of}
+use Rattle.layout.specs.Layout.Content.{words, order, figure, int8, int32, price, clock, nothing}
 
 -- an order's identifier, or nulls
 abbrev pub order_bytes : Option ℕ → List ℕ
 order_bytes o = option_map_or order_id_text o (replicate 12 0)
 
--- a form's bytes
+-- a form's bytes: nulls where it holds nothing
 abbrev pub bytes_of : Form → Content → List ℕ
-bytes_of (Text w) v = padded w (words_of v)
-bytes_of (Name w) v = padded w (words_of v)
-bytes_of Order v = order_bytes (order_of v)
-bytes_of UInt32 v = to_le 4 (figure_of v)
-bytes_of UInt64 v = to_le 8 (figure_of v)
-bytes_of Sequence v = to_le 4 (figure_of v)
-bytes_of Int8 v = to_le 1 (of_z w8 (int8_of v))
-bytes_of Int32 v = to_le 4 (of_z w32 (int32_of v))
-bytes_of Price v = to_le 8 (of_z w64 (price_of v))
-bytes_of Time v = to_le 4 (seconds_of v) ++ to_le 4 (micros_of v)
-bytes_of (Code cs) v = to_le 1 (figure_of v)
-bytes_of Alpha v = to_le 1 (figure_of v)
-bytes_of (Reserved w) v = replicate w 0
+bytes_of (Text w) (words t) = padded w t
+bytes_of (Name w) (words t) = padded w t
+bytes_of Order (order o) = order_bytes o
+bytes_of UInt32 (figure n) = to_le 4 n
+bytes_of UInt64 (figure n) = to_le 8 n
+bytes_of Sequence (figure n) = to_le 4 n
+bytes_of Int8 (int8 z) = to_le 1 (of_z w8 z)
+bytes_of Int32 (int32 z) = to_le 4 (of_z w32 z)
+bytes_of Price (price z) = to_le 8 (of_z w64 z)
+bytes_of Time (clock s u) = to_le 4 s ++ to_le 4 u
+bytes_of (Code cs) (figure n) = to_le 1 n
+bytes_of Alpha (figure n) = to_le 1 n
+bytes_of f v = replicate (wide f) 0
 
--- a field's bytes: nulls where it holds nothing
 unfoldable pub field_bytes : Field → Content → List ℕ
-field_bytes f v = if absent v then replicate (width f) 0 else bytes_of (form_of f) v
+field_bytes f v = bytes_of (form_of f) v
 
 -- the bytes of all fields, in their order
 unfoldable pub encode : List Field → List Content → List ℕ

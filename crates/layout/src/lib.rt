@@ -9,4 +9,3 @@ pub mod framed;
 pub mod put;
 pub mod reader;
 pub mod sequence;
-pub mod take;

@@ -1,4 +1,6 @@
 // One field, written at its place: what the bytes then are, and that the field can hold it.
+#![tactic(auto, unfolding(crate::specs::Writing::field_bytes))]
+
 ghost use Rattle.std.specs.Prelude.{◌≡◌, ◌+◌, ◌≤◌, length, replicate};
 ghost use Rattle.std.specs.Option.{option_map};
 ghost use Rattle.texts.specs.Says.{says};
@@ -66,7 +68,6 @@ pub fn put_name<const N: usize>(out: &mut [u8], at: usize, name: &Name<'_, N>)
 }
 
 /// The identifier of an order, or nulls.
-#[tactic(auto, unfolding(crate::specs::Writing::field_bytes))]
 pub fn put_order(out: &mut [u8], at: usize, id: &Option<OrderId>)
     requires { at + 12 ≤ length out.old }
     ensures wrote { out.new ≡ over out.old at
@@ -83,7 +84,6 @@ pub fn put_order(out: &mut [u8], at: usize, id: &Option<OrderId>)
 }
 
 /// A sequence number.
-#[tactic(auto, unfolding(crate::specs::Writing::field_bytes))]
 pub fn put_sequence(out: &mut [u8], at: usize, last: &LastSequence)
     requires { at + 4 ≤ length out.old }
     ensures wrote { out.new ≡ over out.old at (field_bytes (field.Always at form.Sequence) (figure last.now.value)) }
@@ -104,7 +104,6 @@ pub fn put_code<C: Code>(out: &mut [u8], at: usize, value: &C)
 }
 
 /// Any byte.
-#[tactic(auto, unfolding(crate::specs::Writing::field_bytes))]
 pub fn put_u8(out: &mut [u8], at: usize, byte: u8)
     requires { at + 1 ≤ length out.old }
     ensures wrote { out.new ≡ over out.old at (field_bytes (field.Always at form.Alpha) (figure byte)) }
@@ -114,7 +113,6 @@ pub fn put_u8(out: &mut [u8], at: usize, byte: u8)
 }
 
 /// A number of four bytes, the lowest first.
-#[tactic(auto, unfolding(crate::specs::Writing::field_bytes))]
 pub fn put_u32(out: &mut [u8], at: usize, number: u32)
     requires { at + 4 ≤ length out.old }
     ensures wrote { out.new ≡ over out.old at (field_bytes (field.Always at form.UInt32) (figure number)) }
@@ -124,7 +122,6 @@ pub fn put_u32(out: &mut [u8], at: usize, number: u32)
 }
 
 /// A number of eight bytes, the lowest first.
-#[tactic(auto, unfolding(crate::specs::Writing::field_bytes))]
 pub fn put_u64(out: &mut [u8], at: usize, number: u64)
     requires { at + 8 ≤ length out.old }
     ensures wrote { out.new ≡ over out.old at (field_bytes (field.Always at form.UInt64) (figure number)) }
@@ -135,7 +132,6 @@ pub fn put_u64(out: &mut [u8], at: usize, number: u64)
 
 // Signed numbers come by reference: by value a clause would see them by their bits.
 /// A signed number of one byte.
-#[tactic(auto, unfolding(crate::specs::Writing::field_bytes))]
 pub fn put_i8(out: &mut [u8], at: usize, number: &i8)
     requires { at + 1 ≤ length out.old }
     ensures wrote { out.new ≡ over out.old at (field_bytes (field.Always at form.Int8) (int8 number.now)) }
@@ -145,7 +141,6 @@ pub fn put_i8(out: &mut [u8], at: usize, number: &i8)
 }
 
 /// A signed number of four bytes, the lowest first.
-#[tactic(auto, unfolding(crate::specs::Writing::field_bytes))]
 pub fn put_i32(out: &mut [u8], at: usize, number: &i32)
     requires { at + 4 ≤ length out.old }
     ensures wrote { out.new ≡ over out.old at (field_bytes (field.Always at form.Int32) (int32 number.now)) }
@@ -155,7 +150,6 @@ pub fn put_i32(out: &mut [u8], at: usize, number: &i32)
 }
 
 /// A price: a signed number of eight bytes, in hundred-millionths.
-#[tactic(auto, unfolding(crate::specs::Writing::field_bytes))]
 pub fn put_price(out: &mut [u8], at: usize, amount: &Price)
     requires { at + 8 ≤ length out.old }
     ensures wrote { out.new ≡ over out.old at (field_bytes (field.Always at form.Price) (price amount.now.raw)) }
@@ -186,7 +180,6 @@ fn put_nulls(out: &mut [u8], at: usize, width: usize)
 }
 
 /// A field that is reserved, or that does not matter.
-#[tactic(auto, unfolding(crate::specs::Writing::field_bytes))]
 pub fn put_blank(out: &mut [u8], at: usize, width: usize)
     requires { at + width ≤ length out.old }
     ensures wrote { out.new ≡ over out.old at (field_bytes (field.Always at (form.Reserved width)) nothing) }

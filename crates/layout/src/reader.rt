@@ -1,16 +1,20 @@
 // A message's fields, read at their places.
-ghost use Rattle.std.specs.Prelude.{◌≡◌, ◌+◌, ◌≤◌, true, false, length, take, drop, MatchOption};
+ghost use Rattle.std.specs.Prelude.{◌≡◌, ◌+◌, ◌≤◌, ◌&&◌, true, false, length, take, drop, nat_lt, MatchOption};
 ghost use Rattle.std.proofs.Common.{to_z, of_z};
 ghost use Rattle.std.specs.Int.{w8, w32, w64};
 ghost use Rattle.std.specs.List.{prefix_len};
 ghost use Rattle.std.specs.Option.{option_map};
-ghost use Rattle.texts.specs.Bytes.{part, le, printable, said, is_text};
+ghost use Rattle.texts.specs.Bytes.{part, le, printable, said, is_text, named};
+ghost use Rattle.texts.specs.Says.{says};
 ghost use Rattle.codes.specs.Lists.{listed};
 ghost use Rattle.layout.specs.Layout.{taken, is_order, order_at};
+ghost use Rattle.layout.specs.declared.sequence.TheConstants.{SEQUENCE_LIMIT};
 
+use crate::sequence::LastSequence;
 use codes::code::Code;
 use texts::bytes::{all_null, text_end};
 use texts::identifiers::OrderId;
+use texts::text::{Name, Text};
 use texts::values::{Price, Time};
 
 /// The bytes of one message.
@@ -135,12 +139,49 @@ impl<'a> Reader<'a> {
     }
 
     /// What a field says, if it holds text: its printable bytes.
-    pub fn text(&self, at: usize, width: usize) -> &'a [u8]
+    pub fn said(&self, at: usize, width: usize) -> &'a [u8]
         requires { at + width ≤ length self.now.src.now }
         ensures { result.now ≡ said (part at width self.now.src.now) }
     {
         let field = self.part(at, width);
         &field[0..text_end(field)]
+    }
+
+    /// The text of a field that holds text.
+    #[tactic(auto, using(crate::proofs::Parts::part_long))]
+    pub fn text<const N: usize>(&self, at: usize) -> Text<'a, N>
+        requires room { at + N ≤ length self.now.src.now }
+        requires good { is_text (part at N self.now.src.now) ≡ true }
+        ensures field { result.field.now ≡ part at N self.now.src.now }
+        ensures says { says result ≡ said (part at N self.now.src.now) }
+        ensures offset { result.offset ≡ at }
+    {
+        let field = self.part(at, N);
+        Text { field, offset: at }
+    }
+
+    /// The text of a field that holds text, and not an empty one.
+    #[tactic(auto, using(crate::proofs::Parts::part_long, texts::proofs::Padding::both_true))]
+    pub fn name<const N: usize>(&self, at: usize) -> Name<'a, N>
+        requires room { at + N ≤ length self.now.src.now }
+        requires good { let field = part at N self.now.src.now in (is_text field && named field) ≡ true }
+        ensures says { says result.text ≡ said (part at N self.now.src.now) }
+        ensures offset { result.text.offset ≡ at }
+    {
+        Name {
+            text: self.text(at),
+        }
+    }
+
+    /// The sequence number at a place, where one can stand there.
+    pub fn sequence(&self, at: usize) -> LastSequence
+        requires room { at + 4 ≤ length self.now.src.now }
+        requires good { nat_lt (le (part at 4 self.now.src.now)) SEQUENCE_LIMIT ≡ true }
+        ensures { result.value ≡ le (part at 4 self.now.src.now) }
+    {
+        LastSequence {
+            value: self.u32(at),
+        }
     }
 
     // Whether a field holds an order's identifier, or null.

@@ -17,7 +17,6 @@ use layout::field::{Field, Form};
 use layout::framed::{Framed, Layout, Shape};
 use layout::put::{put_blank, put_code, put_i32, put_price, put_text, put_time, put_u64};
 use layout::reader::Reader;
-use layout::take::{code_at, i32_at, price_at, text_at, time_at, u64_at};
 use terms::execution::Execution;
 use texts::text::Text;
 use texts::values::{Price, Time};
@@ -118,27 +117,27 @@ impl<'a> Framed<'a> for ExecutionReport<'a> {
 
     fn fields(r: &Reader<'a>) -> Self {
         ExecutionReport {
-            partition: code_at(r, 4),
-            sequence: i32_at(r, 5),
-            execution_id: text_at(r, 9),
-            client_order_id: text_at(r, 21),
-            order_id: text_at(r, 41),
+            partition: r.code(4),
+            sequence: r.i32(5),
+            execution_id: r.text(9),
+            client_order_id: r.text(21),
+            order_id: r.text(41),
             execution: execution_at(r),
-            reference_id: text_at(r, 54),
-            status: code_at(r, 66),
-            executed_price: price_at(r, 71),
-            executed_quantity: i32_at(r, 79),
-            leaves_quantity: i32_at(r, 83),
-            display_quantity: i32_at(r, 88),
-            symbol: text_at(r, 92),
-            side: code_at(r, 98),
-            secondary_order_id: u64_at(r, 99),
-            counterparty: text_at(r, 107),
-            trade_match_id: u64_at(r, 119),
-            transact_time: time_at(r, 127),
-            book: code_at(r, 135),
-            capacity: code_at(r, 137),
-            price_differential: code_at(r, 138),
+            reference_id: r.text(54),
+            status: r.code(66),
+            executed_price: r.price(71),
+            executed_quantity: r.i32(79),
+            leaves_quantity: r.i32(83),
+            display_quantity: r.i32(88),
+            symbol: r.text(92),
+            side: r.code(98),
+            secondary_order_id: r.u64(99),
+            counterparty: r.text(107),
+            trade_match_id: r.u64(119),
+            transact_time: r.time(127),
+            book: r.code(135),
+            capacity: r.code(137),
+            price_differential: r.code(138),
         }
     }
 

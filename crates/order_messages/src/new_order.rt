@@ -19,7 +19,6 @@ use layout::field::{Field, Form};
 use layout::framed::{Framed, Layout, Shape};
 use layout::put::{put_blank, put_code, put_i32, put_name, put_price, put_text, put_u32};
 use layout::reader::Reader;
-use layout::take::{code_at, i32_at, name_at, price_at, text_at, u32_at};
 use terms::pricing::Pricing;
 use terms::target::Target;
 use texts::text::{Name, Text};
@@ -104,23 +103,23 @@ impl<'a> Framed<'a> for NewOrder<'a> {
 
     fn fields(r: &Reader<'a>) -> Self {
         NewOrder {
-            client_order_id: name_at(r, 4),
-            trader_id: text_at(r, 24),
-            account: text_at(r, 35),
-            clearing_account: code_at(r, 45),
-            symbol: text_at(r, 46),
+            client_order_id: r.name(4),
+            trader_id: r.text(24),
+            account: r.text(35),
+            clearing_account: r.code(45),
+            symbol: r.text(46),
             pricing: pricing_at(r),
-            time_in_force: code_at(r, 53),
-            expire_time: u32_at(r, 54),
-            side: code_at(r, 58),
-            quantity: i32_at(r, 59),
-            display_quantity: i32_at(r, 63),
-            capacity: code_at(r, 75),
-            auto_cancel: code_at(r, 76),
-            sub_type: code_at(r, 77),
+            time_in_force: r.code(53),
+            expire_time: r.u32(54),
+            side: r.code(58),
+            quantity: r.i32(59),
+            display_quantity: r.i32(63),
+            capacity: r.code(75),
+            auto_cancel: r.code(76),
+            sub_type: r.code(77),
             target: target_at(r, 87),
-            min_quantity: i32_at(r, 89),
-            passive_only: code_at(r, 96),
+            min_quantity: r.i32(89),
+            passive_only: r.code(96),
         }
     }
 
@@ -155,10 +154,10 @@ fn pricing_at(r: &Reader<'_>) -> Pricing
     requires good { AllOk pricing_fields r.now.src.now }
     ensures { Says (pricing_contents result) pricing_fields r.now.src.now }
 {
-    let order_type: OrderType = code_at(r, 52);
+    let order_type: OrderType = r.code(52);
     match order_type {
         OrderType::Market => Pricing::Market,
-        OrderType::Limit => Pricing::Limit(price_at(r, 67)),
+        OrderType::Limit => Pricing::Limit(r.price(67)),
     }
 }
 

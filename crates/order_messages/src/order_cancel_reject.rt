@@ -9,7 +9,6 @@ use layout::field::{Field, Form};
 use layout::framed::{Framed, Layout, Shape};
 use layout::put::{put_blank, put_code, put_i32, put_text, put_time};
 use layout::reader::Reader;
-use layout::take::{code_at, i32_at, text_at, time_at};
 use texts::text::Text;
 use texts::values::Time;
 
@@ -63,12 +62,12 @@ impl<'a> Framed<'a> for OrderCancelReject<'a> {
 
     fn fields(r: &Reader<'a>) -> Self {
         OrderCancelReject {
-            partition: code_at(r, 4),
-            sequence: i32_at(r, 5),
-            client_order_id: text_at(r, 9),
-            order_id: text_at(r, 29),
-            reason: i32_at(r, 41),
-            transact_time: time_at(r, 45),
+            partition: r.code(4),
+            sequence: r.i32(5),
+            client_order_id: r.text(9),
+            order_id: r.text(29),
+            reason: r.i32(41),
+            transact_time: r.time(45),
         }
     }
 

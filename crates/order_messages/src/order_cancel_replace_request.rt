@@ -12,7 +12,6 @@ use layout::put::{
     put_blank, put_code, put_i32, put_name, put_order, put_price, put_text, put_u32,
 };
 use layout::reader::Reader;
-use layout::take::{code_at, i32_at, name_at, order_at, price_at, text_at, u32_at};
 use terms::target::Target;
 use texts::identifiers::OrderId;
 use texts::text::{Name, Text};
@@ -97,20 +96,20 @@ impl<'a> Framed<'a> for OrderCancelReplaceRequest<'a> {
 
     fn fields(r: &Reader<'a>) -> Self {
         OrderCancelReplaceRequest {
-            client_order_id: name_at(r, 4),
-            original_id: text_at(r, 24),
-            order_id: order_at(r, 44),
-            symbol: text_at(r, 56),
-            expire_time: u32_at(r, 62),
-            quantity: i32_at(r, 66),
-            display_quantity: i32_at(r, 70),
-            limit_price: price_at(r, 74),
-            account: text_at(r, 82),
-            time_in_force: code_at(r, 92),
-            side: code_at(r, 93),
+            client_order_id: r.name(4),
+            original_id: r.text(24),
+            order_id: r.order(44),
+            symbol: r.text(56),
+            expire_time: r.u32(62),
+            quantity: r.i32(66),
+            display_quantity: r.i32(70),
+            limit_price: r.price(74),
+            account: r.text(82),
+            time_in_force: r.code(92),
+            side: r.code(93),
             target: target_at(r, 102),
-            min_quantity: i32_at(r, 104),
-            passive_only: code_at(r, 108),
+            min_quantity: r.i32(104),
+            passive_only: r.code(108),
         }
     }
 

@@ -9,7 +9,6 @@ use layout::field::{Field, Form};
 use layout::framed::{Framed, Layout, Shape};
 use layout::put::{put_blank, put_code, put_name, put_order, put_text};
 use layout::reader::Reader;
-use layout::take::{code_at, name_at, order_at, text_at};
 use texts::identifiers::OrderId;
 use texts::text::{Name, Text};
 
@@ -64,12 +63,12 @@ impl<'a> Framed<'a> for OrderCancelRequest<'a> {
 
     fn fields(r: &Reader<'a>) -> Self {
         OrderCancelRequest {
-            client_order_id: name_at(r, 4),
-            original_id: text_at(r, 24),
-            order_id: order_at(r, 44),
-            symbol: text_at(r, 56),
-            side: code_at(r, 62),
-            book: code_at(r, 63),
+            client_order_id: r.name(4),
+            original_id: r.text(24),
+            order_id: r.order(44),
+            symbol: r.text(56),
+            side: r.code(62),
+            book: r.code(63),
         }
     }
 

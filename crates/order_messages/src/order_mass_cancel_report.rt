@@ -10,7 +10,6 @@ use layout::field::{Field, Form};
 use layout::framed::{Framed, Layout, Shape};
 use layout::put::{put_blank, put_code, put_i32, put_text, put_time};
 use layout::reader::Reader;
-use layout::take::{code_at, i32_at, text_at, time_at};
 use texts::text::Text;
 use texts::values::Time;
 
@@ -65,12 +64,12 @@ impl<'a> Framed<'a> for OrderMassCancelReport<'a> {
 
     fn fields(r: &Reader<'a>) -> Self {
         OrderMassCancelReport {
-            partition: code_at(r, 4),
-            sequence: i32_at(r, 5),
-            client_order_id: text_at(r, 9),
-            response: code_at(r, 29),
-            reason: i32_at(r, 30),
-            transact_time: time_at(r, 38),
+            partition: r.code(4),
+            sequence: r.i32(5),
+            client_order_id: r.text(9),
+            response: r.code(29),
+            reason: r.i32(30),
+            transact_time: r.time(38),
         }
     }
 

@@ -9,7 +9,6 @@ use layout::field::{Field, Form};
 use layout::framed::{Framed, Layout, Shape};
 use layout::put::{put_blank, put_code, put_name, put_text};
 use layout::reader::Reader;
-use layout::take::{code_at, name_at, text_at};
 use texts::text::{Name, Text};
 
 /// Whose orders a mass cancel takes, and of what.
@@ -75,7 +74,7 @@ impl<'a> Framed<'a> for OrderMassCancelRequest<'a> {
 
     fn fields(r: &Reader<'a>) -> Self {
         OrderMassCancelRequest {
-            client_order_id: name_at(r, 4),
+            client_order_id: r.name(4),
             scope: Scope::at(r),
         }
     }
@@ -122,12 +121,12 @@ impl<'a> Scope<'a> {
     {
         let kind: MassCancelType = r.code(24);
         match kind {
-            MassCancelType::FirmInstrument => Scope::FirmInstrument(text_at(r, 25), r.code(36)),
-            MassCancelType::FirmSegment => Scope::FirmSegment(text_at(r, 31)),
+            MassCancelType::FirmInstrument => Scope::FirmInstrument(r.text(25), r.code(36)),
+            MassCancelType::FirmSegment => Scope::FirmSegment(r.text(31)),
             MassCancelType::CompId => Scope::CompId,
             MassCancelType::Firm => Scope::Firm,
-            MassCancelType::CompIdInstrument => Scope::CompIdInstrument(text_at(r, 25), r.code(36)),
-            MassCancelType::CompIdSegment => Scope::CompIdSegment(text_at(r, 31)),
+            MassCancelType::CompIdInstrument => Scope::CompIdInstrument(r.text(25), r.code(36)),
+            MassCancelType::CompIdSegment => Scope::CompIdSegment(r.text(31)),
         }
     }
 

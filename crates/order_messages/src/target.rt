@@ -10,7 +10,6 @@ ghost use Rattle.order_messages.specs.Terms.{target_contents, target_fields};
 use codes::order::Book;
 use layout::put::{put_blank, put_code};
 use layout::reader::Reader;
-use layout::take::code_at;
 use terms::target::Target;
 
 #[tactic(auto, unfolding(layout::specs::Layout::taken))]

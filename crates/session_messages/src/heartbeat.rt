@@ -1,6 +1,6 @@
 // Heartbeat: type 0, 4 bytes.
 ghost use Rattle.std.specs.Prelude.{refl};
-ghost use Rattle.layout.specs.Shapes.{Shaped, laid};
+ghost use Rattle.layout.specs.Shapes.{laid};
 ghost use Rattle.session_messages.specs.declared.heartbeat.TheConstants.{LETTER, TABLE, TOTAL};
 
 use layout::field::Field;
@@ -25,9 +25,7 @@ impl Layout for Heartbeat {
 
     ghost fits = { refl };
 
-    fn shape() -> Shape
-        ensures { Shaped (laid LETTER TOTAL TABLE) result }
-    {
+    fn shape() -> Shape {
         Shape::new(LETTER, TOTAL, &TABLE)
     }
 }

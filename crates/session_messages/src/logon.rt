@@ -9,7 +9,6 @@ use layout::field::{Field, Form};
 use layout::framed::{Framed, Layout, Shape};
 use layout::put::{put_code, put_text};
 use layout::reader::Reader;
-use layout::take::{code_at, text_at};
 use texts::text::Text;
 
 /// Asks for a session.
@@ -56,10 +55,10 @@ impl<'a> Framed<'a> for Logon<'a> {
 
     fn fields(r: &Reader<'a>) -> Self {
         Logon {
-            comp_id: text_at(r, 4),
-            password: text_at(r, 29),
-            new_password: text_at(r, 54),
-            version: code_at(r, 79),
+            comp_id: r.text(4),
+            password: r.text(29),
+            new_password: r.text(54),
+            version: r.code(79),
         }
     }
 

@@ -7,7 +7,6 @@ use layout::field::{Field, Form};
 use layout::framed::{Framed, Layout, Shape};
 use layout::put::{put_i32, put_text};
 use layout::reader::Reader;
-use layout::take::{i32_at, text_at};
 use texts::text::Text;
 
 /// The answer to a Logon.
@@ -52,8 +51,8 @@ impl<'a> Framed<'a> for LogonReply<'a> {
 
     fn fields(r: &Reader<'a>) -> Self {
         LogonReply {
-            reject_code: i32_at(r, 4),
-            expiry_days: text_at(r, 8),
+            reject_code: r.i32(4),
+            expiry_days: r.text(8),
         }
     }
 

@@ -7,7 +7,6 @@ use layout::field::{Field, Form};
 use layout::framed::{Framed, Layout, Shape};
 use layout::put::put_text;
 use layout::reader::Reader;
-use layout::take::text_at;
 use texts::text::Text;
 
 /// Ends a session.
@@ -46,7 +45,7 @@ impl<'a> Framed<'a> for Logout<'a> {
 
     fn fields(r: &Reader<'a>) -> Self {
         Logout {
-            reason: text_at(r, 4),
+            reason: r.text(4),
         }
     }
 

@@ -1,6 +1,6 @@
 // Missed Message Request: type M, 9 bytes.
 ghost use Rattle.std.specs.Prelude.{refl};
-ghost use Rattle.layout.specs.Shapes.{Shaped, laid};
+ghost use Rattle.layout.specs.Shapes.{laid};
 ghost use Rattle.session_messages.specs.declared.missed_message_request.TheConstants.{LETTER, TABLE, TOTAL};
 
 use layout::field::{Field, Form};
@@ -8,7 +8,6 @@ use layout::framed::{Framed, Layout, Shape};
 use layout::put::{put_i8, put_sequence};
 use layout::reader::Reader;
 use layout::sequence::LastSequence;
-use layout::take::{i8_at, sequence_at};
 
 /// Asks for a download of the reports behind the last one seen.
 #[derive(Clone, Copy, Debug)]
@@ -36,9 +35,7 @@ impl Layout for MissedMessageRequest {
 
     ghost fits = { refl };
 
-    fn shape() -> Shape
-        ensures { Shaped (laid LETTER TOTAL TABLE) result }
-    {
+    fn shape() -> Shape {
         Shape::new(LETTER, TOTAL, &TABLE)
     }
 }
@@ -52,8 +49,8 @@ impl<'a> Framed<'a> for MissedMessageRequest {
 
     fn fields(r: &Reader<'a>) -> Self {
         MissedMessageRequest {
-            partition: i8_at(r, 4),
-            last: sequence_at(r, 5),
+            partition: r.i8(4),
+            last: r.sequence(5),
         }
     }
 

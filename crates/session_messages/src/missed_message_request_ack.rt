@@ -1,6 +1,6 @@
 // Missed Message Request Ack: type N, 5 bytes.
 ghost use Rattle.std.specs.Prelude.{refl};
-ghost use Rattle.layout.specs.Shapes.{Shaped, laid};
+ghost use Rattle.layout.specs.Shapes.{laid};
 ghost use Rattle.session_messages.specs.declared.missed_message_request_ack.TheConstants.{LETTER, TABLE, TOTAL};
 
 use codes::lists::Codes;
@@ -9,7 +9,6 @@ use layout::field::{Field, Form};
 use layout::framed::{Framed, Layout, Shape};
 use layout::put::put_code;
 use layout::reader::Reader;
-use layout::take::code_at;
 
 /// Whether a download begins.
 #[derive(Clone, Copy, Debug)]
@@ -31,9 +30,7 @@ impl Layout for MissedMessageRequestAck {
 
     ghost fits = { refl };
 
-    fn shape() -> Shape
-        ensures { Shaped (laid LETTER TOTAL TABLE) result }
-    {
+    fn shape() -> Shape {
         Shape::new(LETTER, TOTAL, &TABLE)
     }
 }
@@ -47,7 +44,7 @@ impl<'a> Framed<'a> for MissedMessageRequestAck {
 
     fn fields(r: &Reader<'a>) -> Self {
         MissedMessageRequestAck {
-            response: code_at(r, 4),
+            response: r.code(4),
         }
     }
 

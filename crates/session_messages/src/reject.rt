@@ -7,7 +7,6 @@ use layout::field::{Field, Form};
 use layout::framed::{Framed, Layout, Shape};
 use layout::put::{put_i32, put_text, put_u8};
 use layout::reader::Reader;
-use layout::take::{i32_at, text_at, u8_at};
 use texts::text::Text;
 
 /// A message that was not taken, by its type and its Client Order ID where they are known.
@@ -56,10 +55,10 @@ impl<'a> Framed<'a> for Reject<'a> {
 
     fn fields(r: &Reader<'a>) -> Self {
         Reject {
-            code: i32_at(r, 4),
-            reason: text_at(r, 8),
-            message_type: u8_at(r, 38),
-            client_order_id: text_at(r, 39),
+            code: r.i32(4),
+            reason: r.text(8),
+            message_type: r.u8(38),
+            client_order_id: r.text(39),
         }
     }
 
