@@ -59,6 +59,6 @@ behind at (f ∷ fs) (v ∷ vs) p b n end l t h =
 pub whole : (letter total : ℕ) (fs : List Field) (vs : List Content) (b c d : List ℕ) → tiled 4 total fs ≡ true
     → HoldsIn fs vs
     → c ≡ over b 0 (header letter total) → d ≡ over_all fs vs c → Wrote letter total fs vs b d
-unfolding over
+unfolding over HoldsIn
 whole letter total fs vs b c d t h e k =
     k ∙ ap (over_all fs vs) e ∙ behind (figure_at fs vs) fs vs (header letter total) b 4 total refl t h

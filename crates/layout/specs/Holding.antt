@@ -53,5 +53,5 @@ figure_at [] vs n = 0
 figure_at (f ∷ fs) [] n = 0
 figure_at (f ∷ fs) (v ∷ vs) n = if place f == n then figure_of v else figure_at fs vs n
 
-abbrev pub HoldsIn : List Field → List Content → Type 0
+unfoldable pub HoldsIn : List Field → List Content → Type 0
 HoldsIn fs vs = HoldsAll (figure_at fs vs) fs vs

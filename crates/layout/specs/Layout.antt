@@ -126,7 +126,7 @@ abbrev pub AllOk : List Field → List ℕ → Type 0
 AllOk fs bs = AllByRecursion (λ f. ok bs f ≡ true) fs
 
 -- each content is what its field holds
-abbrev pub Says : List Content → List Field → List ℕ → Type 0
+unfoldable pub Says : List Content → List Field → List ℕ → Type 0
 Says vs fs bs = vs ≡ map (got bs) fs
 
 abbrev pub is_words : Form → Bool

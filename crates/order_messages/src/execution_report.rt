@@ -172,7 +172,6 @@ impl<'a> Framed<'a> for ExecutionReport<'a> {
 }
 
 // Why the report is sent, with what only such a report tells.
-#[tactic(auto, unfolding(layout::specs::Layout::taken))]
 fn execution_at(r: &Reader<'_>) -> Execution
     requires room { TOTAL ≤ length r.now.src.now }
     requires good { AllOk execution_fields r.now.src.now }

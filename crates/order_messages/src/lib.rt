@@ -1,6 +1,6 @@
 // The messages of orders, and of what becomes of them: what each one carries, its table of fields, its reader and its
 // writer.
-#![tactic(auto)]
+#![tactic(auto, unfolding(layout::specs::Layout::Says, layout::specs::Layout::taken, layout::specs::Holding::HoldsIn))]
 
 pub mod execution_report;
 pub mod new_order;

@@ -148,7 +148,6 @@ impl<'a> Framed<'a> for NewOrder<'a> {
 }
 
 // The type of the order, and its limit where it has one.
-#[tactic(auto, unfolding(layout::specs::Layout::taken))]
 fn pricing_at(r: &Reader<'_>) -> Pricing
     requires room { 75 ≤ length r.now.src.now }
     requires good { AllOk pricing_fields r.now.src.now }

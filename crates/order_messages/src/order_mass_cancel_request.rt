@@ -112,7 +112,6 @@ impl<'a> Scope<'a> {
     }
 
     // The kind, and what belongs to it.
-    #[tactic(auto, unfolding(layout::specs::Layout::taken))]
     fn at(r: &Reader<'a>) -> Scope<'a>
         requires room { TOTAL ≤ length r.now.src.now }
         requires good { AllOk scope_fields r.now.src.now }

@@ -12,7 +12,6 @@ use layout::put::{put_blank, put_code};
 use layout::reader::Reader;
 use terms::target::Target;
 
-#[tactic(auto, unfolding(layout::specs::Layout::taken))]
 pub(crate) fn target_at(r: &Reader<'_>, at: usize) -> Target
     requires room { at + 2 ≤ length r.now.src.now }
     requires good { AllOk (target_fields at) r.now.src.now }

@@ -1,5 +1,5 @@
 // The messages of a session: what each one carries, its table of fields, its reader and its writer.
-#![tactic(auto)]
+#![tactic(auto, unfolding(layout::specs::Layout::Says, layout::specs::Holding::HoldsIn))]
 
 pub mod heartbeat;
 pub mod logon;

@@ -44,9 +44,7 @@ impl<'a> Framed<'a> for Logout<'a> {
     ghost places = { λ m. logout_places m };
 
     fn fields(r: &Reader<'a>) -> Self {
-        Logout {
-            reason: r.text(4),
-        }
+        Logout { reason: r.text(4) }
     }
 
     fn put(&self, out: &mut [u8]) {

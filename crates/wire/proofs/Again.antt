@@ -1,5 +1,5 @@
 -- Any table: what was read is written again as it stood, but for reserved and irrelevant fields. Assumes nothing.
-use Rattle.std.proofs.Common.{◌≡◌, ℕ, zero, suc, ◌+◌, ◌*◌, ◌/◌, ◌%◌, ◌^◌, ◌<◌, ◌≤◌, Bool, true, false, cond, leb, List, [], ◌∷◌, ◌++◌, length, get_or, take, drop, replicate, is_some, Some, None, Option, sym, refl, ap, ◌∙◌, pow-suc, arith, length-drop, take-append-drop, w8, w32, w64, Fits, leb-true}
+use Rattle.std.proofs.Common.{◌≡◌, ℕ, zero, suc, ◌+◌, ◌*◌, ◌/◌, ◌%◌, ◌^◌, ◌<◌, ◌≤◌, Bool, true, false, cond, leb, List, [], ◌∷◌, ◌++◌, length, get_or, map, take, drop, replicate, is_some, Some, None, Option, sym, refl, ap, ◌∙◌, pow-suc, arith, length-drop, take-append-drop, w8, w32, w64, Fits, leb-true}
 use native.Mathlib.Nat.{le-max_left}
 use Rattle.std.proofs.lemmas.List.{length-take-le, take_all}
 use Rattle.std.proofs.lemmas.Nat.{mod-mul-add, div-mul-add}
@@ -11,11 +11,12 @@ use Rattle.layout.specs.declared.field.Form.{Form}
 use Rattle.layout.specs.declared.field.Form.TheVariants.{Text, Name, Order, UInt32, UInt64, Sequence, Int8, Int32, Price, Time, Code, Alpha, Reserved}
 use Rattle.layout.specs.declared.field.Field.{Field}
 use Rattle.layout.specs.declared.field.Field.TheVariants.{Always, When}
-use Rattle.layout.specs.Layout.{Content, place, width, wide, span, form_of, matters, ok, got, ok_form, content, within, AllOk, Says, order_at, is_order, absent}
+use Rattle.layout.specs.Layout.{place, width, wide, span, form_of, matters, ok, got, ok_form, content, within, AllOk, order_at, is_order}
 use Rattle.layout.specs.Layout.Content.{nothing}
 use Rattle.layout.specs.Writing.{order_bytes, bytes_of, field_bytes, encode}
 use Rattle.layout.proofs.Parts.{part_long}
-use Rattle.wire.specs.Blanks.{reserved, blanked}
+use Rattle.layout.proofs.Wholes.{nothing_bytes}
+use Rattle.wire.specs.Blanks.{reserved, field_again, blanked}
 use Rattle.wire.proofs.Unique.{unique}
 
 -- bytes are below 256
@@ -84,8 +85,7 @@ halves s l b =
     (ap (λ y. to_le 4 (le y)) t ∙ q) ∙ take-append-drop 4 s
 
 form_write : (f : Form) (s : List ℕ) → ok_form f s ≡ true → length s ≡ wide f → Bytes s
-    → cond (absent (content f s)) (replicate (wide f) 0) (bytes_of f (content f s))
-    ≡ cond (reserved f) (replicate (wide f) 0) s
+    → bytes_of f (content f s) ≡ cond (reserved f) (replicate (wide f) 0) s
 form_write (Text w) s h l b = text_write w s h l
 form_write (Name w) s h l b = text_write w s (both_true (is_text s) (named s) h).0 l
 form_write Order s h l b = order_write s h l
@@ -100,33 +100,28 @@ form_write (Code cs) s h l b = wide_as 1 s l b
 form_write Alpha s h l b = wide_as 1 s l b
 form_write (Reserved w) s h l b = refl
 
-write_by : (m : Bool) (f : Form) (v : Content) (s : List ℕ) → cond m (ok_form f s) true ≡ true → v
-    ≡ cond m (content f s) nothing → length s ≡ wide f → Bytes s
-    → cond (absent v) (replicate (wide f) 0) (bytes_of f v)
-    ≡ cond m (cond (reserved f) (replicate (wide f) 0) s) (replicate (wide f) 0)
-write_by true f v s h e l b = rw e (form_write f s h l b)
-write_by false f v s h e l b = rw e
+write_by : (m : Bool) (f : Form) (s : List ℕ) → cond m (ok_form f s) true ≡ true → length s ≡ wide f → Bytes s
+    → bytes_of f (cond m (content f s) nothing) ≡ cond m (cond (reserved f) (replicate (wide f) 0) s)
+    (replicate (wide f) 0)
+write_by true f s h l b = form_write f s h l b
+write_by false f s h l b = nothing_bytes f
 
-write_one : (f : Field) (v : Content) (bs : List ℕ) → Bytes bs → place f + width f ≤ length bs → ok bs f ≡ true → v
-    ≡ got bs f
-    → field_bytes f v ≡ cond (matters bs f) (cond (reserved (form_of f)) (replicate (width f) 0)
-    (part (place f) (width f) bs)) (replicate (width f) 0)
+write_one : (f : Field) (bs : List ℕ) → Bytes bs → place f + width f ≤ length bs → ok bs f ≡ true
+    → field_bytes f (got bs f) ≡ field_again bs f
 unfolding field_bytes
-write_one f v bs b l h e =
-    write_by (matters bs f) (form_of f) v (part (place f) (width f) bs) h e (part_long (place f) (width f) bs l)
+write_one f bs b l h =
+    write_by (matters bs f) (form_of f) (part (place f) (width f) bs) h (part_long (place f) (width f) bs l)
     (bytes_take (width f) (drop (place f) bs) (bytes_drop (place f) bs b))
 
 ends : (f : Field) → place f + width f ≤ span f
 ends (Always at f) = omega arith
 ends (When at f other cs) = le-max_left (at + wide f) (other + 1)
 
-pub write_all : (fs : List Field) (vs : List Content) (bs : List ℕ) (n : ℕ) → Bytes bs → n ≤ length bs → within n fs
-    ≡ true → AllOk fs bs → Says vs fs bs → encode fs vs ≡ blanked fs bs
+pub write_all : (fs : List Field) (bs : List ℕ) (n : ℕ) → Bytes bs → n ≤ length bs → within n fs ≡ true → AllOk fs bs
+    → encode fs (map (got bs) fs) ≡ blanked fs bs
 unfolding encode blanked
-write_all [] [] bs n b l t o s = refl
-write_all [] (v ∷ vs) bs n b l t o s = absurd s
-write_all (f ∷ fs) [] bs n b l t o s = absurd s
-write_all (f ∷ fs) (v ∷ vs) bs n b l t o s =
+write_all [] bs n b l t o = refl
+write_all (f ∷ fs) bs n b l t o =
     let q = both_true (leb (span f) n) (within n fs) t in
     let h : place f + width f ≤ length bs = omega (arith, leb-true (span f) n q.0, ends f) in
-    rw (write_one f v bs b h o.0 s.0, write_all fs vs bs n b l q.1 o.1 s.1)
+    rw (write_one f bs b h o.0, write_all fs bs n b l q.1 o.1)

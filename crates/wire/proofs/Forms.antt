@@ -14,8 +14,8 @@ use Rattle.texts.proofs.Digits.{returns_of}
 use Rattle.layout.specs.declared.field.Form.{Form}
 use Rattle.layout.specs.declared.field.Form.TheVariants.{Text, Name, Order, UInt32, UInt64, Sequence, Int8, Int32, Price, Time, Code, Alpha, Reserved}
 use Rattle.layout.specs.declared.sequence.TheConstants.{SEQUENCE_LIMIT}
-use Rattle.layout.specs.Layout.{Content, taken, wide, order_at, is_order, ok_form, content, words_of, order_of, figure_of, int8_of, int32_of, price_of, seconds_of, micros_of, absent}
-use Rattle.layout.specs.Layout.Content.{words, order, figure, int8, int32, price, clock}
+use Rattle.layout.specs.Layout.{Content, taken, order_at, is_order, ok_form, content}
+use Rattle.layout.specs.Layout.Content.{words, order, figure, int8, int32, price, clock, nothing}
 use Rattle.layout.specs.Writing.{order_bytes, bytes_of}
 use Rattle.layout.specs.Holding.{Below, HoldsForm}
 
@@ -54,65 +54,26 @@ unfolding is_order order_at
 order_read None h = (refl, refl)
 order_read (Some n) h = let r = (returns_of 79 n h).0 in (ap is_some r, r)
 
+signed_read : (w : Width) (k : ℕ) (z : ℤ) → 256 ^ k ≡ 2 ^ bits w → SFits w z → z ≡ to_z w (le (to_le k (of_z w z)))
+signed_read w k z e f =
+    sym (ap (to_z w) (le-to_le k (of_z w z) (rw e (of_z_below w z f))) ∙ to_z-of_z w z f)
+
 pub form_read : (f : Form) (v : Content) → HoldsForm f v → (ok_form f (bytes_of f v) ≡ true)
     × (v ≡ content f (bytes_of f v))
-form_read (Text w) v h = (is_text-padded w (words_of v) h.2, h.0 ∙ ap words (sym (said-padded w (words_of v) h.2)))
-form_read (Name w) v h = (
-  rw (is_text-padded w (words_of v) h.2, named-padded w (words_of v) h.2 h.3),
-  h.0 ∙ ap words
-      (sym (said-padded w (words_of v) h.2)),
-)
-form_read Order v h = let r = order_read (order_of v) h.1 in (r.0, h.0 ∙ ap order (sym r.1))
-form_read UInt32 v h = (refl, h.0 ∙ ap figure (sym (le-to_le 4 (figure_of v) h.1)))
-form_read UInt64 v h = (refl, h.0 ∙ ap figure (sym (le-to_le 8 (figure_of v) h.1)))
-form_read Sequence v h =
-    let e = le-to_le 4 (figure_of v) (omega arith) in
-    (rw e (lt-ltb (figure_of v) SEQUENCE_LIMIT h.1), h.0 ∙ ap figure (sym e))
-form_read Int8 v h = (
-  refl,
-  h.0 ∙ ap int8 (sym (ap (to_z w8) (le-to_le 1 (of_z w8 (int8_of v)) (of_z_below w8 (int8_of v) h.1)) ∙
-      to_z-of_z w8 (int8_of v) h.1)),
-)
-form_read Int32 v h = (
-  refl,
-  h.0 ∙ ap int32 (sym (ap (to_z w32)
-      (le-to_le 4 (of_z w32 (int32_of v)) (of_z_below w32 (int32_of v) h.1)) ∙ to_z-of_z w32 (int32_of v) h.1)),
-)
-form_read Price v h = (
-  refl,
-  h.0 ∙ ap price (sym (ap (to_z w64)
-      (le-to_le 8 (of_z w64 (price_of v)) (of_z_below w64 (price_of v) h.1)) ∙ to_z-of_z w64 (price_of v) h.1)),
-)
-form_read Time v h =
-    let s = le-to_le 4 (seconds_of v) h.1 in
-    let u = le-to_le 4 (micros_of v) h.2 in
-    (refl, h.0 ∙ sym (ap (λ n. clock n (le (to_le 4 (micros_of v)))) s ∙ ap (clock (seconds_of v)) u))
-form_read (Code cs) v h =
-    let e = le-to_le 1 (figure_of v) (code_small cs (figure_of v) h.1) in
-    (rw e h.1, h.0 ∙ ap figure (sym e))
-form_read Alpha v h = (refl, h.0 ∙ ap figure (sym (le-to_le 1 (figure_of v) h.1)))
-form_read (Reserved w) v h = (refl, h)
-
--- a content that a form can hold is there, but for a reserved field
-shown : (v w : Content) → v ≡ w → absent w ≡ false → absent v ≡ false
-shown v w e h = ap absent e ∙ h
-
-there : (f : Form) (v : Content) (a : Bool) → absent v ≡ a → a ≡ false → cond a (replicate (wide f) 0) (bytes_of f v)
-    ≡ bytes_of f v
-there f v a e h = rw h
-
-pub form_bytes : (f : Form) (v : Content) → HoldsForm f v → cond (absent v) (replicate (wide f) 0) (bytes_of f v)
-    ≡ bytes_of f v
-form_bytes (Text w) v h = there (Text w) v (absent v) refl (shown v (words (words_of v)) h.0 refl)
-form_bytes (Name w) v h = there (Name w) v (absent v) refl (shown v (words (words_of v)) h.0 refl)
-form_bytes Order v h = there Order v (absent v) refl (shown v (order (order_of v)) h.0 refl)
-form_bytes UInt32 v h = there UInt32 v (absent v) refl (shown v (figure (figure_of v)) h.0 refl)
-form_bytes UInt64 v h = there UInt64 v (absent v) refl (shown v (figure (figure_of v)) h.0 refl)
-form_bytes Sequence v h = there Sequence v (absent v) refl (shown v (figure (figure_of v)) h.0 refl)
-form_bytes Int8 v h = there Int8 v (absent v) refl (shown v (int8 (int8_of v)) h.0 refl)
-form_bytes Int32 v h = there Int32 v (absent v) refl (shown v (int32 (int32_of v)) h.0 refl)
-form_bytes Price v h = there Price v (absent v) refl (shown v (price (price_of v)) h.0 refl)
-form_bytes Time v h = there Time v (absent v) refl (shown v (clock (seconds_of v) (micros_of v)) h.0 refl)
-form_bytes (Code cs) v h = there (Code cs) v (absent v) refl (shown v (figure (figure_of v)) h.0 refl)
-form_bytes Alpha v h = there Alpha v (absent v) refl (shown v (figure (figure_of v)) h.0 refl)
-form_bytes (Reserved w) v h = rw h
+form_read (Text w) (words t) h = (is_text-padded w t h.1, ap words (sym (said-padded w t h.1)))
+form_read (Name w) (words t) h =
+    (rw (is_text-padded w t h.1, named-padded w t h.1 h.2), ap words (sym (said-padded w t h.1)))
+form_read Order (order o) h = let r = order_read o h in (r.0, ap order (sym r.1))
+form_read UInt32 (figure n) h = (refl, ap figure (sym (le-to_le 4 n h)))
+form_read UInt64 (figure n) h = (refl, ap figure (sym (le-to_le 8 n h)))
+form_read Sequence (figure n) h =
+    let e = le-to_le 4 n (omega arith) in (rw e (lt-ltb n SEQUENCE_LIMIT h), ap figure (sym e))
+form_read Int8 (int8 z) h = (refl, ap int8 (signed_read w8 1 z refl h))
+form_read Int32 (int32 z) h = (refl, ap int32 (signed_read w32 4 z refl h))
+form_read Price (price z) h = (refl, ap price (signed_read w64 8 z refl h))
+form_read Time (clock s u) h =
+    (refl, sym (ap (λ n. clock n (le (to_le 4 u))) (le-to_le 4 s h.0) ∙ ap (clock s) (le-to_le 4 u h.1)))
+form_read (Code cs) (figure n) h = let e = le-to_le 1 n (code_small cs n h) in (rw e h, ap figure (sym e))
+form_read Alpha (figure n) h = (refl, ap figure (sym (le-to_le 1 n h)))
+form_read (Reserved w) nothing h = (refl, refl)
+form_read f v h = absurd h

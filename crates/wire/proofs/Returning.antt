@@ -1,9 +1,9 @@
 -- Reading undoes writing, and no two messages are written alike. Assumes nothing.
-use Rattle.std.proofs.Common.{◌≡◌, ℕ, List, Some, None, Ok, Result, sym, refl, ap, ◌∙◌, subst}
+use Rattle.std.proofs.Common.{◌≡◌, ℕ, List, map, Some, None, Ok, Result, sym, refl, ap, ◌∙◌, subst}
 use Rattle.std.specs.Option.{option_map}
 use Rattle.layout.specs.declared.fault.Fault.{Fault}
 use Rattle.layout.specs.declared.fault.Fault.TheVariants as fault
-use Rattle.layout.specs.Layout.{Says}
+use Rattle.layout.specs.Layout.{Says, got}
 use Rattle.layout.specs.Writing.{header, encode}
 use Rattle.wire.specs.declared.kinds.Channel.{Channel}
 use Rattle.wire.specs.declared.kinds.Kind.{Kind}
@@ -13,7 +13,7 @@ use Rattle.wire.specs.Messages.{kind_of, contents_of, opening, after_opening, ve
 use Rattle.wire.proofs.Opening.{opened}
 use Rattle.wire.proofs.Same.{same}
 use Rattle.wire.proofs.Sound.{sound, reader_of, kinds_same}
-use Rattle.wire.proofs.Trips.{trip, says_same}
+use Rattle.wire.proofs.Trips.{trip}
 
 -- the bytes of a message are read again as it was
 read_again : (ch : Channel) (m : Message) → Holdable m → takes ch (letter_of (kind_of m)) ≡ Some (kind_of m)
@@ -31,9 +31,8 @@ ok_same r j k p q = cc
 
 says_alike : (m n : Message) (bs : List ℕ) → kind_of n ≡ kind_of m → Says (contents_of n) (table_of (kind_of n)) bs
     → Says (contents_of m) (table_of (kind_of m)) bs → contents_of n ≡ contents_of m
-says_alike m n bs k a b =
-    let P : Kind → Type 0 = λ j. Says (contents_of n) (table_of j) bs in
-    says_same (table_of (kind_of m)) (contents_of n) (contents_of m) bs (subst P k a) b
+unfolding Says
+says_alike m n bs k a b = a ∙ ap (λ j. map (got bs) (table_of j)) k ∙ sym b
 
 pub given_back : (m : Message) → Holdable m → GivenBack m
 given_back m h ch d =

@@ -1,7 +1,7 @@
 -- Writing undoes reading. Assumes nothing.
 use Rattle.std.proofs.Common.{Err, Fits, IfOk, List, None, Ok, Option, Result, Some, [], ap, arith, get_or, leb-true, length, take, w8, ℕ, ◌*◌, ◌++◌, ◌+◌, ◌-◌, ◌∙◌, ◌∷◌, ◌≡◌, ◌≤◌}
 use Rattle.layout.proofs.Tables.{all_ok}
-use Rattle.layout.specs.Layout.{first_bad}
+use Rattle.layout.specs.Layout.{first_bad, Says}
 use Rattle.layout.specs.Writing.{encode, header}
 use Rattle.layout.specs.declared.fault.Fault.TheVariants as fault
 use Rattle.layout.specs.declared.fault.Fault.{Fault}
@@ -43,15 +43,16 @@ no_fault (Some n) e = cc
 
 written_again : (ch : Channel) (bs : List ℕ) (m : Message) → ((i : ℕ) → Fits w8 (get_or bs i 0)) → Reads ch bs m
     → Again bs m
+unfolding Says
 written_again ch bs m t r =
     let b = bytes_from bs t in
     let k = kind_of m in
     let g = no_fault (first_bad (table_of k) bs) (rw r.opens at r.passes) in
     let f = front ch k bs b r.opens in
     let l : total_of k ≤ length bs = omega (arith, f.1) in
-    let e = write_all (table_of k) (contents_of m) bs (total_of k) b l (sound k).spans
-    (all_ok (table_of k) bs g) r.says in
-    ap (λ x. x ++ encode (table_of k) (contents_of m)) f.0 ∙ ap (λ x. take 4 bs ++ x) e
+    let e = write_all (table_of k) bs (total_of k) b l (sound k).spans (all_ok (table_of k) bs g) in
+    ap (λ x. x ++ encode (table_of k) (contents_of m)) f.0 ∙ ap (λ x. take 4 bs ++ x)
+    (ap (encode (table_of k)) r.says ∙ e)
 
 pub again : (ch : Channel) (bs : List ℕ) (r : Result Message Fault) → ((i : ℕ) → Fits w8 (get_or bs i 0))
     → WasRead ch bs r → IfOk r (λ m. Again bs m)

@@ -5,10 +5,10 @@ use Rattle.std.specs.Option.{option_map}
 use Rattle.std.proofs.Math.Bool.{Bool-set}
 use Rattle.std.proofs.Math.Bridge.{le_prop}
 use Rattle.std.proofs.Math.Nat.{ℕ_set}
-use Rattle.codes.specs.contracts.order.BookCode.TheImpl.Laws.{one-law as book_one}
-use Rattle.codes.specs.contracts.order.ExecInstructionCode.TheImpl.Laws.{one-law as exec_instruction_one}
-use Rattle.codes.specs.contracts.report.LiquidityCode.TheImpl.Laws.{one-law as liquidity_one}
-use Rattle.codes.specs.contracts.report.TradeTypeCode.TheImpl.Laws.{one-law as trade_type_one}
+use Rattle.codes.specs.contracts.order.BookCode.TheImpl.Laws.{sound-law as book_law}
+use Rattle.codes.specs.contracts.order.ExecInstructionCode.TheImpl.Laws.{sound-law as exec_instruction_law}
+use Rattle.codes.specs.contracts.report.LiquidityCode.TheImpl.Laws.{sound-law as liquidity_law}
+use Rattle.codes.specs.contracts.report.TradeTypeCode.TheImpl.Laws.{sound-law as trade_type_law}
 use Rattle.codes.specs.Order.{book_code, order_type_code, mass_cancel_type_code}
 use Rattle.codes.specs.Report.{exec_type_code}
 use Rattle.texts.specs.Bytes.{padded, is_text, named}
@@ -83,57 +83,31 @@ time_same x y e = ap (λ v. record { seconds = seconds_of v; microseconds = micr
 
 pub pricing_same : (x y : Pricing) → order_type_code (order_type_of x) ≡ order_type_code (order_type_of y)
     → pricing_price x ≡ pricing_price y → x ≡ y
-pricing_same pricing.Market pricing.Market c p = refl
-pricing_same pricing.Market y c p = absurd (omega arith)
 pricing_same (pricing.Limit a) (pricing.Limit b) c p =
     let e : a.raw ≡ b.raw = cc in ap (λ r. pricing.Limit (record { raw = r })) e
-pricing_same (pricing.Limit a) y c p = absurd (omega arith)
+pricing_same x y c p = first_of (cc, grind arith)
 
 pub target_same : (x y : Target) → book_code (book_of x) ≡ book_code (book_of y) → target_instruction x
     ≡ target_instruction y → x ≡ y
-target_same (target.DarkMidpoint i) (target.DarkMidpoint j) c e = ap target.DarkMidpoint (exec_instruction_one i j (cc))
-target_same (target.DarkMidpoint i) y c e = absurd (omega arith)
-target_same target.Integrated target.Integrated c e = refl
-target_same target.Integrated y c e = absurd (omega arith)
+target_same (target.DarkMidpoint i) (target.DarkMidpoint j) c e = ap target.DarkMidpoint (exec_instruction_law.one i j (cc))
+target_same x y c e = first_of (cc, grind arith)
 
 pub execution_same : (x y : Execution) → exec_type_code (kind_of x) ≡ exec_type_code (kind_of y) → execution_reject x
     ≡ execution_reject y
     → execution_liquidity x ≡ execution_liquidity y → execution_trade x ≡ execution_trade y → x ≡ y
-execution_same execution.Unspecified execution.Unspecified c r l t = refl
-execution_same execution.Unspecified y c r l t = absurd (omega arith)
-execution_same execution.New execution.New c r l t = refl
-execution_same execution.New y c r l t = absurd (omega arith)
-execution_same execution.Cancelled execution.Cancelled c r l t = refl
-execution_same execution.Cancelled y c r l t = absurd (omega arith)
-execution_same execution.Replaced execution.Replaced c r l t = refl
-execution_same execution.Replaced y c r l t = absurd (omega arith)
-execution_same (execution.Rejected n) (execution.Rejected m) c r l t = cc
-execution_same (execution.Rejected n) y c r l t = absurd (omega arith)
-execution_same execution.Expired execution.Expired c r l t = refl
-execution_same execution.Expired y c r l t = absurd (omega arith)
-execution_same execution.Restated execution.Restated c r l t = refl
-execution_same execution.Restated y c r l t = absurd (omega arith)
 execution_same (execution.Trade a s) (execution.Trade b u) c r l t =
-    let p = liquidity_one a b (cc) in let q = trade_type_one s u (cc) in cc
-execution_same (execution.Trade a s) y c r l t = absurd (omega arith)
+    let p = liquidity_law.one a b (cc) in let q = trade_type_law.one s u (cc) in cc
 execution_same (execution.TradeCancel a) (execution.TradeCancel b) c r l t =
-    ap execution.TradeCancel (liquidity_one a b (cc))
-execution_same (execution.TradeCancel a) y c r l t = absurd (omega arith)
+    ap execution.TradeCancel (liquidity_law.one a b (cc))
+execution_same x y c r l t = first_of (cc, grind arith)
 
 pub scope_same : (x y : Scope) → mass_cancel_type_code (scope_kind x) ≡ mass_cancel_type_code (scope_kind y)
     → scope_symbol x ≡ scope_symbol y
     → scope_segment x ≡ scope_segment y → scope_book x ≡ scope_book y → plain_scope x ≡ plain_scope y
 scope_same (scope.FirmInstrument s a) (scope.FirmInstrument u b) c e g f =
-    let p = text_same s u (cc) in let q = book_one a b (cc) in cc
-scope_same (scope.FirmInstrument s a) y c e g f = absurd (omega arith)
+    let p = text_same s u (cc) in let q = book_law.one a b (cc) in cc
 scope_same (scope.FirmSegment s) (scope.FirmSegment u) c e g f = ap scope.FirmSegment (text_same s u (cc))
-scope_same (scope.FirmSegment s) y c e g f = absurd (omega arith)
-scope_same scope.CompId scope.CompId c e g f = refl
-scope_same scope.CompId y c e g f = absurd (omega arith)
-scope_same scope.Firm scope.Firm c e g f = refl
-scope_same scope.Firm y c e g f = absurd (omega arith)
 scope_same (scope.CompIdInstrument s a) (scope.CompIdInstrument u b) c e g f =
-    let p = text_same s u (cc) in let q = book_one a b (cc) in cc
-scope_same (scope.CompIdInstrument s a) y c e g f = absurd (omega arith)
+    let p = text_same s u (cc) in let q = book_law.one a b (cc) in cc
 scope_same (scope.CompIdSegment s) (scope.CompIdSegment u) c e g f = ap scope.CompIdSegment (text_same s u (cc))
-scope_same (scope.CompIdSegment s) y c e g f = absurd (omega arith)
+scope_same x y c e g f = first_of (cc, grind arith)

@@ -1,6 +1,7 @@
 -- Any table: what its fields are written as is read again, field by field. Assumes nothing.
 use Rattle.std.proofs.Common.{◌&&◌, ◌≡◌, ℕ, ◌+◌, Bool, true, false, cond, eqb, List, [], ◌∷◌, ◌++◌, length, replicate, None, sym, refl, ap, ◌∙◌, subst, append_assoc, append-nil, arith, length-append, eqb-true}
 use Rattle.std.proofs.lemmas.List.{take_at, drop_at}
+use Rattle.std.specs.List.{list_all}
 use Rattle.codes.specs.Lists.{listed}
 use Rattle.texts.specs.Bytes.{le, part}
 use Rattle.texts.proofs.Padding.{both_true, le-to_le}
@@ -8,12 +9,12 @@ use Rattle.layout.specs.declared.field.Form.{Form}
 use Rattle.layout.specs.declared.field.Form.TheVariants.{Code}
 use Rattle.layout.specs.declared.field.Field.{Field}
 use Rattle.layout.specs.declared.field.Field.TheVariants.{Always, When}
-use Rattle.layout.specs.Layout.{Content, taken, place, width, wide, ok, got, ok_form, content, first_bad, Says, figure_of, absent}
-use Rattle.layout.specs.Layout.Content.{nothing}
+use Rattle.layout.specs.Layout.{Content, taken, place, width, wide, ok, got, ok_form, content, first_bad, Says, figure_of}
+use Rattle.layout.specs.Layout.Content.{figure, nothing}
 use Rattle.layout.specs.Writing.{bytes_of, field_bytes, encode, tiled}
 use Rattle.layout.specs.Holding.{HoldsForm, If, Holds, HoldsAll, HoldsIn, figure_at}
 use Rattle.layout.proofs.Wholes.{field_wide}
-use Rattle.wire.proofs.Forms.{code_small, form_read, form_bytes}
+use Rattle.wire.proofs.Forms.{code_small, form_read}
 
 -- a field in the middle of the bytes
 part_mid : (p s r : List ℕ) (at w : ℕ) → length p ≡ at → length s ≡ w → part at w (p ++ (s ++ r)) ≡ s
@@ -28,22 +29,18 @@ abbrev pub code_at : List Field → ℕ → Bool
 code_at [] n = false
 code_at (f ∷ fs) n = cond (eqb (place f) n) (is_code f) (code_at fs n)
 
-abbrev pub looked : List Field → List Field → Bool
-looked whole [] = true
-looked whole (Always at f ∷ fs) = looked whole fs
-looked whole (When at f other cs ∷ fs) = code_at whole other && looked whole fs
+abbrev pub looks : List Field → Field → Bool
+looks whole (Always at f) = true
+looks whole (When at f other cs) = code_at whole other
 
-abbrev Seen : (ℕ → ℕ) → List Field → List ℕ → Type 0
-Seen at [] bs = Unit {0}
-Seen at (Always here f ∷ fs) bs = Seen at fs bs
-Seen at (When here f other cs ∷ fs) bs = (le (part other 1 bs) ≡ at other) × Seen at fs bs
+abbrev pub looked : List Field → List Field → Bool
+looked whole fs = list_all (looks whole) fs
 
 code_read : (at : ℕ → ℕ) (f : Field) (v : Content) (bs : List ℕ) → is_code f ≡ true → Holds at f v
     → part (place f) (width f) bs ≡ field_bytes f v → le (part (place f) 1 bs) ≡ figure_of v
 unfolding field_bytes
-code_read at (Always here (Code cs)) v bs c h e =
-    ap le (e ∙ form_bytes (Code cs) v h) ∙ le-to_le 1 (figure_of v) (code_small cs (figure_of v) h.1)
-code_read at f v bs c h e = cc
+code_read at (Always here (Code cs)) (figure n) bs c h e = ap le e ∙ le-to_le 1 n (code_small cs n h)
+code_read at f v bs c h e = grind arith
 
 look_by : (b : Bool) (at : ℕ → ℕ) (f : Field) (v : Content) (bs : List ℕ) (n m : ℕ) (c : Bool) → eqb (place f) n ≡ b
     → cond b (is_code f) c ≡ true → Holds at f v
@@ -89,67 +86,49 @@ look at (f ∷ fs) (v ∷ vs) bs p r n end o e l t h c =
     look_by (eqb (place f) o) at f v bs o (figure_at fs vs o) (code_at fs o) refl c h.0 w.here
     (look at fs vs bs (p ++ field_bytes f v) r (n + width f) end o w.behind w.long w.tiles h.1)
 
-seen : (whole : List Field) (at : ℕ → ℕ) (fs : List Field) (bs : List ℕ)
-    → ((o : ℕ) → code_at whole o ≡ true → le (part o 1 bs) ≡ at o) → looked whole fs ≡ true → Seen at fs bs
-seen whole at [] bs k s = tt
-seen whole at (Always here f ∷ fs) bs k s = seen whole at fs bs k s
-seen whole at (When here f other cs ∷ fs) bs k s =
-    let q = both_true (code_at whole other) (looked whole fs) s in (k other q.0, seen whole at fs bs k q.1)
-
 -- one field, read again
-held_read : (b : Bool) (f : Form) (v : Content) (s : List ℕ) → If b (HoldsForm f v) (v ≡ nothing) → s
-    ≡ cond (absent v) (replicate (wide f) 0) (bytes_of f v)
+held_read : (b : Bool) (f : Form) (v : Content) (s : List ℕ) → If b (HoldsForm f v) (v ≡ nothing) → s ≡ bytes_of f v
     → (cond b (ok_form f s) true ≡ true) × (v ≡ cond b (content f s) nothing)
-held_read true f v s h e =
-    let e' = e ∙ form_bytes f v h in
-    let r = form_read f v h in
-    (ap (ok_form f) e' ∙ r.0, r.1 ∙ ap (content f) (sym e'))
+held_read true f v s h e = let r = form_read f v h in (ap (ok_form f) e ∙ r.0, r.1 ∙ ap (content f) (sym e))
 held_read false f v s h e = (refl, h)
 
-read_one : (at : ℕ → ℕ) (f : Field) (v : Content) (bs : List ℕ) → Seen at (f ∷ []) bs → Holds at f v
-    → part (place f) (width f) bs ≡ field_bytes f v → (ok bs f ≡ true) × (v ≡ got bs f)
+-- bytes whose listed fields hold this
+abbrev Seen : List Field → (ℕ → ℕ) → List ℕ → Type 0
+Seen whole at bs = (o : ℕ) → code_at whole o ≡ true → le (part o 1 bs) ≡ at o
+
+read_one : (whole : List Field) (at : ℕ → ℕ) (f : Field) (v : Content) (bs : List ℕ) → Seen whole at bs
+    → looks whole f ≡ true → Holds at f v → part (place f) (width f) bs ≡ field_bytes f v
+    → (ok bs f ≡ true) × (v ≡ got bs f)
 unfolding field_bytes
-read_one at (Always here f) v bs s h e = held_read true f v (part here (wide f) bs) h e
-read_one at (When here f other cs) v bs s h e =
-    let b = taken (le (part other 1 bs)) (listed cs) in
-    let q : b ≡ taken (at other) (listed cs) = ap (λ n. taken n (listed cs)) s.0 in
-    held_read b f v (part here (wide f) bs) (let P : Bool
-    → Type 0 = λ x. If x (HoldsForm f v) (v ≡ nothing) in subst P (sym q) h) e
+read_one whole at (Always here f) v bs k s h e = held_read true f v (part here (wide f) bs) h e
+read_one whole at (When here f other cs) v bs k s h e =
+    let P : ℕ → Type 0 = λ n. If (taken n (listed cs)) (HoldsForm f v) (v ≡ nothing) in
+    held_read (taken (le (part other 1 bs)) (listed cs)) f v (part here (wide f) bs) (subst P (sym (k other s)) h) e
 
-split_seen : (at : ℕ → ℕ) (f : Field) (fs : List Field) (bs : List ℕ) → Seen at (f ∷ fs) bs → Seen at (f ∷ []) bs
-    × Seen at fs bs
-split_seen at (Always here f) fs bs s = (tt, s)
-split_seen at (When here f other cs) fs bs s = ((s.0, tt), s.1)
-
-read_all : (at : ℕ → ℕ) (fs : List Field) (vs : List Content) (bs p r : List ℕ) (n end : ℕ) → bs ≡ p
-    ++ (encode fs vs ++ r) → length p ≡ n → tiled n end fs ≡ true → HoldsAll at fs vs → Seen at fs bs
+read_all : (whole : List Field) (at : ℕ → ℕ) (fs : List Field) (vs : List Content) (bs p r : List ℕ) (n end : ℕ)
+    → bs ≡ p ++ (encode fs vs ++ r) → length p ≡ n → tiled n end fs ≡ true → HoldsAll at fs vs
+    → Seen whole at bs → looked whole fs ≡ true
     → (first_bad fs bs ≡ None) × Says vs fs bs × (n + length (encode fs vs) ≡ end)
-unfolding encode first_bad
-read_all at [] [] bs p r n end e l t h s = (refl, tt, omega (arith, eqb-true n end t))
-read_all at [] (v ∷ vs) bs p r n end e l t h s = absurd h
-read_all at (f ∷ fs) [] bs p r n end e l t h s = absurd h
-read_all at (f ∷ fs) (v ∷ vs) bs p r n end e l t h s =
+unfolding encode first_bad Says
+read_all whole at [] [] bs p r n end e l t h k s = (refl, refl, omega (arith, eqb-true n end t))
+read_all whole at [] (v ∷ vs) bs p r n end e l t h k s = absurd h
+read_all whole at (f ∷ fs) [] bs p r n end e l t h k s = absurd h
+read_all whole at (f ∷ fs) (v ∷ vs) bs p r n end e l t h k s =
     let w = front at f v fs vs bs p r n end e l t h.0 in
-    let x = split_seen at f fs bs s in
-    let o = read_one at f v bs x.0 h.0 w.here in
-    let j = read_all at fs vs bs (p ++ field_bytes f v) r (n + width f) end w.behind w.long w.tiles h.1 x.1 in
-    (rw o.0 j.0, (o.1, j.1), omega (arith, j.2, w.wide, length-append (field_bytes f v) (encode fs vs)))
-
-pub says_same : (fs : List Field) (us vs : List Content) (bs : List ℕ) → Says us fs bs → Says vs fs bs → us ≡ vs
-says_same [] [] [] bs a b = refl
-says_same [] [] (v ∷ vs) bs a b = absurd b
-says_same [] (u ∷ us) vs bs a b = absurd a
-says_same (f ∷ fs) [] vs bs a b = absurd a
-says_same (f ∷ fs) (u ∷ us) [] bs a b = absurd b
-says_same (f ∷ fs) (u ∷ us) (v ∷ vs) bs a b = rw (a.0, b.0, says_same fs us vs bs a.1 b.1)
+    let q = both_true (looks whole f) (looked whole fs) s in
+    let o = read_one whole at f v bs k q.0 h.0 w.here in
+    let j = read_all whole at fs vs bs (p ++ field_bytes f v) r (n + width f) end w.behind w.long w.tiles h.1 k q.1 in
+    let x = o.1 in
+    let y = j.1 in
+    (rw o.0 j.0, cc, omega (arith, j.2, w.wide, length-append (field_bytes f v) (encode fs vs)))
 
 -- a whole table, written behind its header and read again
 pub trip : (fs : List Field) (vs : List Content) (q : List ℕ) (total : ℕ) → length q ≡ 4 → tiled 4 total fs ≡ true
     → looked fs fs ≡ true → HoldsIn fs vs
     → (first_bad fs (q ++ encode fs vs) ≡ None) × Says vs fs (q ++ encode fs vs) × (4 + length (encode fs vs) ≡ total)
+unfolding HoldsIn
 trip fs vs q total l t k h =
     let at = figure_at fs vs in
     let bs = q ++ encode fs vs in
     let b : bs ≡ q ++ (encode fs vs ++ []) = simp append-nil in
-    let s = seen fs at fs bs (λ o c. look at fs vs bs q [] 4 total o b l t h c) k in
-    read_all at fs vs bs q [] 4 total b l t h s
+    read_all fs at fs vs bs q [] 4 total b l t h (λ o c. look at fs vs bs q [] 4 total o b l t h c) k

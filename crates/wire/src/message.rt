@@ -128,7 +128,7 @@ pub fn read<'a>(channel: Channel, bytes: &'a [u8]) -> Result<Message<'a>, Fault>
     read_kind(channel, bytes)
 }
 
-#[tactic(auto, using(crate::proofs::Writing::one_form))]
+#[tactic(auto, using(crate::proofs::Writing::one_form, crate::proofs::Writing::holdable))]
 fn write_kind(message: &Message<'_>, out: &mut [u8])
     requires { total_of (kind_of message.now) ≤ length out.old }
     ensures wrote { out.new ≡ written message.now ++ drop (total_of (kind_of message.now)) out.old }
