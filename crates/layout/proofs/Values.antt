@@ -1,5 +1,5 @@
 -- What a message's contents say: values by their bytes, and what bytes hold. Assumes nothing.
-use Rattle.std.proofs.Common.{◌≡◌, ◌⊎◌, ◌≢◌, ℕ, true, false, cond, eqb, List, [], ◌∷◌, map, Some, refl, sym, inl, inr}
+use Rattle.std.proofs.Common.{◌≡◌, ◌⊎◌, ◌≢◌, ℕ, true, false, cond, eqb, List, [], ◌∷◌, map, Some, sym, inl, inr}
 use Rattle.std.specs.List.{find}
 use Rattle.std.specs.Option.{unwrap_or}
 use Rattle.std.proofs.lemmas.Bool.{ne_eqb}

@@ -1,6 +1,6 @@
 -- What a message that can be held is written as: as many bytes as its fields are wide, one field behind the other.
 -- Assumes nothing.
-use Rattle.std.proofs.Common.{◌≡◌, ℕ, ◌+◌, Bool, true, false, cond, eqb, List, [], ◌∷◌, ◌++◌, length, drop, replicate, Some, None, Option, refl, ap, ◌∙◌, append_assoc, length-append, eqb-true, arith}
+use Rattle.std.proofs.Common.{◌≡◌, ℕ, ◌+◌, Bool, true, false, eqb, List, [], ◌∷◌, ◌++◌, length, drop, replicate, Some, None, Option, refl, ap, ◌∙◌, append_assoc, length-append, eqb-true, arith}
 use lib.ListN.{length-replicate}
 use Rattle.codes.specs.Lists.{listed}
 use Rattle.texts.proofs.Padding.{both_true, length-padded}

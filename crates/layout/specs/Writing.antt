@@ -10,7 +10,7 @@ use Rattle.layout.specs.declared.field.Form.TheVariants.{Text, Name, Order, UInt
 use Rattle.layout.specs.declared.field.Field.{Field}
 use Rattle.layout.specs.declared.put.TheConstants.{START}
 use Rattle.layout.specs.Layout.{Content, place, wide, width, form_of}
-use Rattle.layout.specs.Layout.Content.{words, order, figure, int8, int32, price, clock, nothing}
+use Rattle.layout.specs.Layout.Content.{words, order, figure, int8, int32, price, clock}
 
 -- an order's identifier, or nulls
 abbrev pub order_bytes : Option ℕ → List ℕ

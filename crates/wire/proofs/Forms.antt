@@ -1,5 +1,5 @@
 -- A field of any form: reading undoes writing, and writing undoes reading. Assumes nothing.
-use Rattle.std.proofs.Common.{◌&&◌, ◌||◌, ◌≡◌, ℕ, ◌^◌, ◌<◌, Bool, true, false, cond, eqb, ltb, List, [], ◌∷◌, replicate, ℤ, is_some, Some, None, Option, sym, refl, ap, ◌∙◌, arith, w8, w32, w64, SFits, to_z, of_z, ltb-true, lt-ltb, eqb-true}
+use Rattle.std.proofs.Common.{◌&&◌, ◌||◌, ◌≡◌, ℕ, ◌^◌, ◌<◌, Bool, true, false, eqb, ltb, List, [], ◌∷◌, ℤ, is_some, Some, None, Option, sym, refl, ap, ◌∙◌, arith, w8, w32, w64, SFits, to_z, of_z, ltb-true, lt-ltb, eqb-true}
 use mir.Val.{bits}
 use mir.Facts.{Fits-of_z}
 use mir.Syntax.{Width}

@@ -1,6 +1,6 @@
 -- Parts of a message whose fields hang together: two that hold the same in those fields are the same.
 -- Assumes nothing.
-use Rattle.std.proofs.Common.{◌≡◌, ℕ, ◌<◌, true, List, length, Some, None, Option, sym, refl, ap, ◌∙◌, subst, arith}
+use Rattle.std.proofs.Common.{◌≡◌, ℕ, ℤ, ◌<◌, true, List, length, Some, None, Option, sym, refl, ap, ◌∙◌, subst, arith}
 use Rattle.std.specs.Option.{option_map}
 use Rattle.std.proofs.Math.Bool.{Bool-set}
 use Rattle.std.proofs.Math.Bridge.{le_prop}
@@ -22,7 +22,7 @@ use Rattle.texts.proofs.Padding.{padded-said}
 use Rattle.layout.specs.declared.sequence.LastSequence.{LastSequence}
 use Rattle.layout.specs.declared.sequence.TheConstants.{SEQUENCE_LIMIT}
 use Rattle.layout.specs.Layout.{price_of, seconds_of, micros_of}
-use Rattle.layout.specs.Layout.Content.{order, price, clock}
+use Rattle.layout.specs.Layout.Content.{order, figure, int32, price, clock}
 use Rattle.terms.specs.Execution.{kind_of}
 use Rattle.terms.specs.Pricing.{order_type_of}
 use Rattle.terms.specs.Target.{book_of}
@@ -36,6 +36,13 @@ use Rattle.order_messages.specs.declared.order_mass_cancel_request.Scope.{Scope}
 use Rattle.order_messages.specs.declared.order_mass_cancel_request.Scope.TheVariants as scope
 use Rattle.order_messages.specs.Terms.{pricing_price, target_instruction, execution_reject, execution_liquidity, execution_trade, scope_kind, scope_symbol, scope_book, scope_segment}
 use Rattle.wire.specs.Plain.{plain_text, plain_name, plain_scope}
+
+-- numbers that fields hold
+pub figure_same : (a b : ℕ) → figure a ≡ figure b → a ≡ b
+figure_same a b e = cc
+
+pub int32_same : (a b : ℤ) → int32 a ≡ int32 b → a ≡ b
+int32_same a b e = cc
 
 -- texts that say the same
 abbrev text_of : (N : ℕ) (f : List ℕ) → length f ≡ N → is_text f ≡ true → Text N
