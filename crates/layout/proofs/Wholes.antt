@@ -1,9 +1,10 @@
 -- What a message that can be held is written as: as many bytes as its fields are wide, one field behind the other.
 -- Assumes nothing.
 use Rattle.std.proofs.Common.{◌≡◌, ℕ, ◌+◌, Bool, true, false, eqb, List, [], ◌∷◌, ◌++◌, length, drop, replicate, Some, None, Option, refl, ap, ◌∙◌, append_assoc, length-append, eqb-true, arith}
+use Rattle.std.proofs.lemmas.Bool.{and_parts}
 use lib.ListN.{length-replicate}
 use Rattle.codes.specs.Lists.{listed}
-use Rattle.texts.proofs.Padding.{both_true, length-padded}
+use Rattle.texts.proofs.Padding.{length-padded}
 use Rattle.texts.proofs.Digits.{length-id_of}
 use Rattle.layout.specs.declared.field.Form.{Form}
 use Rattle.layout.specs.declared.field.Form.TheVariants.{Text, Name, Order, Reserved}
@@ -47,7 +48,7 @@ unfolding encode
 behind at [] vs p b n end l t h = rw (eqb-true n end t)
 behind at (f ∷ fs) [] p b n end l t h = absurd h
 behind at (f ∷ fs) (v ∷ vs) p b n end l t h =
-    let q = both_true (eqb (place f) n) (tiled (n + width f) end fs) t in
+    let q = and_parts (eqb (place f) n) (tiled (n + width f) end fs) t in
     let e = eqb-true (place f) n q.0 in
     let w = field_wide at f v h.0 in
     let l' : length (p ++ field_bytes f v) ≡ n + width f = rw (length-append p (field_bytes f v), w, l) in

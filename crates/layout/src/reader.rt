@@ -161,7 +161,7 @@ impl<'a> Reader<'a> {
     }
 
     /// The text of a field that holds text, and not an empty one.
-    #[tactic(auto, using(crate::proofs::Parts::part_long, texts::proofs::Padding::both_true))]
+    #[tactic(auto, using(crate::proofs::Parts::part_long, std::proofs::lemmas::Bool::and_parts))]
     pub fn name<const N: usize>(&self, at: usize) -> Name<'a, N>
         requires room { at + N ≤ length self.now.src.now }
         requires good { let field = part at N self.now.src.now in (is_text field && named field) ≡ true }

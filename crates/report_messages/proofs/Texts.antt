@@ -9,7 +9,7 @@ use Rattle.texts.specs.declared.identifiers.ExecutionId.{ExecutionId}
 use Rattle.texts.specs.declared.identifiers.TheConstants.{SEQUENCES}
 use Rattle.texts.specs.declared.text.Text.{Text}
 use Rattle.texts.proofs.Digits.{said-id_of}
-use Rattle.texts.proofs.Kept.{lent_kept}
+use Rattle.texts.proofs.Kept.{fixed_same}
 use Rattle.texts.specs.Says.{says, kept}
 use Rattle.reports.specs.declared.report.ExecutionReport.{ExecutionReport}
 use Rattle.reports.specs.declared.report.CancelReject.{CancelReject}
@@ -70,7 +70,7 @@ execution_back e client symbol order reference quantity leaves display c s o r q
       leaves = leaves;
       display = display;
     })
-    (lent_kept e.client client c)
+    (fixed_same (kept client) e.client c)
     ∙ ap (λ x. record e {
       order = order_in (says order);
       reference = reference_in
@@ -80,7 +80,7 @@ execution_back e client symbol order reference quantity leaves display c s o r q
       leaves = leaves;
       display = display;
     })
-    (lent_kept e.symbol symbol s)
+    (fixed_same (kept symbol) e.symbol s)
     ∙ ap (λ x. record e {
       order = x;
       reference = reference_in
@@ -97,11 +97,11 @@ execution_back e client symbol order reference quantity leaves display c s o r q
 pub reject_back : (r : CancelReject) (client : Text 20) (reason : ℤ) → client.field.now ≡ r.client.bytes → reason
     ≡ r.reason → record r { client = kept client; reason = reason } ≡ r
 reject_back r client reason c n =
-    ap (λ x. record r { client = x; reason = reason }) (lent_kept r.client client c) ∙ ap
+    ap (λ x. record r { client = x; reason = reason }) (fixed_same (kept client) r.client c) ∙ ap
     (λ x. record r { reason = x }) n
 
 pub mass_back : (r : MassCancelReport) (client : Text 20) (reason : ℤ) → client.field.now ≡ r.client.bytes → reason
     ≡ r.reason → record r { client = kept client; reason = reason } ≡ r
 mass_back r client reason c n =
-    ap (λ x. record r { client = x; reason = reason }) (lent_kept r.client client c) ∙ ap
+    ap (λ x. record r { client = x; reason = reason }) (fixed_same (kept client) r.client c) ∙ ap
     (λ x. record r { reason = x }) n

@@ -1,7 +1,8 @@
 -- Digits of base 62. Assumes nothing.
 use Rattle.std.proofs.Common.{◌≡◌, ◌&&◌, ℕ, zero, suc, ◌+◌, ◌-◌, ◌*◌, ◌/◌, ◌%◌, ◌^◌, ◌<◌, ◌≤◌, Bool, true, false, cond, eqb, ltb, List, [], ◌∷◌, ◌++◌, length, get_or, drop, set, Some, None, Option, sym, refl, ap, ◌∙◌, append_assoc, pow-suc, arith, length-append, lt-ltb, eq-eqb}
 use Rattle.std.proofs.lemmas.List.{drop-set}
-use Rattle.texts.proofs.Padding.{both_true, said_all}
+use Rattle.std.proofs.lemmas.List.Folds.{list_all-append}
+use Rattle.texts.proofs.Padding.{said_all}
 use Rattle.std.proofs.lemmas.Nat.{div-add-mod', div_below, mod_below}
 use Rattle.texts.specs.Bytes.{printable, all_printable, said}
 use Rattle.texts.specs.Identifiers.{digit, worth, base62, id_of, after, number_of, Returns}
@@ -50,19 +51,12 @@ length-id_of letter n = ap suc (length-base62 11 n)
 printable-digit : (d : ℕ) → d < 62 → printable (digit d) ≡ true
 printable-digit d h = grind arith
 
-printable-push : (xs : List ℕ) (c : ℕ) → all_printable xs ≡ true → printable c ≡ true → all_printable (xs ++ (c ∷ []))
-    ≡ true
-printable-push [] c h k = rw k
-printable-push (x ∷ xs) c h k = let q = both_true (printable x) (all_printable xs) h in rw q.0
-    (printable-push xs c q.1 k)
-
 printable-base62 : (k n : ℕ) → all_printable (base62 k n) ≡ true
 unfolding base62
 printable-base62 zero n = refl
 printable-base62 (suc k) n =
-    let p : 0 < 62 = omega arith in
-    printable-push (base62 k (n / 62)) (digit (n % 62)) (printable-base62 k (n / 62))
-    (printable-digit (n % 62) (mod_below n 62 p))
+    list_all-append printable (base62 k (n / 62)) (digit (n % 62) ∷ [])
+    ∙ rw (printable-base62 k (n / 62), printable-digit (n % 62) (mod_below n 62 (omega arith)))
 
 pub printable-id_of : (letter n : ℕ) → 65 ≤ letter → letter ≤ 90 → all_printable (id_of letter n) ≡ true
 printable-id_of letter n a b = let q : printable letter ≡ true = grind arith in rw q (printable-base62 11 n)

@@ -1,14 +1,12 @@
 -- What a name says is not empty; texts of the same bytes are the same. Assumes nothing.
-use Rattle.std.proofs.Common.{◌≡◌, ◌<◌, true, List, ℕ, length, arith, ltb-true, sym, ap, ◌∙◌, subst}
+use Rattle.std.proofs.Common.{◌≡◌, ◌<◌, true, List, ℕ, length, arith, ltb-true, ap, ◌∙◌, subst}
 use Rattle.std.proofs.Math.Bool.{Bool-set}
 use Rattle.std.proofs.Math.Nat.{ℕ_set}
 use Rattle.std.specs.List.{prefix_len}
 use Rattle.std.proofs.lemmas.List.{length-take-le}
 use Rattle.std.proofs.lemmas.List.Sums.{prefix_len-le-length}
 use Rattle.texts.specs.Bytes.{is_text, printable, said, named}
-use Rattle.texts.specs.Says.{kept}
 use Rattle.texts.specs.declared.fixed.FixedText.{FixedText}
-use Rattle.texts.specs.declared.text.Text.{Text}
 
 pub named_says : (f : List ℕ) → named f ≡ true → 0 < length (said f)
 unfolding named
@@ -24,10 +22,3 @@ fixed_same {N} x y e =
     let P : List ℕ → Type 0 = λ h. (v : length h ≡ N) (u : is_text h ≡ true) → x ≡ made h v u in
     subst P e (λ v u. ap (λ w. made x.bytes w x.text) (ℕ_set (length x.bytes) N x.wide v) ∙ ap (made x.bytes v)
     (Bool-set (is_text x.bytes) true x.text u)) y.wide y.text
-
-pub kept_same : {N : ℕ} (x : FixedText N) (t : Text N) → x.bytes ≡ t.field.now → x ≡ kept t
-kept_same x t e = fixed_same x (kept t) e
-
--- a text that was lent is kept as it was
-pub lent_kept : {N : ℕ} (x : FixedText N) (t : Text N) → t.field.now ≡ x.bytes → kept t ≡ x
-lent_kept x t e = sym (kept_same x t (sym e))

@@ -1,5 +1,6 @@
 -- Text and its one form in a field, and numbers and their bytes. Assumes nothing.
-use Rattle.std.proofs.Common.{◌≡◌, ◌&&◌, ℕ, zero, suc, ◌+◌, ◌-◌, ◌*◌, ◌/◌, ◌^◌, ◌<◌, ◌≤◌, Bool, true, false, cond, eqb, List, [], ◌∷◌, ◌++◌, length, take, drop, replicate, refl, ap, ◌∙◌, pow-suc, arith, length-append, length-drop, take-append-drop, lt-ltb, eqb-true}
+use Rattle.std.proofs.Common.{◌≡◌, ℕ, zero, suc, ◌+◌, ◌-◌, ◌*◌, ◌/◌, ◌^◌, ◌<◌, ◌≤◌, Bool, true, false, cond, eqb, List, [], ◌∷◌, ◌++◌, length, take, drop, replicate, refl, ap, ◌∙◌, pow-suc, arith, length-append, length-drop, take-append-drop, lt-ltb, eqb-true}
+use Rattle.std.proofs.lemmas.Bool.{and_parts}
 use lib.ListN.{length-replicate}
 use Rattle.std.specs.List.{prefix_len}
 use Rattle.std.proofs.lemmas.List.{take_at, drop_at, length-take-le, drop_all, take_all}
@@ -7,33 +8,17 @@ use Rattle.std.proofs.lemmas.List.Sums.{prefix_len-le-length}
 use Rattle.std.proofs.lemmas.Nat.{div-add-mod', div_below}
 use Rattle.texts.specs.Bytes.{le, to_le, printable, all_printable, all_null, said, is_text, named, padded}
 
-pub both_true : (a b : Bool) → (a && b) ≡ true → (a ≡ true) × (b ≡ true)
-both_true true b e = (refl, e)
-both_true false b e = let z : ◌≡◌ {A = ℕ} 0 1 = cc in absurd (omega arith)
-
 -- the front that is printable
-
-lead-null : (k : ℕ) → prefix_len printable (replicate k 0) ≡ 0
-lead-null zero = refl
-lead-null (suc k) = refl
-
-lead-padded : (t : List ℕ) (k : ℕ) → all_printable t ≡ true → prefix_len printable (t ++ replicate k 0) ≡ length t
-lead-padded [] k h = lead-null k
-lead-padded (b ∷ t) k h =
-    let q = both_true (printable b) (all_printable t) h in rw (q.0, lead-padded t k q.1) (omega arith)
-
-lead-front : (p : Bool) (n m : ℕ) → cond p (1 + n) 0 ≡ suc m → (p ≡ true) × (n ≡ m)
-lead-front true n m e = (refl, omega arith)
-lead-front false n m e = absurd (omega arith)
-
-pub printable-all : (t : List ℕ) → prefix_len printable t ≡ length t → all_printable t ≡ true
-printable-all [] e = refl
-printable-all (b ∷ t) e =
-    let q = lead-front (printable b) (prefix_len printable t) (length t) e in rw q.0 (printable-all t q.1)
 
 pub lead-all : (t : List ℕ) → all_printable t ≡ true → prefix_len printable t ≡ length t
 lead-all [] h = refl
-lead-all (b ∷ t) h = let q = both_true (printable b) (all_printable t) h in rw (q.0, lead-all t q.1) (omega arith)
+lead-all (b ∷ t) h = let q = and_parts (printable b) (all_printable t) h in rw (q.0, lead-all t q.1) (omega arith)
+
+lead-padded : (t : List ℕ) (k : ℕ) → all_printable t ≡ true → prefix_len printable (t ++ replicate k 0) ≡ length t
+lead-padded [] zero h = refl
+lead-padded [] (suc k) h = refl
+lead-padded (b ∷ t) k h =
+    let q = and_parts (printable b) (all_printable t) h in rw (q.0, lead-padded t k q.1) (omega arith)
 
 said-by : (p : Bool) (b : ℕ) (f : List ℕ) → printable b ≡ p → all_printable (said f) ≡ true
     → all_printable (take (cond p (1 + prefix_len printable f) 0) (b ∷ f)) ≡ true
@@ -53,7 +38,7 @@ null-all (suc k) = null-all k
 pub null_is : (xs : List ℕ) → all_null xs ≡ true → xs ≡ replicate (length xs) 0
 null_is [] h = refl
 null_is (x ∷ xs) h =
-    let q = both_true (eqb x 0) (all_null xs) h in rw (eqb-true x 0 q.0) (ap (λ (ys : List ℕ). 0 ∷ ys) (null_is xs q.1))
+    let q = and_parts (eqb x 0) (all_null xs) h in rw (eqb-true x 0 q.0) (ap (λ (ys : List ℕ). 0 ∷ ys) (null_is xs q.1))
 
 -- padding
 

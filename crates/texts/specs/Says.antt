@@ -10,3 +10,7 @@ says t = said t.field.now
 -- the text with its bytes for its own
 abbrev pub kept : {N : ℕ} → Text N → FixedText N
 kept t = record { bytes = t.field.now; wide = t.wide; text = t.text }
+
+-- and a kept text lent, at no place of any message
+abbrev pub lent : {N : ℕ} → FixedText N → Text N
+lent x = record { field = record { ref_ptr = (0, 0); now = x.bytes }; offset = 0; wide = x.wide; text = x.text }

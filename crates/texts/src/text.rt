@@ -44,7 +44,7 @@ impl<'a, const N: usize> Text<'a, N> {
     }
 
     /// The same text, kept.
-    #[tactic(auto, using(crate::proofs::Kept::kept_same))]
+    #[tactic(auto, using(crate::proofs::Kept::fixed_same))]
     pub fn keep(&self) -> FixedText<N>
         ensures { result ≡ kept self.now }
     {

@@ -1,12 +1,13 @@
 -- Any table: what was read is written again as it stood, but for reserved and irrelevant fields. Assumes nothing.
 use Rattle.std.proofs.Common.{◌≡◌, ℕ, zero, suc, ◌+◌, ◌*◌, ◌/◌, ◌%◌, ◌^◌, ◌<◌, ◌≤◌, Bool, true, false, cond, leb, List, [], ◌∷◌, ◌++◌, length, get_or, map, take, drop, replicate, is_some, Some, None, Option, sym, refl, ap, ◌∙◌, pow-suc, arith, length-drop, take-append-drop, w8, w32, w64, Fits, leb-true}
+use Rattle.std.proofs.lemmas.Bool.{and_parts}
 use native.Mathlib.Nat.{le-max_left}
 use Rattle.std.proofs.lemmas.List.{length-take-le, take_all}
 use Rattle.std.proofs.lemmas.Nat.{mod-mul-add, div-mul-add}
 use Rattle.std.proofs.lemmas.Int.{of_z-to_z}
 use Rattle.texts.specs.Bytes.{le, to_le, all_null, said, is_text, named, padded, part}
 use Rattle.texts.specs.Identifiers.{number_of}
-use Rattle.texts.proofs.Padding.{both_true, padded-said, null_is}
+use Rattle.texts.proofs.Padding.{padded-said, null_is}
 use Rattle.layout.specs.declared.field.Form.{Form}
 use Rattle.layout.specs.declared.field.Form.TheVariants.{Text, Name, Order, UInt32, UInt64, Sequence, Int8, Int32, Price, Time, Code, Alpha, Reserved}
 use Rattle.layout.specs.declared.field.Field.{Field}
@@ -87,7 +88,7 @@ halves s l b =
 form_write : (f : Form) (s : List ℕ) → ok_form f s ≡ true → length s ≡ wide f → Bytes s
     → bytes_of f (content f s) ≡ cond (reserved f) (replicate (wide f) 0) s
 form_write (Text w) s h l b = text_write w s h l
-form_write (Name w) s h l b = text_write w s (both_true (is_text s) (named s) h).0 l
+form_write (Name w) s h l b = text_write w s (and_parts (is_text s) (named s) h).0 l
 form_write Order s h l b = order_write s h l
 form_write UInt32 s h l b = wide_as 4 s l b
 form_write UInt64 s h l b = wide_as 8 s l b
@@ -122,6 +123,6 @@ pub write_all : (fs : List Field) (bs : List ℕ) (n : ℕ) → Bytes bs → n �
 unfolding encode blanked
 write_all [] bs n b l t o = refl
 write_all (f ∷ fs) bs n b l t o =
-    let q = both_true (leb (span f) n) (within n fs) t in
+    let q = and_parts (leb (span f) n) (within n fs) t in
     let h : place f + width f ≤ length bs = omega (arith, leb-true (span f) n q.0, ends f) in
     rw (write_one f bs b h o.0, write_all fs bs n b l q.1 o.1)

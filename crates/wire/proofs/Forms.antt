@@ -1,5 +1,6 @@
 -- A field of any form: reading undoes writing, and writing undoes reading. Assumes nothing.
 use Rattle.std.proofs.Common.{◌&&◌, ◌||◌, ◌≡◌, ℕ, ◌^◌, ◌<◌, Bool, true, false, eqb, ltb, List, [], ◌∷◌, ℤ, is_some, Some, None, Option, sym, refl, ap, ◌∙◌, arith, w8, w32, w64, SFits, to_z, of_z, ltb-true, lt-ltb, eqb-true}
+use Rattle.std.proofs.lemmas.Bool.{and_parts}
 use mir.Val.{bits}
 use mir.Facts.{Fits-of_z}
 use mir.Syntax.{Width}
@@ -9,7 +10,7 @@ use Rattle.codes.specs.declared.lists.Codes.TheVariants as list
 use Rattle.codes.specs.Member.{member}
 use Rattle.codes.specs.Lists.{listed}
 use Rattle.texts.specs.Bytes.{le, to_le}
-use Rattle.texts.proofs.Padding.{both_true, said-padded, is_text-padded, named-padded, le-to_le}
+use Rattle.texts.proofs.Padding.{said-padded, is_text-padded, named-padded, le-to_le}
 use Rattle.texts.proofs.Digits.{returns_of}
 use Rattle.layout.specs.declared.field.Form.{Form}
 use Rattle.layout.specs.declared.field.Form.TheVariants.{Text, Name, Order, UInt32, UInt64, Sequence, Int8, Int32, Price, Time, Code, Alpha, Reserved}
@@ -37,7 +38,7 @@ member_by false n v vs e h l k = k h
 member_small : (n : ℕ) (vs : List ℕ) → small vs ≡ true → member n vs ≡ true → n < 256
 member_small n [] s h = let z : ◌≡◌ {A = ℕ} 0 1 = cc in absurd (omega arith)
 member_small n (v ∷ vs) s h =
-    let q = both_true (ltb v 256) (small vs) s in
+    let q = and_parts (ltb v 256) (small vs) s in
     member_by (eqb n v) n v vs refl h (ltb-true v 256 q.0) (member_small n vs q.1)
 
 pub code_small : (cs : Codes) (n : ℕ) → taken n (listed cs) ≡ true → n < 256

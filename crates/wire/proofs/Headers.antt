@@ -1,7 +1,7 @@
 -- The checks of a header: what passes them. Assumes nothing.
 use Rattle.std.proofs.Common.{◌&&◌, ◌||◌, ◌≡◌, ℕ, Bool, true, false, cond, eqb, ltb, List, length, Some, None, Ok, Err, Option, Result, IfOk, sym, refl, ap, ◌∙◌, eqb-true}
+use Rattle.std.proofs.lemmas.Bool.{and_parts}
 use Rattle.texts.specs.Bytes.{le, part}
-use Rattle.texts.proofs.Padding.{both_true}
 use Rattle.layout.specs.declared.fault.Fault.{Fault}
 use Rattle.layout.specs.declared.fault.Fault.TheVariants.{Short, Start, Length}
 use Rattle.wire.specs.declared.kinds.Channel.{Channel}
@@ -23,7 +23,7 @@ sized_by : (bs : List ℕ) (o : Option Kind) (k : Kind) → sized bs o ≡ Ok k 
 sized_by bs None k e = cc
 sized_by bs (Some j) k e =
     let a = kept_on (eqb (stated bs) (total_of j) && eqb (stated bs) (length bs)) (Ok j) Length k e in
-    let c = both_true (eqb (stated bs) (total_of j)) (eqb (stated bs) (length bs)) a.0 in
+    let c = and_parts (eqb (stated bs) (total_of j)) (eqb (stated bs) (length bs)) a.0 in
     let d : j ≡ k = let g = a.1 in cc in
     (ap Some d, eqb-true (stated bs) (total_of j) c.0 ∙ ap total_of d, eqb-true (stated bs) (length bs) c.1)
 

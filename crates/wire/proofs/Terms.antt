@@ -1,23 +1,23 @@
 -- Parts of a message whose fields hang together: two that hold the same in those fields are the same.
 -- Assumes nothing.
-use Rattle.std.proofs.Common.{◌≡◌, ℕ, ℤ, ◌<◌, true, List, length, Some, None, Option, sym, refl, ap, ◌∙◌, subst, arith}
+use Rattle.std.proofs.Common.{◌≡◌, ℕ, ℤ, ◌<◌, true, Some, None, Option, sym, refl, ap, ◌∙◌, subst, arith}
 use Rattle.std.specs.Option.{option_map}
 use Rattle.std.proofs.Math.Bool.{Bool-set}
 use Rattle.std.proofs.Math.Bridge.{le_prop}
-use Rattle.std.proofs.Math.Nat.{ℕ_set}
 use Rattle.codes.specs.contracts.order.BookCode.TheImpl.Laws.{sound-law as book_law}
 use Rattle.codes.specs.contracts.order.ExecInstructionCode.TheImpl.Laws.{sound-law as exec_instruction_law}
 use Rattle.codes.specs.contracts.report.LiquidityCode.TheImpl.Laws.{sound-law as liquidity_law}
 use Rattle.codes.specs.contracts.report.TradeTypeCode.TheImpl.Laws.{sound-law as trade_type_law}
 use Rattle.codes.specs.Order.{book_code, order_type_code, mass_cancel_type_code}
 use Rattle.codes.specs.Report.{exec_type_code}
-use Rattle.texts.specs.Bytes.{padded, is_text, named}
-use Rattle.texts.specs.Says.{says}
+use Rattle.texts.specs.Bytes.{padded, named}
+use Rattle.texts.specs.Says.{kept, lent, says}
 use Rattle.texts.specs.declared.identifiers.OrderId.{OrderId}
 use Rattle.texts.specs.declared.text.Name.{Name}
 use Rattle.texts.specs.declared.text.Text.{Text}
 use Rattle.texts.specs.declared.values.Price.{Price}
 use Rattle.texts.specs.declared.values.Time.{Time}
+use Rattle.texts.proofs.Kept.{fixed_same}
 use Rattle.texts.proofs.Padding.{padded-said}
 use Rattle.layout.specs.declared.sequence.LastSequence.{LastSequence}
 use Rattle.layout.specs.declared.sequence.TheConstants.{SEQUENCE_LIMIT}
@@ -45,23 +45,11 @@ pub int32_same : (a b : ℤ) → int32 a ≡ int32 b → a ≡ b
 int32_same a b e = cc
 
 -- texts that say the same
-abbrev text_of : (N : ℕ) (f : List ℕ) → length f ≡ N → is_text f ≡ true → Text N
-text_of N f w t = record { field = record { ref_ptr = (0, 0); now = f }; offset = 0; wide = w; text = t }
-
-text_of_same : (N : ℕ) (f g : List ℕ) → f ≡ g
-    → (w : length f ≡ N) (t : is_text f ≡ true) (w' : length g ≡ N) (t' : is_text g ≡ true) → text_of N f w t
-    ≡ text_of N g w' t'
-text_of_same N f g e w t w' t' =
-    let P : List ℕ → Type 0 = λ h. (v : length h ≡ N) (u : is_text h ≡ true) → text_of N f w t ≡ text_of N h v u in
-    subst P e (λ v u. ap (λ x. text_of N f x t) (ℕ_set (length f) N w v) ∙ ap (λ x. text_of N f v x)
-    (Bool-set (is_text f) true t u)) w' t'
-
 field_of : {N : ℕ} (t : Text N) → padded N (says t) ≡ t.field.now
 field_of t = ap (λ n. padded n (says t)) (sym t.wide) ∙ padded-said t.field.now t.text
 
 pub text_same : {N : ℕ} (x y : Text N) → says x ≡ says y → plain_text x ≡ plain_text y
-text_same {N} x y e =
-    text_of_same N x.field.now y.field.now (sym (field_of x) ∙ ap (padded N) e ∙ field_of y) x.wide x.text y.wide y.text
+text_same {N} x y e = ap lent (fixed_same (kept x) (kept y) (sym (field_of x) ∙ ap (padded N) e ∙ field_of y))
 
 pub name_same : {N : ℕ} (x y : Name N) → says x.text ≡ says y.text → plain_name x ≡ plain_name y
 name_same {N} x y e =

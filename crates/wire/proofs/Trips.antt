@@ -1,10 +1,11 @@
 -- Any table: what its fields are written as is read again, field by field. Assumes nothing.
 use Rattle.std.proofs.Common.{◌≡◌, ℕ, ◌+◌, Bool, true, false, cond, eqb, List, [], ◌∷◌, ◌++◌, length, None, sym, refl, ap, ◌∙◌, subst, append_assoc, append-nil, arith, length-append, eqb-true}
+use Rattle.std.proofs.lemmas.Bool.{and_parts}
 use Rattle.std.proofs.lemmas.List.{take_at, drop_at}
 use Rattle.std.specs.List.{list_all}
 use Rattle.codes.specs.Lists.{listed}
 use Rattle.texts.specs.Bytes.{le, part}
-use Rattle.texts.proofs.Padding.{both_true, le-to_le}
+use Rattle.texts.proofs.Padding.{le-to_le}
 use Rattle.layout.specs.declared.field.Form.{Form}
 use Rattle.layout.specs.declared.field.Form.TheVariants.{Code}
 use Rattle.layout.specs.declared.field.Field.{Field}
@@ -62,7 +63,7 @@ front : (at : ℕ → ℕ) (f : Field) (v : Content) (fs : List Field) (vs : Lis
     → bs ≡ p ++ ((field_bytes f v ++ encode fs vs) ++ r) → length p ≡ n → tiled n end (f ∷ fs) ≡ true → Holds at f v
     → Front f v fs vs bs p r n end
 front at f v fs vs bs p r n end e l t h =
-    let q = both_true (eqb (place f) n) (tiled (n + width f) end fs) t in
+    let q = and_parts (eqb (place f) n) (tiled (n + width f) end fs) t in
     let a : place f ≡ n = eqb-true (place f) n q.0 in
     let k = field_wide at f v h in
     let e' : bs ≡ p ++ (field_bytes f v ++ (encode fs vs ++ r)) = e ∙ simp append_assoc in
@@ -115,7 +116,7 @@ read_all whole at [] (v ∷ vs) bs p r n end e l t h k s = absurd h
 read_all whole at (f ∷ fs) [] bs p r n end e l t h k s = absurd h
 read_all whole at (f ∷ fs) (v ∷ vs) bs p r n end e l t h k s =
     let w = front at f v fs vs bs p r n end e l t h.0 in
-    let q = both_true (looks whole f) (looked whole fs) s in
+    let q = and_parts (looks whole f) (looked whole fs) s in
     let o = read_one whole at f v bs k q.0 h.0 w.here in
     let j = read_all whole at fs vs bs (p ++ field_bytes f v) r (n + width f) end w.behind w.long w.tiles h.1 k q.1 in
     let x = o.1 in

@@ -1,7 +1,7 @@
 -- An identifier that was read is the one that its number is written as. Assumes nothing.
 use Rattle.std.proofs.Common.{◌≡◌, ◌&&◌, ℕ, zero, suc, ◌+◌, ◌*◌, ◌/◌, ◌%◌, ◌^◌, ◌<◌, ◌≤◌, Bool, true, false, cond, eqb, ltb, List, [], ◌∷◌, length, get_or, drop, Some, None, Option, sym, refl, ap, ◌∙◌, mul-le-mul_right, mul_assoc, mul_comm, add-mul, pow-suc, arith, ltb-true, eqb-true}
+use Rattle.std.proofs.lemmas.Bool.{and_parts}
 use Rattle.std.proofs.lemmas.Nat.{div-add-mod', div_below, mod_below, mod-mul-add, div-mul-add}
-use Rattle.texts.proofs.Padding.{both_true}
 use Rattle.texts.specs.Identifiers.{digit, worth, base62, id_of, after, number_of}
 
 digit-worth : (c : ℕ) → worth c < 62 → digit (worth c) ≡ c
@@ -43,7 +43,7 @@ digits [] a n e = let k : a ≡ n = cc in (0, omega arith, omega arith, refl)
 digits (c ∷ cs) a n e =
     let w = worth c in
     let q = passed (ltb w 62 && ltb (a * 62 + w) (2 ^ 64)) (after (a * 62 + w) cs) n e in
-    let h : w < 62 = ltb-true w 62 (both_true (ltb w 62) (ltb (a * 62 + w) (2 ^ 64)) q.0).0 in
+    let h : w < 62 = ltb-true w 62 (and_parts (ltb w 62) (ltb (a * 62 + w) (2 ^ 64)) q.0).0 in
     let i = digits cs (a * 62 + w) n q.1 in
     let P = 62 ^ length cs in
     let m = i.0 in
@@ -66,5 +66,5 @@ first (x ∷ xs) letter n l g d =
 pub unique : (letter n : ℕ) (bs : List ℕ) → number_of letter bs ≡ Some n → bs ≡ id_of letter n
 unique letter n bs e =
     let q = passed (eqb (length bs) 12 && eqb (get_or bs 0 0) letter) (after 0 (drop 1 bs)) n e in
-    let t = both_true (eqb (length bs) 12) (eqb (get_or bs 0 0) letter) q.0 in
+    let t = and_parts (eqb (length bs) 12) (eqb (get_or bs 0 0) letter) q.0 in
     first bs letter n (eqb-true (length bs) 12 t.0) (eqb-true (get_or bs 0 0) letter t.1) (digits (drop 1 bs) 0 n q.1)

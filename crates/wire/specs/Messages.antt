@@ -8,21 +8,8 @@ use Rattle.layout.specs.Layout.{Content, fault_of, Says, text_places}
 use Rattle.layout.specs.Writing.{header, encode}
 use Rattle.layout.specs.Holding.{HoldsIn}
 use Rattle.layout.specs.declared.framed.Framed.{Ghosts}
-use Rattle.order_messages.specs.contracts.execution_report.ExecutionReportFramed.TheImpl as execution_report
-use Rattle.session_messages.specs.contracts.heartbeat.HeartbeatFramed.TheImpl as heartbeat
-use Rattle.session_messages.specs.contracts.logon.LogonFramed.TheImpl as logon
-use Rattle.session_messages.specs.contracts.logon_reply.LogonReplyFramed.TheImpl as logon_reply
-use Rattle.session_messages.specs.contracts.logout.LogoutFramed.TheImpl as logout
-use Rattle.session_messages.specs.contracts.missed_message_report.MissedMessageReportFramed.TheImpl as missed_message_report
-use Rattle.session_messages.specs.contracts.missed_message_request.MissedMessageRequestFramed.TheImpl as missed_message_request
-use Rattle.session_messages.specs.contracts.missed_message_request_ack.MissedMessageRequestAckFramed.TheImpl as missed_message_request_ack
-use Rattle.order_messages.specs.contracts.new_order.NewOrderFramed.TheImpl as new_order
-use Rattle.order_messages.specs.contracts.order_cancel_reject.OrderCancelRejectFramed.TheImpl as order_cancel_reject
-use Rattle.order_messages.specs.contracts.order_cancel_replace_request.OrderCancelReplaceRequestFramed.TheImpl as order_cancel_replace_request
-use Rattle.order_messages.specs.contracts.order_cancel_request.OrderCancelRequestFramed.TheImpl as order_cancel_request
-use Rattle.order_messages.specs.contracts.order_mass_cancel_report.OrderMassCancelReportFramed.TheImpl as order_mass_cancel_report
-use Rattle.order_messages.specs.contracts.order_mass_cancel_request.OrderMassCancelRequestFramed.TheImpl as order_mass_cancel_request
-use Rattle.session_messages.specs.contracts.reject.RejectFramed.TheImpl as reject
+use Rattle.order_messages.specs.contracts as orders
+use Rattle.session_messages.specs.contracts as session
 use Rattle.wire.specs.declared.kinds.Channel.{Channel}
 use Rattle.wire.specs.declared.kinds.Kind.{Kind}
 use Rattle.wire.specs.declared.kinds.Kind.TheVariants as kind
@@ -44,21 +31,30 @@ framed k g m = record { kind = k; contents = g.contents m; places = g.places m }
 
 -- each as its message's own file says
 abbrev pub whole : Message → Whole
-whole (message.Logon m) = framed kind.Logon logon.ghosts m
-whole (message.LogonReply m) = framed kind.LogonReply logon_reply.ghosts m
-whole (message.Logout m) = framed kind.Logout logout.ghosts m
-whole (message.Heartbeat m) = framed kind.Heartbeat heartbeat.ghosts m
-whole (message.MissedMessageRequest m) = framed kind.MissedMessageRequest missed_message_request.ghosts m
-whole (message.MissedMessageRequestAck m) = framed kind.MissedMessageRequestAck missed_message_request_ack.ghosts m
-whole (message.MissedMessageReport m) = framed kind.MissedMessageReport missed_message_report.ghosts m
-whole (message.Reject m) = framed kind.Reject reject.ghosts m
-whole (message.NewOrder m) = framed kind.NewOrder new_order.ghosts m
-whole (message.OrderCancelRequest m) = framed kind.OrderCancelRequest order_cancel_request.ghosts m
-whole (message.OrderCancelReplaceRequest m) = framed kind.OrderCancelReplaceRequest order_cancel_replace_request.ghosts m
-whole (message.OrderMassCancelRequest m) = framed kind.OrderMassCancelRequest order_mass_cancel_request.ghosts m
-whole (message.ExecutionReport m) = framed kind.ExecutionReport execution_report.ghosts m
-whole (message.OrderCancelReject m) = framed kind.OrderCancelReject order_cancel_reject.ghosts m
-whole (message.OrderMassCancelReport m) = framed kind.OrderMassCancelReport order_mass_cancel_report.ghosts m
+whole (message.Logon m) = framed kind.Logon session.logon.LogonFramed.TheImpl.ghosts m
+whole (message.LogonReply m) = framed kind.LogonReply session.logon_reply.LogonReplyFramed.TheImpl.ghosts m
+whole (message.Logout m) = framed kind.Logout session.logout.LogoutFramed.TheImpl.ghosts m
+whole (message.Heartbeat m) = framed kind.Heartbeat session.heartbeat.HeartbeatFramed.TheImpl.ghosts m
+whole (message.MissedMessageRequest m) =
+    framed kind.MissedMessageRequest session.missed_message_request.MissedMessageRequestFramed.TheImpl.ghosts m
+whole (message.MissedMessageRequestAck m) =
+    framed kind.MissedMessageRequestAck session.missed_message_request_ack.MissedMessageRequestAckFramed.TheImpl.ghosts m
+whole (message.MissedMessageReport m) =
+    framed kind.MissedMessageReport session.missed_message_report.MissedMessageReportFramed.TheImpl.ghosts m
+whole (message.Reject m) = framed kind.Reject session.reject.RejectFramed.TheImpl.ghosts m
+whole (message.NewOrder m) = framed kind.NewOrder orders.new_order.NewOrderFramed.TheImpl.ghosts m
+whole (message.OrderCancelRequest m) =
+    framed kind.OrderCancelRequest orders.order_cancel_request.OrderCancelRequestFramed.TheImpl.ghosts m
+whole (message.OrderCancelReplaceRequest m) =
+    framed kind.OrderCancelReplaceRequest orders.order_cancel_replace_request.OrderCancelReplaceRequestFramed.TheImpl.ghosts m
+whole (message.OrderMassCancelRequest m) =
+    framed kind.OrderMassCancelRequest orders.order_mass_cancel_request.OrderMassCancelRequestFramed.TheImpl.ghosts m
+whole (message.ExecutionReport m) =
+    framed kind.ExecutionReport orders.execution_report.ExecutionReportFramed.TheImpl.ghosts m
+whole (message.OrderCancelReject m) =
+    framed kind.OrderCancelReject orders.order_cancel_reject.OrderCancelRejectFramed.TheImpl.ghosts m
+whole (message.OrderMassCancelReport m) =
+    framed kind.OrderMassCancelReport orders.order_mass_cancel_report.OrderMassCancelReportFramed.TheImpl.ghosts m
 
 abbrev pub kind_of : Message → Kind
 kind_of m = (whole m).kind

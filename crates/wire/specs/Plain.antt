@@ -1,5 +1,6 @@
 -- A message apart from where its texts are: each as it is at no place of any message. Assumes nothing.
 use Rattle.std.specs.Prelude.{ℕ}
+use Rattle.texts.specs.Says.{kept, lent}
 use Rattle.texts.specs.declared.text.Name.{Name}
 use Rattle.texts.specs.declared.text.Text.{Text}
 use Rattle.order_messages.specs.declared.order_mass_cancel_request.Scope.{Scope}
@@ -8,12 +9,7 @@ use Rattle.wire.specs.declared.message.Message.{Message}
 use Rattle.wire.specs.declared.message.Message.TheVariants as message
 
 abbrev pub plain_text : {N : ℕ} → Text N → Text N
-plain_text t = record {
-  field = record { ref_ptr = (0, 0); now = t.field.now };
-  offset = 0;
-  wide = t.wide;
-  text = t.text;
-}
+plain_text t = lent (kept t)
 
 abbrev pub plain_name : {N : ℕ} → Name N → Name N
 plain_name n = record { text = plain_text n.text; given = n.given }
