@@ -3,7 +3,7 @@ use Rattle.std.proofs.Common.{◌≡◌, ℕ, ℤ, ◌≤◌, List, ◌++◌, dr
 use Rattle.codes.specs.Session.{partition_code}
 use Rattle.codes.specs.declared.session.Partition.{Partition}
 use Rattle.codes.specs.declared.session.ReportResponse.{ReportResponse}
-use Rattle.codes.specs.contracts.session.PartitionCode.TheImpl.Laws.{one-law as partition_one}
+use Rattle.codes.specs.contracts.session.PartitionCode.TheImpl.Laws.{sound-law as partition_law}
 use Rattle.limits.specs.declared.TheConstants.{MESSAGE_BYTES}
 use Rattle.layout.specs.Layout.{Content, figure_of, int32_of}
 use Rattle.layout.specs.Layout.Content.{nothing}
@@ -115,7 +115,7 @@ int32_at i e = ap (λ ws. int32_of (slice_index_or ws i nothing)) e
 
 at_place : (q p : Partition) (z : ℤ) (n : ℕ) → partition_code q ≡ partition_code p → z ≡ pos n
     → ◌≡◌ {A = Option (Partition × ℤ)} (Some (q, z)) (Some (p, pos n))
-at_place q p z n a b = let f = partition_one q p a in cc
+at_place q p z n a b = let f = partition_law.one q p a in cc
 
 placed : (p : Partition) (n : ℕ) (r : Report) (m : Message) → report_in m ≡ Some r → contents_of m ≡ told_as p n r
     → place_in m ≡ Some (p, pos n)

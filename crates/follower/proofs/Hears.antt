@@ -33,25 +33,24 @@ use Rattle.follower.specs.Hearing.{heard, heard_from, heard_in, heard_opened, he
 
 -- a value by its byte
 exec_back : (x : ExecType) → value_of exec_type_code exec_types exec.Unspecified (figure (exec_type_code x)) ≡ x
-exec_back x = value_back exec_type_code exec_types exec.Unspecified x (exec_law.every-law x) (λ y. exec_law.one-law y x)
+exec_back x = value_back exec_types exec.Unspecified x exec_law.sound-law refl
 
 status_back : (x : Status) → value_of status_code statuses status.New (figure (status_code x)) ≡ x
-status_back x = value_back status_code statuses status.New x (status_law.every-law x) (λ y. status_law.one-law y x)
+status_back x = value_back statuses status.New x status_law.sound-law refl
 
 pub partition_back : (x : Partition) → value_of partition_code partitions partition.One (figure (partition_code x)) ≡ x
 partition_back x =
-    value_back partition_code partitions partition.One x (partition_law.every-law x) (λ y. partition_law.one-law y x)
+    value_back partitions partition.One x partition_law.sound-law refl
 
 ack_back : (x : AckResponse) → value_of ack_response_code ack_responses ack.ServiceUnavailable
     (figure (ack_response_code x)) ≡ x
 ack_back x =
-    value_back ack_response_code ack_responses ack.ServiceUnavailable x (ack_law.every-law x) (λ y. ack_law.one-law y x)
+    value_back ack_responses ack.ServiceUnavailable x ack_law.sound-law refl
 
 ending_back : (x : ReportResponse) → value_of report_response_code report_responses ending.Complete
     (figure (report_response_code x)) ≡ x
 ending_back x =
-    value_back report_response_code report_responses ending.Complete x (ending_law.every-law x)
-    (λ y. ending_law.one-law y x)
+    value_back report_responses ending.Complete x ending_law.sound-law refl
 
 -- what a message's contents say is what is heard in it
 pub contents_say : (m : Message) → heard_from (kind_of m) (contents_of m) ≡ heard m

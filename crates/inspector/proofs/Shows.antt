@@ -5,8 +5,8 @@ use Rattle.std.proofs.lemmas.Bool.{and_parts}
 use Rattle.std.proofs.lemmas.List.{nil_from_length}
 use Rattle.layout.specs.declared.field.Field.{Field}
 use Rattle.layout.specs.Layout.{Content, Says, form_of, got, span, within}
-use Rattle.inspector.specs.Labels.{spelt, title_of, names_of}
-use Rattle.inspector.specs.Shown.{field_text, fields_text, bytes_text, message_text, shown_text}
+use Rattle.inspector.specs.Labels.{spelt}
+use Rattle.inspector.specs.Shown.{field_text, bytes_text, message_text, shown_text}
 use Rattle.wire.specs.declared.kinds.Kind.{Kind}
 use Rattle.wire.specs.Kinds.{table_of}
 
@@ -43,15 +43,7 @@ pub within_rest : (n : ℕ) (fs left : List Field) (f : Field) → fs ≡ f ∷ 
 within_rest n fs left f e h = (and_parts (nat_le (span f) n) (within n left) (ap (within n) (sym e) ∙ h)).1
 
 -- what the fields hold is what stands in the bytes
-fields_shown : (ns : List (List ℕ)) (fs : List Field) (vs : List Content) (bs : List ℕ) → Says vs fs bs
-    → bytes_text ns fs bs ≡ fields_text ns fs vs
-fields_shown [] fs vs bs h = refl
-fields_shown (n ∷ ns) [] vs bs h = refl
-fields_shown (n ∷ ns) (f ∷ fs) [] bs h = absurd h
-fields_shown (n ∷ ns) (f ∷ fs) (v ∷ vs) bs h =
-    ap (λ c. field_text n (form_of f) c ++ bytes_text ns fs bs) (sym h.0) ∙ ap (λ t. field_text n (form_of f) v ++ t)
-    (fields_shown ns fs vs bs h.1)
-
 pub says_shown : (k : Kind) (vs : List Content) (bs : List ℕ) → Says vs (table_of k) bs → shown_text k bs
     ≡ message_text k vs
-says_shown k vs bs h = ap (λ t. title_of k ++ t) (fields_shown (names_of k) (table_of k) vs bs h)
+unfolding Says
+says_shown k vs bs h = ap (message_text k) (sym h)

@@ -1,5 +1,5 @@
 -- A message as text: its name, and each field that is not reserved under its name. Assumes nothing.
-use Rattle.std.specs.Prelude.{ℕ, suc, ◌+◌, ◌*◌, ◌/◌, ◌%◌, Bool, true, false, if◌then◌else◌, ◌&&◌, List, [], ◌∷◌, ◌++◌, ℤ, pos, negsuc, codes, decimal, Option, ◌==◌, nat_le}
+use Rattle.std.specs.Prelude.{ℕ, suc, ◌+◌, ◌*◌, ◌/◌, ◌%◌, Bool, true, false, if◌then◌else◌, ◌&&◌, List, [], ◌∷◌, map, ◌++◌, ℤ, pos, negsuc, codes, decimal, Option, ◌==◌, nat_le}
 use Rattle.std.specs.Fmt.{digits, signed_decimal}
 use Rattle.std.specs.Option.{option_map_or}
 use Rattle.texts.specs.Identifiers.{order_id_text}
@@ -71,9 +71,7 @@ fields_text (n ∷ ns) (f ∷ fs) (v ∷ vs) = field_text n (form_of f) v ++ fie
 
 -- the same, of fields that are read in a message's bytes
 abbrev pub bytes_text : List (List ℕ) → List Field → List ℕ → List ℕ
-bytes_text [] fs bs = []
-bytes_text (n ∷ ns) [] bs = []
-bytes_text (n ∷ ns) (f ∷ fs) bs = field_text n (form_of f) (got bs f) ++ bytes_text ns fs bs
+bytes_text ns fs bs = fields_text ns fs (map (got bs) fs)
 
 -- a message of a kind, by what its fields hold
 abbrev pub message_text : Kind → List Content → List ℕ

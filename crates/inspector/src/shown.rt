@@ -33,7 +33,7 @@ impl fmt::Display for Quoted<'_> {
     }
 }
 
-#[tactic(auto, using(crate::proofs::Says::printable_said))]
+#[tactic(auto, using(texts::proofs::Padding::said_printable))]
 fn in_quotes(text: &FixedText<12>) -> Quoted<'_>
     ensures { result.text.now ≡ said text.now.bytes }
 {
@@ -175,13 +175,13 @@ impl fmt::Display for Held<'_> {
 }
 
 // What a field says, in double quotes.
-#[tactic(auto, using(crate::proofs::Says::printable_said))]
+#[tactic(auto, using(texts::proofs::Padding::said_printable))]
 fn quote<'a>(r: &Reader<'a>, at: usize, width: usize) -> Quoted<'a>
     requires { at + width ≤ length r.now.src.now }
     ensures { result.text.now ≡ said (part at width r.now.src.now) }
 {
     Quoted {
-        text: r.text(at, width),
+        text: r.said(at, width),
     }
 }
 

@@ -1,13 +1,13 @@
 -- What single fields hold and are written as. Assumes nothing.
-use Rattle.std.proofs.Common.{◌≡◌, ℕ, ◌≤◌, true, List, length, sym, arith}
+use Rattle.std.proofs.Common.{◌≡◌, ℕ, ◌≤◌, List, length, sym, arith}
 use Rattle.std.specs.List.{prefix_len}
 use Rattle.std.proofs.lemmas.List.{length-take-le}
 use Rattle.std.proofs.lemmas.List.Sums.{prefix_len-le-length}
-use Rattle.texts.specs.Bytes.{printable, all_printable, said}
+use Rattle.texts.specs.Bytes.{printable, said}
 use Rattle.texts.specs.Says.{says}
 use Rattle.texts.specs.declared.text.Text.{Text}
 use Rattle.texts.specs.declared.text.Name.{Name}
-use Rattle.texts.proofs.Padding.{printable-said, padded-said}
+use Rattle.texts.proofs.Padding.{padded-said}
 use Rattle.layout.specs.declared.field.Form.TheVariants as form
 use Rattle.layout.specs.declared.field.Field.TheVariants as field
 use Rattle.layout.specs.Layout.Content.{words}
@@ -19,9 +19,6 @@ said_fits f n h =
     let p = prefix_len-le-length printable f in
     let e = length-take-le (prefix_len printable f) f p in
     omega arith
-
-pub printable_said : (f : List ℕ) → all_printable (said f) ≡ true
-printable_said f = printable-said f
 
 pub text_bytes : {N : ℕ} (at : ℕ) (t : Text N) → t.field.now
     ≡ field_bytes (field.Always at (form.Text N)) (words (says t))

@@ -47,7 +47,7 @@ fn all<const N: usize>(field: &[u8]) -> &[u8]
 }
 
 /// A text, as the whole field that it is.
-#[tactic(auto, using(crate::proofs::Fields::text_bytes, crate::proofs::Fields::said_fits, crate::proofs::Fields::printable_said))]
+#[tactic(auto, using(crate::proofs::Fields::text_bytes, crate::proofs::Fields::said_fits, texts::proofs::Padding::said_printable))]
 pub fn put_text<const N: usize>(out: &mut [u8], at: usize, text: &Text<'_, N>)
     requires { at + N ≤ length out.old }
     ensures wrote { out.new ≡ over out.old at (field_bytes (field.Always at (form.Text N)) (words (says text.now))) }
@@ -57,7 +57,7 @@ pub fn put_text<const N: usize>(out: &mut [u8], at: usize, text: &Text<'_, N>)
 }
 
 /// A text that is not empty, as the whole field that it is.
-#[tactic(auto, using(crate::proofs::Fields::name_bytes, crate::proofs::Fields::said_fits, crate::proofs::Fields::printable_said, texts::proofs::Kept::named_says))]
+#[tactic(auto, using(crate::proofs::Fields::name_bytes, crate::proofs::Fields::said_fits, texts::proofs::Padding::said_printable, texts::proofs::Kept::named_says))]
 pub fn put_name<const N: usize>(out: &mut [u8], at: usize, name: &Name<'_, N>)
     requires { at + N ≤ length out.old }
     ensures wrote { out.new ≡ over out.old at

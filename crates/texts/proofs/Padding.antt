@@ -25,9 +25,9 @@ said-by : (p : Bool) (b : ℕ) (f : List ℕ) → printable b ≡ p → all_prin
 said-by true b f e h = let o : 1 + prefix_len printable f ≡ suc (prefix_len printable f) = omega arith in rw (o, e) h
 said-by false b f e h = refl
 
-pub printable-said : (f : List ℕ) → all_printable (said f) ≡ true
-printable-said [] = refl
-printable-said (b ∷ f) = said-by (printable b) b f refl (printable-said f)
+pub said_printable : (f : List ℕ) → all_printable (said f) ≡ true
+said_printable [] = refl
+said_printable (b ∷ f) = said-by (printable b) b f refl (said_printable f)
 
 -- nulls
 

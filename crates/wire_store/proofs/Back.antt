@@ -38,7 +38,7 @@ use Rattle.texts.specs.Says.{says, kept}
 use Rattle.texts.specs.declared.fixed.FixedText.{FixedText}
 use Rattle.texts.specs.declared.text.Text.{Text}
 use Rattle.texts.proofs.Kept.{fixed_same}
-use Rattle.texts.proofs.Padding.{padded-said, printable-said}
+use Rattle.texts.proofs.Padding.{padded-said, said_printable}
 use Rattle.layout.specs.declared.fault.Fault.{Fault}
 use Rattle.layout.specs.declared.fault.Fault.TheVariants as fault
 use Rattle.layout.specs.declared.field.Field.{Field}
@@ -85,7 +85,7 @@ says_fits {N} t =
     let l = length-take-le n f le in
     let w = t.wide in
     cond-true (fitting N (says t)) (says t) []
-    (and_from _ _ (le-leb (length (says t)) N (omega arith)) (printable-said f))
+    (and_from _ _ (le-leb (length (says t)) N (omega arith)) (said_printable f))
 
 text_back : {N : ℕ} (t : Text N) → fitted N (says t) ≡ kept t
 text_back {N} t =
@@ -95,35 +95,32 @@ text_back {N} t =
 
 -- a value by its byte
 side_back : (x : Side) → value_of side_code sides side.Buy (figure (side_code x)) ≡ x
-side_back x = value_back side_code sides side.Buy x (side_law.every-law x) (λ y. side_law.one-law y x)
+side_back x = value_back sides side.Buy x side_law.sound-law refl
 
 book_back : (x : Book) → value_of book_code books book.Integrated (figure (book_code x)) ≡ x
-book_back x = value_back book_code books book.Integrated x (book_law.every-law x) (λ y. book_law.one-law y x)
+book_back x = value_back books book.Integrated x book_law.sound-law refl
 
 status_back : (x : Status) → value_of status_code statuses status.New (figure (status_code x)) ≡ x
-status_back x = value_back status_code statuses status.New x (status_law.every-law x) (λ y. status_law.one-law y x)
+status_back x = value_back statuses status.New x status_law.sound-law refl
 
 liquidity_back : (x : Liquidity) → value_of liquidity_code liquidities liquidity.Unspecified
     (figure (liquidity_code x)) ≡ x
 liquidity_back x =
-    value_back liquidity_code liquidities liquidity.Unspecified x (liquidity_law.every-law x)
-    (λ y. liquidity_law.one-law y x)
+    value_back liquidities liquidity.Unspecified x liquidity_law.sound-law refl
 
 trade_type_back : (x : TradeType) → value_of trade_type_code trade_types trade_type.Visible
     (figure (trade_type_code x)) ≡ x
 trade_type_back x =
-    value_back trade_type_code trade_types trade_type.Visible x (trade_type_law.every-law x)
-    (λ y. trade_type_law.one-law y x)
+    value_back trade_types trade_type.Visible x trade_type_law.sound-law refl
 
 capacity_back : (x : Capacity) → value_of capacity_code capacities capacity.Principal (figure (capacity_code x)) ≡ x
 capacity_back x =
-    value_back capacity_code capacities capacity.Principal x (capacity_law.every-law x) (λ y. capacity_law.one-law y x)
+    value_back capacities capacity.Principal x capacity_law.sound-law refl
 
 mass_response_back : (x : MassResponse) → value_of mass_response_code mass_responses mass_response.Rejected
     (figure (mass_response_code x)) ≡ x
 mass_response_back x =
-    value_back mass_response_code mass_responses mass_response.Rejected x (mass_response_law.every-law x)
-    (λ y. mass_response_law.one-law y x)
+    value_back mass_responses mass_response.Rejected x mass_response_law.sound-law refl
 
 execution_back : (e : Execution) → execution_from (figure (exec_type_code (exec_of e))) (execution_reject e)
     (execution_liquidity e) (execution_trade e) ≡ e
