@@ -9,3 +9,7 @@ pub mod framed;
 pub mod put;
 pub mod reader;
 pub mod sequence;
+
+pub use field::{Field, Form};
+pub use framed::{Framed, Layout, Shape};
+pub use reader::Reader;

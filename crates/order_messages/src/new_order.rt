@@ -15,10 +15,8 @@ use codes::order::{
     AutoCancel, ClearingAccount, OrderCapacity, OrderSubType, OrderType, PassiveOnly, Side,
     TimeInForce,
 };
-use layout::field::{Field, Form};
-use layout::framed::{Framed, Layout, Shape};
 use layout::put::{put_blank, put_code, put_i32, put_name, put_price, put_text, put_u32};
-use layout::reader::Reader;
+use layout::{Field, Form, Framed, Layout, Reader, Shape};
 use terms::pricing::Pricing;
 use terms::target::Target;
 use texts::text::{Name, Text};

@@ -5,10 +5,8 @@ ghost use Rattle.order_messages.specs.declared.order_cancel_reject.TheConstants.
 
 use codes::lists::Codes;
 use codes::session::Partition;
-use layout::field::{Field, Form};
-use layout::framed::{Framed, Layout, Shape};
 use layout::put::{put_blank, put_code, put_i32, put_text, put_time};
-use layout::reader::Reader;
+use layout::{Field, Form, Framed, Layout, Reader, Shape};
 use texts::text::Text;
 use texts::values::Time;
 

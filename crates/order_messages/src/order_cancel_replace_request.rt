@@ -6,12 +6,10 @@ ghost use Rattle.order_messages.specs.declared.order_cancel_replace_request.TheC
 use crate::target::{put_target, target_at};
 use codes::lists::Codes;
 use codes::order::{PassiveOnly, Side, TimeInForce};
-use layout::field::{Field, Form};
-use layout::framed::{Framed, Layout, Shape};
 use layout::put::{
     put_blank, put_code, put_i32, put_name, put_order, put_price, put_text, put_u32,
 };
-use layout::reader::Reader;
+use layout::{Field, Form, Framed, Layout, Reader, Shape};
 use terms::target::Target;
 use texts::identifiers::OrderId;
 use texts::text::{Name, Text};

@@ -5,10 +5,8 @@ ghost use Rattle.order_messages.specs.declared.order_cancel_request.TheConstants
 
 use codes::lists::Codes;
 use codes::order::{Book, Side};
-use layout::field::{Field, Form};
-use layout::framed::{Framed, Layout, Shape};
 use layout::put::{put_blank, put_code, put_name, put_order, put_text};
-use layout::reader::Reader;
+use layout::{Field, Form, Framed, Layout, Reader, Shape};
 use texts::identifiers::OrderId;
 use texts::text::{Name, Text};
 

@@ -5,10 +5,8 @@ ghost use Rattle.order_messages.specs.declared.order_mass_cancel_request.TheCons
 
 use codes::lists::Codes;
 use codes::order::{Book, MassCancelType};
-use layout::field::{Field, Form};
-use layout::framed::{Framed, Layout, Shape};
 use layout::put::{put_blank, put_code, put_name, put_text};
-use layout::reader::Reader;
+use layout::{Field, Form, Framed, Layout, Reader, Shape};
 use texts::text::{Name, Text};
 
 /// Whose orders a mass cancel takes, and of what.

@@ -8,8 +8,8 @@ ghost use Rattle.layout.specs.Writing.{over_all};
 ghost use Rattle.order_messages.specs.Terms.{target_contents, target_fields};
 
 use codes::order::Book;
+use layout::Reader;
 use layout::put::{put_blank, put_code};
-use layout::reader::Reader;
 use terms::target::Target;
 
 pub(crate) fn target_at(r: &Reader<'_>, at: usize) -> Target

@@ -3,9 +3,7 @@ ghost use Rattle.std.specs.Prelude.{refl};
 ghost use Rattle.layout.specs.Shapes.{laid};
 ghost use Rattle.session_messages.specs.declared.heartbeat.TheConstants.{LETTER, TABLE, TOTAL};
 
-use layout::field::Field;
-use layout::framed::{Framed, Layout, Shape};
-use layout::reader::Reader;
+use layout::{Field, Framed, Layout, Reader, Shape};
 
 /// A sign of life.
 #[derive(Clone, Copy, Debug)]

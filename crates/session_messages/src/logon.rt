@@ -5,10 +5,8 @@ ghost use Rattle.session_messages.specs.declared.logon.TheConstants.{LETTER, TAB
 
 use codes::lists::Codes;
 use codes::session::Version;
-use layout::field::{Field, Form};
-use layout::framed::{Framed, Layout, Shape};
 use layout::put::{put_code, put_text};
-use layout::reader::Reader;
+use layout::{Field, Form, Framed, Layout, Reader, Shape};
 use texts::text::Text;
 
 /// Asks for a session.

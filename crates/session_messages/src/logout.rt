@@ -3,10 +3,8 @@ ghost use Rattle.std.specs.Prelude.{refl};
 ghost use Rattle.layout.specs.Shapes.{Shaped, laid};
 ghost use Rattle.session_messages.specs.declared.logout.TheConstants.{LETTER, TABLE, TOTAL};
 
-use layout::field::{Field, Form};
-use layout::framed::{Framed, Layout, Shape};
 use layout::put::put_text;
-use layout::reader::Reader;
+use layout::{Field, Form, Framed, Layout, Reader, Shape};
 use texts::text::Text;
 
 /// Ends a session.

@@ -5,10 +5,8 @@ ghost use Rattle.session_messages.specs.declared.missed_message_report.TheConsta
 
 use codes::lists::Codes;
 use codes::session::ReportResponse;
-use layout::field::{Field, Form};
-use layout::framed::{Framed, Layout, Shape};
 use layout::put::put_code;
-use layout::reader::Reader;
+use layout::{Field, Form, Framed, Layout, Reader, Shape};
 
 /// How a download ended.
 #[derive(Clone, Copy, Debug)]

@@ -3,11 +3,9 @@ ghost use Rattle.std.specs.Prelude.{refl};
 ghost use Rattle.layout.specs.Shapes.{laid};
 ghost use Rattle.session_messages.specs.declared.missed_message_request.TheConstants.{LETTER, TABLE, TOTAL};
 
-use layout::field::{Field, Form};
-use layout::framed::{Framed, Layout, Shape};
 use layout::put::{put_i8, put_sequence};
-use layout::reader::Reader;
 use layout::sequence::LastSequence;
+use layout::{Field, Form, Framed, Layout, Reader, Shape};
 
 /// Asks for a download of the reports behind the last one seen.
 #[derive(Clone, Copy, Debug)]

@@ -5,10 +5,8 @@ ghost use Rattle.session_messages.specs.declared.missed_message_request_ack.TheC
 
 use codes::lists::Codes;
 use codes::session::AckResponse;
-use layout::field::{Field, Form};
-use layout::framed::{Framed, Layout, Shape};
 use layout::put::put_code;
-use layout::reader::Reader;
+use layout::{Field, Form, Framed, Layout, Reader, Shape};
 
 /// Whether a download begins.
 #[derive(Clone, Copy, Debug)]

@@ -3,10 +3,8 @@ ghost use Rattle.std.specs.Prelude.{refl};
 ghost use Rattle.layout.specs.Shapes.{Shaped, laid};
 ghost use Rattle.session_messages.specs.declared.reject.TheConstants.{LETTER, TABLE, TOTAL};
 
-use layout::field::{Field, Form};
-use layout::framed::{Framed, Layout, Shape};
 use layout::put::{put_i32, put_text, put_u8};
-use layout::reader::Reader;
+use layout::{Field, Form, Framed, Layout, Reader, Shape};
 use texts::text::Text;
 
 /// A message that was not taken, by its type and its Client Order ID where they are known.

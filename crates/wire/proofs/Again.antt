@@ -1,8 +1,8 @@
 -- Any table: what was read is written again as it stood, but for reserved and irrelevant fields. Assumes nothing.
-use Rattle.std.proofs.Common.{◌≡◌, ℕ, zero, suc, ◌+◌, ◌*◌, ◌/◌, ◌%◌, ◌^◌, ◌<◌, ◌≤◌, Bool, true, false, cond, leb, List, [], ◌∷◌, ◌++◌, length, get_or, map, take, drop, replicate, is_some, Some, None, Option, sym, refl, ap, ◌∙◌, pow-suc, arith, length-drop, take-append-drop, w8, w32, w64, Fits, leb-true}
+use Rattle.std.proofs.Common.{◌≡◌, ℕ, zero, suc, ◌+◌, ◌*◌, ◌/◌, ◌%◌, ◌^◌, ◌<◌, ◌≤◌, Bool, true, false, cond, leb, List, [], ◌∷◌, ◌++◌, length, get_or, map, take, drop, replicate, is_some, Some, None, Option, sym, refl, ap, ◌∙◌, pow-suc, arith, length-drop, take-append-drop, w8, w32, w64, leb-true}
 use Rattle.std.proofs.lemmas.Bool.{and_parts}
 use native.Mathlib.Nat.{le-max_left}
-use Rattle.std.proofs.lemmas.List.{length-take-le, take_all}
+use Rattle.std.proofs.lemmas.List.{length-take-le, take_all, get_or-drop}
 use Rattle.std.proofs.lemmas.Nat.{mod-mul-add, div-mul-add}
 use Rattle.std.proofs.lemmas.Int.{of_z-to_z}
 use Rattle.texts.specs.Bytes.{le, to_le, all_null, said, is_text, named, padded, part}
@@ -22,34 +22,29 @@ use Rattle.wire.proofs.Unique.{unique}
 
 -- bytes are below 256
 abbrev pub Bytes : List ℕ → Type 0
-Bytes [] = Unit {0}
-Bytes (b ∷ bs) = (b < 256) × Bytes bs
-
-pub bytes_from : (bs : List ℕ) → ((i : ℕ) → Fits w8 (get_or bs i 0)) → Bytes bs
-bytes_from [] h = tt
-bytes_from (b ∷ bs) h = ((h 0).fits, bytes_from bs (λ i. h (suc i)))
+Bytes bs = (i : ℕ) → get_or bs i 0 < 256
 
 bytes_drop : (n : ℕ) (xs : List ℕ) → Bytes xs → Bytes (drop n xs)
-bytes_drop zero xs h = h
-bytes_drop (suc n) [] h = h
-bytes_drop (suc n) (x ∷ xs) h = bytes_drop n xs h.1
+bytes_drop n xs h i = rw (get_or-drop n xs i 0) (h (n + i))
 
-bytes_take : (n : ℕ) (xs : List ℕ) → Bytes xs → Bytes (take n xs)
-bytes_take zero xs h = tt
-bytes_take (suc n) [] h = h
-bytes_take (suc n) (x ∷ xs) h = (h.0, bytes_take n xs h.1)
+pub bytes_take : (n : ℕ) (xs : List ℕ) → Bytes xs → Bytes (take n xs)
+bytes_take zero xs h i = omega arith
+bytes_take (suc n) [] h i = omega arith
+bytes_take (suc n) (x ∷ xs) h zero = h zero
+bytes_take (suc n) (x ∷ xs) h (suc i) = bytes_take n xs (λ j. h (suc j)) i
 
 pub to_le_le : (xs : List ℕ) → Bytes xs → to_le (length xs) (le xs) ≡ xs
 to_le_le [] h = refl
 to_le_le (b ∷ bs) h =
+    let l : b < 256 = h 0 in
     let c : b + 256 * le bs ≡ le bs * 256 + b = omega arith in
-    let m : (b + 256 * le bs) % 256 ≡ b = rw c (mod-mul-add (le bs) 256 b h.0) in
-    let d : (b + 256 * le bs) / 256 ≡ le bs = rw c (div-mul-add (le bs) 256 b h.0) in
-    rw (m, d, to_le_le bs h.1)
+    let m : (b + 256 * le bs) % 256 ≡ b = rw c (mod-mul-add (le bs) 256 b l) in
+    let d : (b + 256 * le bs) / 256 ≡ le bs = rw c (div-mul-add (le bs) 256 b l) in
+    rw (m, d, to_le_le bs (λ i. h (suc i)))
 
 le_below : (xs : List ℕ) → Bytes xs → le xs < 256 ^ length xs
 le_below [] h = omega arith
-le_below (b ∷ bs) h = rw pow-suc (omega (arith, le_below bs h.1, h.0))
+le_below (b ∷ bs) h = rw pow-suc (omega (arith, le_below bs (λ i. h (suc i)), h 0))
 
 wide_as : (w : ℕ) (s : List ℕ) → length s ≡ w → Bytes s → to_le w (le s) ≡ s
 wide_as w s l b = ap (λ k. to_le k (le s)) (sym l) ∙ to_le_le s b

@@ -1,5 +1,5 @@
 -- Writing undoes reading. Assumes nothing.
-use Rattle.std.proofs.Common.{Err, Fits, IfOk, List, None, Ok, Option, Result, Some, [], ap, arith, get_or, leb-true, length, take, w8, ℕ, ◌*◌, ◌++◌, ◌+◌, ◌-◌, ◌∙◌, ◌∷◌, ◌≡◌, ◌≤◌}
+use Rattle.std.proofs.Common.{Err, Fits, IfOk, List, None, Ok, Option, Result, Some, [], ap, arith, get_or, leb-true, length, take, w8, suc, ℕ, ◌*◌, ◌++◌, ◌+◌, ◌-◌, ◌∙◌, ◌∷◌, ◌≡◌, ◌≤◌}
 use Rattle.layout.proofs.Tables.{all_ok}
 use Rattle.layout.specs.Layout.{first_bad, Says}
 use Rattle.layout.specs.Writing.{encode, header}
@@ -7,7 +7,7 @@ use Rattle.layout.specs.declared.fault.Fault.TheVariants as fault
 use Rattle.layout.specs.declared.fault.Fault.{Fault}
 use Rattle.std.specs.Option.{option_map}
 use Rattle.texts.specs.Bytes.{le, to_le, part}
-use Rattle.wire.proofs.Again.{Bytes, to_le_le, bytes_from, write_all}
+use Rattle.wire.proofs.Again.{Bytes, to_le_le, bytes_take, write_all}
 use Rattle.wire.proofs.Headers.{opened_by}
 use Rattle.wire.proofs.Sound.{sound}
 use Rattle.wire.specs.Kinds.{letter_of, total_of, table_of}
@@ -25,7 +25,7 @@ four letter total (b₀ ∷ b₁ ∷ []) h b s t l = absurd (omega arith)
 four letter total (b₀ ∷ b₁ ∷ b₂ ∷ []) h b s t l = absurd (omega arith)
 four letter total (b₀ ∷ b₁ ∷ b₂ ∷ b₃ ∷ bs) h b s t l =
     let n : total - 3 ≡ b₁ + 256 * (b₂ + 256 * 0) = omega (arith, t) in
-    let q : to_le 2 (total - 3) ≡ b₁ ∷ b₂ ∷ [] = ap (to_le 2) n ∙ to_le_le (b₁ ∷ b₂ ∷ []) (b.1.0, (b.1.1.0, tt)) in
+    let q : to_le 2 (total - 3) ≡ b₁ ∷ b₂ ∷ [] = ap (to_le 2) n ∙ to_le_le (b₁ ∷ b₂ ∷ []) (bytes_take 2 (b₁ ∷ b₂ ∷ b₃ ∷ bs) (λ i. b (suc i))) in
     let z : b₀ ≡ 2 = omega (arith, s) in
     let w : letter ≡ b₃ = omega (arith, l) in
     ap (λ x. 2 ∷ x ++ (letter ∷ [])) q ∙ rw (z, w)
@@ -45,7 +45,7 @@ written_again : (ch : Channel) (bs : List ℕ) (m : Message) → ((i : ℕ) → 
     → Again bs m
 unfolding Says
 written_again ch bs m t r =
-    let b = bytes_from bs t in
+    let b : Bytes bs = λ i. (t i).fits in
     let k = kind_of m in
     let g = no_fault (first_bad (table_of k) bs) (rw r.opens at r.passes) in
     let f = front ch k bs b r.opens in

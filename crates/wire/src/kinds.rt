@@ -4,8 +4,7 @@ ghost use Rattle.limits.specs.declared.TheConstants.{MESSAGE_BYTES};
 ghost use Rattle.layout.specs.Shapes.{Shaped};
 ghost use Rattle.wire.specs.Kinds.{kinds_of, layout_of, letter_of, total_of, table_of, takes};
 
-use layout::field::Field;
-use layout::framed::{Layout, Shape};
+use layout::{Field, Layout, Shape};
 use order_messages::execution_report::ExecutionReport;
 use order_messages::new_order::NewOrder;
 use order_messages::order_cancel_reject::OrderCancelReject;
