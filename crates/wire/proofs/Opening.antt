@@ -1,6 +1,6 @@
 -- The header of a message that is written passes the checks. Assumes nothing.
-use Rattle.std.proofs.Common.{◌≡◌, ℕ, ◌+◌, ◌-◌, ◌*◌, ◌<◌, ◌≤◌, true, eqb, ltb, List, ◌++◌, length, Some, Ok, sym, refl, ◌∙◌, arith, eq-eqb, ltb-true}
-use Rattle.std.proofs.lemmas.Bool.{false_from_ne_true}
+use Rattle.std.proofs.Common.{◌≡◌, ℕ, ◌+◌, ◌-◌, ◌*◌, ◌<◌, ◌≤◌, true, eqb, List, ◌++◌, length, Some, Ok, sym, refl, ◌∙◌, arith, eq-eqb, ltb-true}
+use Rattle.std.proofs.lemmas.Bool.{le-ltb}
 use Rattle.texts.specs.Bytes.{le, to_le, part}
 use Rattle.texts.proofs.Padding.{le-to_le}
 use Rattle.layout.specs.Writing.{header}
@@ -14,9 +14,8 @@ passes : (ch : Channel) (k : Kind) (bs : List ℕ) → 4 ≤ length bs → state
     → le (part 0 1 bs) ≡ 2 → takes ch (le (part 3 1 bs)) ≡ Some k → opening ch bs ≡ Ok k
 unfolding opening
 passes ch k bs h s l z t =
-    let a = false_from_ne_true (ltb (length bs) 4) (λ x. (let y = ltb-true (length bs) 4 x in omega arith)) in
-    let b = false_from_ne_true (ltb (length bs) (stated bs))
-    (λ x. (let y = ltb-true (length bs) (stated bs) x in omega arith)) in
+    let a = le-ltb (length bs) 4 h in
+    let b = le-ltb (length bs) (stated bs) (omega arith) in
     let e : eqb (stated bs) (total_of k) ≡ true = eq-eqb (stated bs) (total_of k) s in
     let f : eqb (stated bs) (length bs) ≡ true = eq-eqb (stated bs) (length bs) (s ∙ sym l) in
     let g : eqb (le (part 0 1 bs)) 2 ≡ true = eq-eqb (le (part 0 1 bs)) 2 z in

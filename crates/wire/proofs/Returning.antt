@@ -43,12 +43,9 @@ given_back m h ch d =
           same b m k (says_alike m b (written m) k r.says a.2),
     )
 
-letters_same : (m n : Message) → written n ≡ written m → letter_of (kind_of n) ≡ letter_of (kind_of m)
-letters_same m n e = cc
-
 pub apart : (m : Message) → Holdable m → Apart m
 apart m h n g e =
-    let k = kinds_same (kind_of n) (kind_of m) (letters_same m n e) in
+    let k = kinds_same (kind_of n) (kind_of m) (cc) in
     let s = sound (kind_of m) in
     let D : Kind → Type 0 = λ j. takes (reader_of (kind_of m)) (letter_of j) ≡ Some j in
     let a = read_again (reader_of (kind_of m)) m h s.taken in
