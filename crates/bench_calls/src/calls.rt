@@ -7,13 +7,12 @@ use call::venue_side::{Done as VenueDone, Reply};
 use gateway::fault::GatewayFault;
 use gateway::gateway::Gateway;
 use matching::matcher::Matcher;
-use session_messages::reject::TOTAL;
 use std::alloc::AllocError;
 use std::io;
 use store::Store;
 use texts::values::Time;
 use venue::step::Step;
-use wire::kinds::Channel;
+use wire::kinds::{Channel, Kind};
 use wire::message::BUFFER;
 
 fn refused<R: Print>(rt: &R, state: &mut State, fault: GatewayFault) -> io::Result<()> {
@@ -64,7 +63,7 @@ pub fn hear<R: Print + AllocGlobal, M: Matcher, S: Store>(
         Err(fault) => match fault.offset() {
             Some(offset) => {
                 let carried = Carried::Reject(fault.number(), offset);
-                let message = front(&reply.buffer, usize::from(TOTAL));
+                let message = front(&reply.buffer, Kind::Reject.total());
                 state.under_way.carry(rt.alloc(), channel, line, message)?;
                 state.tell_message(rt, carried, message)
             }

@@ -53,14 +53,11 @@ pub struct ExecutionReport<'a> {
     pub price_differential: PriceDifferential,
 }
 
-/// The byte that names the type.
-pub const LETTER: u8 = b'8';
+const LETTER: u8 = b'8';
 
-/// How many bytes it has in all.
-pub const TOTAL: u16 = 145;
+const TOTAL: u16 = 145;
 
-/// Its fields, one behind the other.
-pub const TABLE: [Field; 26] = [
+const TABLE: [Field; 26] = [
     Field::Always(4, Form::Code(Codes::Partitions)),
     Field::Always(5, Form::Int32),
     Field::Always(9, Form::Text(12)),

@@ -49,14 +49,11 @@ pub struct NewOrder<'a> {
     pub passive_only: PassiveOnly,
 }
 
-/// The byte that names the type.
-pub const LETTER: u8 = b'D';
+const LETTER: u8 = b'D';
 
-/// How many bytes it has in all.
-pub const TOTAL: u16 = 97;
+const TOTAL: u16 = 97;
 
-/// Its fields, one behind the other.
-pub const TABLE: [Field; 21] = [
+const TABLE: [Field; 21] = [
     Field::Always(4, Form::Name(20)),
     Field::Always(24, Form::Text(11)),
     Field::Always(35, Form::Text(10)),

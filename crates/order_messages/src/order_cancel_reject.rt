@@ -22,14 +22,11 @@ pub struct OrderCancelReject<'a> {
     pub transact_time: Time,
 }
 
-/// The byte that names the type.
-pub const LETTER: u8 = b'9';
+const LETTER: u8 = b'9';
 
-/// How many bytes it has in all.
-pub const TOTAL: u16 = 63;
+const TOTAL: u16 = 63;
 
-/// Its fields, one behind the other.
-pub const TABLE: [Field; 7] = [
+const TABLE: [Field; 7] = [
     Field::Always(4, Form::Code(Codes::Partitions)),
     Field::Always(5, Form::Int32),
     Field::Always(9, Form::Text(20)),

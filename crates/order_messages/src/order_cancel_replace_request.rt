@@ -41,14 +41,11 @@ pub struct OrderCancelReplaceRequest<'a> {
     pub passive_only: PassiveOnly,
 }
 
-/// The byte that names the type.
-pub const LETTER: u8 = b'G';
+const LETTER: u8 = b'G';
 
-/// How many bytes it has in all.
-pub const TOTAL: u16 = 112;
+const TOTAL: u16 = 112;
 
-/// Its fields, one behind the other.
-pub const TABLE: [Field; 17] = [
+const TABLE: [Field; 17] = [
     Field::Always(4, Form::Name(20)),
     Field::Always(24, Form::Text(20)),
     Field::Always(44, Form::Order),

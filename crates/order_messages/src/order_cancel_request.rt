@@ -23,14 +23,11 @@ pub struct OrderCancelRequest<'a> {
     pub book: Book,
 }
 
-/// The byte that names the type.
-pub const LETTER: u8 = b'F';
+const LETTER: u8 = b'F';
 
-/// How many bytes it has in all.
-pub const TOTAL: u16 = 73;
+const TOTAL: u16 = 73;
 
-/// Its fields, one behind the other.
-pub const TABLE: [Field; 7] = [
+const TABLE: [Field; 7] = [
     Field::Always(4, Form::Name(20)),
     Field::Always(24, Form::Text(20)),
     Field::Always(44, Form::Order),

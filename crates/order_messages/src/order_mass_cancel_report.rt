@@ -23,14 +23,11 @@ pub struct OrderMassCancelReport<'a> {
     pub transact_time: Time,
 }
 
-/// The byte that names the type.
-pub const LETTER: u8 = b'r';
+const LETTER: u8 = b'r';
 
-/// How many bytes it has in all.
-pub const TOTAL: u16 = 56;
+const TOTAL: u16 = 56;
 
-/// Its fields, one behind the other.
-pub const TABLE: [Field; 8] = [
+const TABLE: [Field; 8] = [
     Field::Always(4, Form::Code(Codes::Partitions)),
     Field::Always(5, Form::Int32),
     Field::Always(9, Form::Text(20)),

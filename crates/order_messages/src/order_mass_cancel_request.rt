@@ -34,14 +34,11 @@ pub struct OrderMassCancelRequest<'a> {
     pub scope: Scope<'a>,
 }
 
-/// The byte that names the type.
-pub const LETTER: u8 = b'q';
+const LETTER: u8 = b'q';
 
-/// How many bytes it has in all.
-pub const TOTAL: u16 = 46;
+const TOTAL: u16 = 46;
 
-/// Its fields, one behind the other.
-pub const TABLE: [Field; 7] = [
+const TABLE: [Field; 7] = [
     Field::Always(4, Form::Name(20)),
     Field::Always(24, Form::Code(Codes::MassCancelTypes)),
     Field::When(25, Form::Text(6), 24, Codes::ByInstrument),

@@ -9,14 +9,11 @@ use layout::{Field, Framed, Layout, Reader, Shape};
 #[derive(Clone, Copy, Debug)]
 pub struct Heartbeat;
 
-/// The byte that names the type.
-pub const LETTER: u8 = b'0';
+const LETTER: u8 = b'0';
 
-/// How many bytes it has in all.
-pub const TOTAL: u16 = 4;
+const TOTAL: u16 = 4;
 
-/// Its fields, one behind the other.
-pub const TABLE: [Field; 0] = [];
+const TABLE: [Field; 0] = [];
 
 impl Layout for Heartbeat {
     ghost shape = { laid LETTER TOTAL TABLE };

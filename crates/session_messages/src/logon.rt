@@ -18,14 +18,11 @@ pub struct Logon<'a> {
     pub version: Version,
 }
 
-/// The byte that names the type.
-pub const LETTER: u8 = b'A';
+const LETTER: u8 = b'A';
 
-/// How many bytes it has in all.
-pub const TOTAL: u16 = 80;
+const TOTAL: u16 = 80;
 
-/// Its fields, one behind the other.
-pub const TABLE: [Field; 4] = [
+const TABLE: [Field; 4] = [
     Field::Always(4, Form::Text(25)),
     Field::Always(29, Form::Text(25)),
     Field::Always(54, Form::Text(25)),

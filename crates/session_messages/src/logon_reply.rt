@@ -16,14 +16,11 @@ pub struct LogonReply<'a> {
     pub expiry_days: Text<'a, 30>,
 }
 
-/// The byte that names the type.
-pub const LETTER: u8 = b'B';
+const LETTER: u8 = b'B';
 
-/// How many bytes it has in all.
-pub const TOTAL: u16 = 38;
+const TOTAL: u16 = 38;
 
-/// Its fields, one behind the other.
-pub const TABLE: [Field; 2] = [
+const TABLE: [Field; 2] = [
     Field::Always(4, Form::Int32),
     Field::Always(8, Form::Text(30)),
 ];

@@ -13,14 +13,11 @@ pub struct Logout<'a> {
     pub reason: Text<'a, 20>,
 }
 
-/// The byte that names the type.
-pub const LETTER: u8 = b'5';
+const LETTER: u8 = b'5';
 
-/// How many bytes it has in all.
-pub const TOTAL: u16 = 24;
+const TOTAL: u16 = 24;
 
-/// Its fields, one behind the other.
-pub const TABLE: [Field; 1] = [Field::Always(4, Form::Text(20))];
+const TABLE: [Field; 1] = [Field::Always(4, Form::Text(20))];
 
 impl Layout for Logout<'_> {
     ghost shape = { laid LETTER TOTAL TABLE };

@@ -14,14 +14,11 @@ pub struct MissedMessageReport {
     pub response: ReportResponse,
 }
 
-/// The byte that names the type.
-pub const LETTER: u8 = b'P';
+const LETTER: u8 = b'P';
 
-/// How many bytes it has in all.
-pub const TOTAL: u16 = 5;
+const TOTAL: u16 = 5;
 
-/// Its fields, one behind the other.
-pub const TABLE: [Field; 1] = [Field::Always(4, Form::Code(Codes::ReportResponses))];
+const TABLE: [Field; 1] = [Field::Always(4, Form::Code(Codes::ReportResponses))];
 
 impl Layout for MissedMessageReport {
     ghost shape = { laid LETTER TOTAL TABLE };

@@ -16,14 +16,11 @@ pub struct MissedMessageRequest {
     pub last: LastSequence,
 }
 
-/// The byte that names the type.
-pub const LETTER: u8 = b'M';
+const LETTER: u8 = b'M';
 
-/// How many bytes it has in all.
-pub const TOTAL: u16 = 9;
+const TOTAL: u16 = 9;
 
-/// Its fields, one behind the other.
-pub const TABLE: [Field; 2] = [
+const TABLE: [Field; 2] = [
     Field::Always(4, Form::Int8),
     Field::Always(5, Form::Sequence),
 ];

@@ -14,14 +14,11 @@ pub struct MissedMessageRequestAck {
     pub response: AckResponse,
 }
 
-/// The byte that names the type.
-pub const LETTER: u8 = b'N';
+const LETTER: u8 = b'N';
 
-/// How many bytes it has in all.
-pub const TOTAL: u16 = 5;
+const TOTAL: u16 = 5;
 
-/// Its fields, one behind the other.
-pub const TABLE: [Field; 1] = [Field::Always(4, Form::Code(Codes::AckResponses))];
+const TABLE: [Field; 1] = [Field::Always(4, Form::Code(Codes::AckResponses))];
 
 impl Layout for MissedMessageRequestAck {
     ghost shape = { laid LETTER TOTAL TABLE };

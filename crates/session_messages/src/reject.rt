@@ -18,14 +18,11 @@ pub struct Reject<'a> {
     pub client_order_id: Text<'a, 20>,
 }
 
-/// The byte that names the type.
-pub const LETTER: u8 = b'3';
+const LETTER: u8 = b'3';
 
-/// How many bytes it has in all.
-pub const TOTAL: u16 = 59;
+const TOTAL: u16 = 59;
 
-/// Its fields, one behind the other.
-pub const TABLE: [Field; 4] = [
+const TABLE: [Field; 4] = [
     Field::Always(4, Form::Int32),
     Field::Always(8, Form::Text(30)),
     Field::Always(38, Form::Alpha),
