@@ -81,13 +81,6 @@ pub trait Framed<'a>: Layout {
         ensures holds { HoldsIn Self.shape.table (contents self.now) };
 }
 
-/// How the messages of a type are laid out.
-pub fn shape_of<M: Layout>() -> Shape
-    ensures { Shaped M.shape result }
-{
-    M::shape()
-}
-
 /// Reads a message, or says which field is the first bad one.
 pub fn read<'a, M: Framed<'a>>(r: &Reader<'a>) -> Result<M, Fault>
     requires { length r.now.src.now ≡ M.shape.total }
