@@ -26,7 +26,7 @@ impl Lane {
     }
 
     /// One more message is under way, behind the others.
-    #[tactic(auto, using(crate::proofs::Lanes::one_more))]
+    #[tactic(auto, using(std::proofs::lemmas::List::map_push))]
     pub fn send(&mut self, heap: Global, message: &[u8]) -> Result<(), AllocError>
         ensures ok { OnOk result (texts self.new.messages.items ≡ texts self.old.messages.items ++ message.now ∷ []) }
         ensures came { self.new.came ≡ self.old.came }

@@ -2,9 +2,9 @@
 use Rattle.std.specs.Prelude.{slice_index_or, drop, fold, replicate, nat_lt, IfOk}
 use Rattle.std.specs.List.{list_any}
 use Rattle.std.specs.Str.{bytes_eq}
-use Rattle.std.proofs.Common.{◌≡◌, ◌≢◌, ◌⊎◌, inl, inr, ℕ, zero, suc, ◌<◌, ◌≤◌, max, Bool, true, false, cond, eqb, ◌||◌, List, [], ◌∷◌, ◌++◌, Some, None, Ok, Err, Option, Result, length, take, refl, sym, ap, ◌∙◌, subst, arith}
+use Rattle.std.proofs.Common.{◌≡◌, ◌≢◌, ◌⊎◌, inl, inr, ℕ, zero, suc, ◌<◌, ◌≤◌, max, Bool, true, false, cond, eqb, List, [], ◌∷◌, ◌++◌, Some, None, Ok, Err, Option, Result, length, take, refl, sym, ap, ◌∙◌, subst, arith}
 use Rattle.std.proofs.Math.Seq.{take-append_seam}
-use Rattle.std.proofs.lemmas.Bool.{eqb-true, eq-eqb}
+use Rattle.std.proofs.lemmas.Bool.{eqb-true, eq-eqb, or_from}
 use Rattle.codes.specs.declared.session.Partition.{Partition}
 use Rattle.codes.specs.declared.session.Partition.TheVariants.{One, Two, Three}
 use Rattle.configuration.specs.declared.participant.Participant.{Participant}
@@ -463,10 +463,6 @@ took_one p n x xs (suc k, y, l, e, h) = inr (k, y, omega arith, e, h)
 took_none : (p : Partition) (n : ℕ) → Took p n [] → ⊥
 took_none p n (k, y, l, e, h) = omega arith
 
-both_false : (a b : Bool) → a ≡ false → b ≡ false → (a || b) ≡ false
-both_false false b h g = g
-both_false true b h g = absurd cc
-
 pub log_keeps : (c : ℕ) (xs : List Done) (s : State) (d : Desk) (x : Line) (t : Taking) (w : State) (e : Desk)
     (l : Line) → Keeps c s d x t → Runs s d xs w e → after_log c xs x ≡ Ok l → (list_any refuses_report xs ≡ false)
     × Keeps c w e l (λ p n. t p n ⊎ Took p n xs)
@@ -481,7 +477,7 @@ log_keeps c (z ∷ xs) s d x t w e l k (u, f, does, tells, sound, few, tied, res
     let (y, h, g) = went_on c (after_call c z x) xs l ok in
     let (fits, kept) = call_keeps c s d x t z u f y k does tells sound few h in
     let (all, keeps) = log_keeps c xs u f y (λ p n. t p n ⊎ Takes p n z) w e l kept rest g in (
-      both_false (refuses_report z) (list_any refuses_report xs) fits all,
+      or_from (refuses_report z) (list_any refuses_report xs) fits all,
       keeps_taken c w e l (λ p n. (t p n ⊎ Takes p n z) ⊎ Took p n xs) (λ p n. t p n ⊎ Took p n (z ∷ xs))
           e.token (λ p n i. either p n i) keeps,
     )

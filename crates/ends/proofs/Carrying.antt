@@ -1,5 +1,6 @@
 -- What is under way to a follower, and what it holds. Assumes nothing.
 use Rattle.std.proofs.Common.{◌≡◌, ◌⊎◌, inl, inr, ℕ, ◌<◌, ◌≤◌, true, List, [], ◌∷◌, ◌++◌, Some, None, Ok, Option, length, pos, refl, sym, ap, ◌∙◌, subst, arith}
+use Rattle.std.proofs.lemmas.Option.{none-some}
 use Rattle.std.proofs.lemmas.Bool.{cases_lt}
 use Rattle.codes.specs.declared.session.Partition.{Partition}
 use Rattle.codes.specs.declared.session.ReportResponse.{ReportResponse}
@@ -261,9 +262,6 @@ loads_cut c l p b o from [] h = inl refl
 loads_cut c l p b o from (m ∷ ms) (inl (r, h, e, z, v)) = inl (r, h, e, refl, v)
 loads_cut c l p b o from (m ∷ ms) (inr (n, h, x, q)) = inr (n, h, x, loads_cut c l p b o n ms q)
 
-some_none : {X A : Type 0} (a : A) → Some a ≡ None → X
-some_none a e = cc
-
 same_some : {A : Type 0} (a b : A) → Some a ≡ Some b → a ≡ b
 same_some a b e = cc
 
@@ -276,7 +274,7 @@ pub record Further (d d' : Download) (n : ℕ) : Type 0 where
 pub loads_more : (c : ℕ) (l : List Entry) (p : Partition) (b : ℕ) (d d' : Download) (from : ℕ) (ms : List (List ℕ))
     (n : ℕ) (m : List ℕ) → Further d d' n → Next c l d.last n → Brings c l p n m → Loads c l p b (Some d) from ms
     → Loads c l p b (Some d') from (ms ++ m ∷ [])
-loads_more c l p b d d' from [] n m f x h (inl e) = some_none d e
+loads_more c l p b d d' from [] n m f x h (inl e) = absurd (none-some d (sym e))
 loads_more c l p b d d' from [] n m f x h (inr (d'', e, r)) =
     let same = same_some d d'' e in
     let was : d.last ≡ from = ap (λ (u : Download). u.last) same ∙ r.last in
@@ -295,7 +293,7 @@ loads_more c l p b d d' from [] n m f x h (inr (d'', e, r)) =
         },
       ),
     )
-loads_more c l p b d d' from (y ∷ ms) n m f x h (inl (r, g, e, z, v)) = some_none d z
+loads_more c l p b d d' from (y ∷ ms) n m f x h (inl (r, g, e, z, v)) = absurd (none-some d (sym z))
 loads_more c l p b d d' from (y ∷ ms) n m f x h (inr (i, g, t, q)) =
     inr (i, g, t, loads_more c l p b d d' i ms n m f x h q)
 
@@ -303,7 +301,7 @@ loads_more c l p b d d' from (y ∷ ms) n m f x h (inr (i, g, t, q)) =
 pub loads_end : (c : ℕ) (l : List Entry) (p : Partition) (b : ℕ) (d : Download) (from : ℕ) (ms : List (List ℕ))
     (r : ReportResponse) (m : List ℕ) → (r ≡ ending.Complete → Passed c l d.last d.target) → heard_in m ≡ Ok (End r)
     → Loads c l p b (Some d) from ms → Loads c l p b None from (ms ++ m ∷ [])
-loads_end c l p b d from [] r m f h (inl e) = some_none d e
+loads_end c l p b d from [] r m f h (inl e) = absurd (none-some d (sym e))
 loads_end c l p b d from [] r m f h (inr (d'', e, g)) =
     let same = same_some d d'' e in
     let was : d.last ≡ from = ap (λ (u : Download). u.last) same ∙ g.last in
@@ -322,5 +320,5 @@ loads_end c l p b d from [] r m f h (inr (d'', e, g)) =
     over ending.Complete k t q w = (d''.target, q, w, k refl)
     over ending.MessageLimit k t q w = tt
     over ending.ServiceUnavailable k t q w = tt
-loads_end c l p b d from (y ∷ ms) r m f h (inl (r', g, e, z, v)) = some_none d z
+loads_end c l p b d from (y ∷ ms) r m f h (inl (r', g, e, z, v)) = absurd (none-some d (sym z))
 loads_end c l p b d from (y ∷ ms) r m f h (inr (i, g, t, q)) = inr (i, g, t, loads_end c l p b d i ms r m f h q)

@@ -5,7 +5,7 @@ use Rattle.std.specs.Cmp.{nat_cmp_total}
 use Rattle.std.specs.FinMap.{FinMap, get, insert, remove, len, contains_key, get-empty, len-empty, len-insert, len-remove}
 use Rattle.std.specs.List.{fold as fold_each, slice_get}
 use Rattle.std.specs.Ordering.{nat_cmp}
-use Rattle.std.proofs.lemmas.Bool.{cond-true, cond-false, cases_eq, eq-eqb, lt-ltb}
+use Rattle.std.proofs.lemmas.Bool.{cond-true, cond-false, cases_eq, eq-eqb, lt-ltb, false≢true}
 use Rattle.std.proofs.lemmas.List.{take-append-le}
 use Rattle.std.specs.Result.{result_unwrap_or}
 use Rattle.changes.specs.Laws.{standing_of}
@@ -40,9 +40,6 @@ use Rattle.venue.specs.Ledger.{Recorded, all_told, standing, standing_in, told_o
 
 -- ---- cases that cannot be
 
-never : {A : Type 0} → ◌≡◌ {A = Bool} false true → A
-never e = absurd (cc)
-
 refused : {A : Type 0} (x : FoldRefusal) (k : Knowledge) → ◌≡◌ {A = Result Knowledge FoldRefusal} (Err x) (Ok k) → A
 refused x k e = absurd (cc)
 
@@ -57,7 +54,7 @@ at_same p q h = by_case (same_or_apart p q)
   where
     by_case : (p ≡ q) ⊎ (same_partition p q ≡ false) → p ≡ q
     by_case (inl e) = e
-    by_case (inr a) = never (sym a ∙ h)
+    by_case (inr a) = absurd (false≢true (sym a ∙ h))
 
 at_apart : (p q : Partition) → p ≢ q → same_partition p q ≡ false
 at_apart p q ne = by_case (same_or_apart p q)
@@ -104,7 +101,7 @@ module _ {V : Type 0} where
       (counted N (remove m (suc N)) (λ n k. within n (cases_eq n (suc N)) k))
     where
       within : (n : ℕ) → (n ≡ suc N) ⊎ (n ≡ suc N → ⊥) → is_some (get (remove m (suc N)) n) ≡ true → (0 < n) × (n ≤ N)
-      within n (inl e) k = never (sym (ap is_some (ap (get (remove m (suc N))) e ∙ put-here m (suc N) None)) ∙ k)
+      within n (inl e) k = absurd (false≢true (sym (ap is_some (ap (get (remove m (suc N))) e ∙ put-here m (suc N) None)) ∙ k))
       within n (inr ne) k =
           let r = h n (ap is_some (sym (put-apart m (suc N) None n ne)) ∙ k) in
           let lt = r.0 in
@@ -131,8 +128,8 @@ module _ {V : Type 0} where
 
   -- only the numbers from 1 up to a list's length stand in it
   under_inside : (xs : List V) (n : ℕ) → is_some (under xs n) ≡ true → (0 < n) × (n ≤ length xs)
-  under_inside xs zero h = never h
-  under_inside [] (suc n) h = never h
+  under_inside xs zero h = absurd (false≢true h)
+  under_inside [] (suc n) h = absurd (false≢true h)
   under_inside (x ∷ xs) (suc zero) h = (omega arith, omega arith)
   under_inside (x ∷ xs) (suc (suc n)) h =
       let r = under_inside xs (suc n) h in
@@ -432,7 +429,7 @@ module _ (p : Partition) (k t : Knowledge) (w : (n : ℕ) → there p (get k n) 
 -- a row is told of in one partition
 one_place : (is : List Instrument) (c : ℕ) (p q : Partition) (r : Option Row) → is_some (standing is c p r) ≡ true
     → is_some (standing is c q r) ≡ true → p ≡ q
-one_place is c p q None h g = never h
+one_place is c p q None h g = absurd (false≢true h)
 one_place is c p q (Some r) h g = by_instrument (slice_get is r.terms.instrument) h g
   where
     located : (i : Instrument) (u : Partition) → is_some (standing_in c u r (Some i)) ≡ true → i.partition ≡ u
@@ -442,11 +439,11 @@ one_place is c p q (Some r) h g = by_instrument (slice_get is r.terms.instrument
         by_test : (a b : Bool) (s : Standing) → is_some (cond (a && b) (Some s) None) ≡ true → b ≡ true
         by_test true true s x = refl
         by_test true false s x = x
-        by_test false b s x = never x
+        by_test false b s x = absurd (false≢true x)
 
     by_instrument : (i : Option Instrument) → is_some (standing_in c p r i) ≡ true → is_some (standing_in c q r i)
         ≡ true → p ≡ q
-    by_instrument None a b = never a
+    by_instrument None a b = absurd (false≢true a)
     by_instrument (Some i) a b = sym (located i p a) ∙ located i q b
 
 module _ (is : List Instrument) (rows : List Row) (kept : Kept) (c : ℕ) (s : Recorded is rows kept) where
@@ -476,7 +473,7 @@ module _ (is : List Instrument) (rows : List Row) (kept : Kept) (c : ℕ) (s : R
     known_inside n h = by_get (get k n) refl h
       where
         by_get : (o : Option Standing) → get k n ≡ o → is_some o ≡ true → (0 < n) × (n ≤ length rows)
-        by_get None e x = never x
+        by_get None e x = absurd (false≢true x)
         by_get (Some x) e y = under_inside rows n (row_there x.partition n (standing_told n x e))
 
     -- an order that is known in the partition's tally up to any place fits
@@ -494,7 +491,7 @@ module _ (is : List Instrument) (rows : List Row) (kept : Kept) (c : ℕ) (s : R
             (one_place is c x.partition p (under rows n) (standing_told n x e) told_here))
 
         any : (o : Option Standing) → is_some o ≡ true → Standing
-        any None e = never e
+        any None e = absurd (false≢true e)
         any (Some x) e = x
 
         room : get k n ≡ None → len k < ORDERS

@@ -1,6 +1,6 @@
 -- The numbers of an owner's reports: which comes next, what was passed, and what grows. Assumes nothing.
-use Rattle.std.proofs.Common.{◌≡◌, ◌⊎◌, inl, inr, ℕ, zero, suc, ◌<◌, ◌≤◌, Bool, true, false, List, [], ◌∷◌, ◌++◌, Some, None, Option, length, refl, sym, ap, ◌∙◌, subst, arith}
-use Rattle.std.proofs.lemmas.Bool.{cases_lt, eqb-true}
+use Rattle.std.proofs.Common.{◌≡◌, ◌⊎◌, inl, inr, ℕ, zero, suc, ◌<◌, ◌≤◌, true, false, List, [], ◌∷◌, ◌++◌, Some, None, Option, length, refl, sym, ap, ◌∙◌, subst, arith}
+use Rattle.std.proofs.lemmas.Bool.{cases_lt, eqb-true, true≢false}
 use Rattle.keyed.specs.Numbers.{under}
 use Rattle.reports.specs.declared.report.Entry.{Entry}
 use Rattle.reports.specs.Tally.{is_of}
@@ -55,13 +55,10 @@ longer l l' (more, e) = subst (λ (xs : List Entry). length l ≤ length xs) (sy
     by [] = omega arith
     by (x ∷ xs) = let h = by xs in omega (arith, h)
 
-clash : {X : Type 0} (b : Bool) → b ≡ true → b ≡ false → X
-clash b t f = cc
-
 -- an owner's number is not among those that were passed
 pub not_passed : {X : Type 0} (c : ℕ) (l : List Entry) (a z n : ℕ) → Passed c l a z → is_of c (under l n) ≡ true
     → a < n → n ≤ z → X
-not_passed c l a z n h t lt le = clash (is_of c (under l n)) t (h n lt le)
+not_passed c l a z n h t lt le = absurd (true≢false (sym t ∙ h n lt le))
 
 pub passed_on : (c : ℕ) (l : List Entry) (a b z : ℕ) → Passed c l a b → Passed c l b z → Passed c l a z
 passed_on c l a b z h g = λ j lt le. by j lt le (cases_lt b j)

@@ -5,15 +5,16 @@ use Rattle.report_messages.specs.Telling.{report_bytes}
 use Rattle.answers.specs.Told.{ReportTold}
 use Rattle.answers.specs.declared.answer.Answer.TheVariants as answer
 use Rattle.answers.specs.declared.answer.Rejection.{Rejection}
+use Rattle.codes.specs.contracts.session.AckResponseCode.TheImpl.Laws.{sound-law as ack_law}
+use Rattle.codes.specs.contracts.session.ReportResponseCode.TheImpl.Laws.{sound-law as ending_law}
 use Rattle.codes.specs.declared.session.AckResponse.{AckResponse}
-use Rattle.codes.specs.declared.session.AckResponse.TheVariants as ack
 use Rattle.codes.specs.declared.session.Partition.{Partition}
 use Rattle.codes.specs.declared.session.ReportResponse.{ReportResponse}
-use Rattle.codes.specs.declared.session.ReportResponse.TheVariants as ending
 use Rattle.follower.proofs.Written.{written_heard, reports_heard}
 use Rattle.follower.specs.Hearing.{heard_in, heard_from, heard_unless, heard_opened}
 use Rattle.follower.specs.declared.heard.Heard.{Heard}
 use Rattle.follower.specs.declared.heard.Heard.TheVariants as heard
+use Rattle.layout.specs.Holding.{HoldsIn}
 use Rattle.layout.specs.Layout.{Content, got, fault_of, taken}
 use Rattle.layout.specs.Writing.{header}
 use Rattle.layout.specs.declared.fault.Fault.{Fault}
@@ -41,20 +42,15 @@ report_heard p n r t =
 -- ---- the end of a download, and the answer to a request for one
 
 end_held : (r : ReportResponse) → Holdable (message.MissedMessageReport (record { response = r }))
-unfolding taken
-end_held ending.Complete = ((refl, refl), tt)
-end_held ending.MessageLimit = ((refl, refl), tt)
-end_held ending.ServiceUnavailable = ((refl, refl), tt)
+unfolding taken HoldsIn
+end_held r = (ending_law.every r, tt)
 
 pub end_heard : (r : ReportResponse) → heard_in (end_bytes r) ≡ Ok (heard.End r)
 end_heard r = written_heard (message.MissedMessageReport (record { response = r })) refl (end_held r)
 
 ack_held : (r : AckResponse) → Holdable (message.MissedMessageRequestAck (record { response = r }))
-unfolding taken
-ack_held ack.Successful = ((refl, refl), tt)
-ack_held ack.LimitReached = ((refl, refl), tt)
-ack_held ack.InvalidAppId = ((refl, refl), tt)
-ack_held ack.ServiceUnavailable = ((refl, refl), tt)
+unfolding taken HoldsIn
+ack_held r = (ack_law.every r, tt)
 
 pub ack_heard : (r : AckResponse) → heard_in (answer_bytes (answer.Ack r)) ≡ Ok (heard.Ack r)
 ack_heard r = written_heard (message.MissedMessageRequestAck (record { response = r })) refl (ack_held r)

@@ -1,7 +1,8 @@
 -- When a partition is level, and when behind. Assumes nothing.
 use Rattle.std.specs.Prelude.{nat_le, nat_lt}
 use Rattle.std.specs.List.{list_any}
-use Rattle.std.proofs.Common.{◌≡◌, ℕ, Bool, true, false, cond, ◌||◌, List, [], ◌∷◌, length, Ok, Err, Result, refl, sym, ap, ◌∙◌, subst}
+use Rattle.std.proofs.Common.{◌≡◌, ℕ, Bool, true, false, cond, List, [], ◌∷◌, length, Ok, Err, Result, refl, sym, ap, ◌∙◌, subst}
+use Rattle.std.proofs.lemmas.Bool.{or_parts}
 use Rattle.codes.specs.declared.session.AckResponse.{AckResponse}
 use Rattle.codes.specs.declared.session.AckResponse.TheVariants.{Successful, LimitReached, InvalidAppId, ServiceUnavailable}
 use Rattle.codes.specs.declared.session.Partition.{Partition}
@@ -197,15 +198,11 @@ one_behind s d (done.Ask n r) w e p (m, a, c, k) g l =
     (ap (λ (x : PerPartition Side). (at x p).state)
     (asked_sides d.follower d.token blank (asking d.follower d.token n (length blank))) ∙ l)
 
-both_false : (a b : Bool) → (a || b) ≡ false → (a ≡ false) × (b ≡ false)
-both_false true b h = absurd (let z : true ≡ false = h in cc)
-both_false false b h = (refl, h)
-
 all_behind : (s : State) (d : Desk) (xs : List Done) (w : State) (e : Desk) (p : Partition) → Runs s d xs w e
     → list_any gives xs ≡ false → state_of d p ≡ Behind → state_of e p ≡ Behind
 all_behind s d [] w e p (a, b) g l = ap (λ (y : Desk). state_of y p) b ∙ l
 all_behind s d (x ∷ xs) w e p (u, f, m, h, k, n, t, r) g l =
-    let (here, later) = both_false (gives x) (list_any gives xs) g in
+    let (here, later) = or_parts (gives x) (list_any gives xs) g in
     all_behind u f xs w e p r later (one_behind s d x u f p m here l)
 
 fresh_behind : (p : Partition) → state_of fresh p ≡ Behind

@@ -1,7 +1,7 @@
 -- What a report that came makes of both ends. Assumes nothing.
 use Rattle.std.specs.List.{fold as fold_each}
-use Rattle.std.proofs.Common.{◌≡◌, ◌≢◌, ◌⊎◌, inl, inr, ℕ, ◌<◌, ◌≤◌, max, Bool, true, false, cond, leb, List, [], ◌∷◌, ◌++◌, Some, Ok, Result, length, refl, sym, ap, ◌∙◌, subst, arith}
-use Rattle.std.proofs.lemmas.Bool.{leb-true, le-leb}
+use Rattle.std.proofs.Common.{◌≡◌, ◌≢◌, ◌⊎◌, inl, inr, ℕ, ◌<◌, ◌≤◌, max, true, cond, List, [], ◌∷◌, ◌++◌, Some, Ok, Result, length, refl, sym, ap, ◌∙◌, subst, arith}
+use Rattle.std.proofs.lemmas.Bool.{le-leb, lt-leb}
 use Rattle.codes.specs.declared.session.Partition.{Partition}
 use Rattle.codes.specs.declared.session.Partition.TheVariants.{One, Two, Three}
 use Rattle.codes.specs.Session.{same_partition}
@@ -46,13 +46,6 @@ to_place f p n = record (at f.sides p) { place = n }
 -- after a report was folded
 abbrev pub after_fold : Following → Partition → ℕ → Knowledge → Following
 after_fold f p n k = record f { standings = k; sides = with_at f.sides p (to_place f p n) }
-
-not_at_or_below : (n k : ℕ) → k < n → leb n k ≡ false
-not_at_or_below n k lt = by (leb n k) refl
-  where
-    by : (b : Bool) → leb n k ≡ b → leb n k ≡ false
-    by true e = let le : n ≤ k = leb-true n k e in absurd (omega (arith, le, lt))
-    by false e = e
 
 module _ (c : ℕ) (v : View) (sound : Sound v) (few : length v.rows ≤ ORDERS) where
   -- the owner's next report of a partition is folded, and the place moves to it
@@ -313,7 +306,7 @@ module _ (c : ℕ) (v : View) (sound : Sound v) (few : length v.rows ≤ ORDERS)
       → k < n → fold p (told_of e.report) w ≡ Ok w' → caught_one p (reached w k) g ≡ Ok (reached w' n)
   folded_next w k p g n e w' i lt q =
       ap (caught_one p (reached w k)) i ∙ ap (λ b. cond b (Ok (reached w k)) (moved n (fold p (told_of e.report) w)))
-      (not_at_or_below n k lt) ∙ ap (moved n) q
+      (lt-leb n k lt) ∙ ap (moved n) q
 
   pub reaches : (w : Knowledge) (pl : Partition → ℕ) (p : Partition) (hs : List Held) (y : ℕ) → Tallied c v.kept w pl
       → (pl p ≡ 0) ⊎ (is_of c (under (at v.kept p) (pl p)) ≡ true) → Holding c (at v.kept p) (pl p) hs y

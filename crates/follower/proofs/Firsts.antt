@@ -3,8 +3,7 @@ use Rattle.std.specs.Prelude.{IfSome}
 use Rattle.std.proofs.Common.{◌≡◌, ℕ, zero, suc, ◌+◌, ◌<◌, ◌≤◌, ◌⊎◌, inl, inr, Bool, true, false, cond, List, [], ◌∷◌, length, nat_le, nat_lt, Some, None, Option, refl, sym, ap, ◌∙◌, subst, arith}
 use Rattle.std.specs.List.{slice_get}
 use Rattle.std.specs.FinMap.{get}
-use Rattle.std.proofs.lemmas.Bool.{leb-true, ltb-true, ltb-false, ne_eqb}
-use Rattle.std.proofs.lemmas.Bool.Decides.{nat_tests}
+use Rattle.std.proofs.lemmas.Bool.{leb-true, ltb-true, ltb-false, ne_eqb, leb-false}
 use Rattle.std.proofs.Math.Nat.{eq-or-lt_of_le}
 use Rattle.std.proofs.lemmas.Option.{slice_get_within}
 use Rattle.keyed.specs.Look.{look}
@@ -27,9 +26,6 @@ pub record Seen (from : ℕ) (ks : List Known) (i : ℕ) (b : Option Known) : Ty
 pub begins : (from : ℕ) (ks : List Known) → Seen from ks 0 None
 begins from ks = record { past = λ j k lt e. absurd (let no : ⊥ = omega arith in no); stands = tt }
 
-le_false : (a b : ℕ) → nat_le a b ≡ false → b < a
-le_false a b e = grind (arith, nat_tests)
-
 -- what an order more makes of the best so far
 record Bettered (from : ℕ) (ks : List Known) (b : Option Known) (k : Known) (c : Option Known) : Type 0 where
   keeps : (n : ℕ) → Past from b n → Past from c n
@@ -44,7 +40,7 @@ by_first : (from : ℕ) (ks : List Known) (k : Known) (t : Bool) → nat_le from
 by_first from ks k true e g =
     let le = leb-true from k.number e in
     record { keeps = λ n p q. omega arith; itself = λ q. omega arith; stands = (le, g) }
-by_first from ks k false e g = record { keeps = λ n p. p; itself = le_false from k.number e; stands = tt }
+by_first from ks k false e g = record { keeps = λ n p. p; itself = leb-false from k.number e; stands = tt }
 
 by_lower : (from : ℕ) (ks : List Known) (b k : Known) (t : Bool) → nat_lt k.number b.number ≡ t → from ≤ k.number
     → Stands from ks (Some b) → get (known ks) k.number ≡ Some k.standing

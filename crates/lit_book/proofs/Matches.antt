@@ -1,6 +1,7 @@
 -- Two orders that trade: both are open, they differ, and they are of one instrument. Assumes nothing.
 use Rattle.std.specs.Prelude.{◌≡◌, ℕ, zero, suc, ◌-◌, ◌<◌, ◌≤◌, true, false, List, [], ◌∷◌, length, get_or, take, drop, is_some, Some, None, Option, refl}
 use Rattle.std.proofs.Common.{eqb, ltb, sym, ap, ◌∙◌, subst, arith}
+use Rattle.std.proofs.lemmas.Option.{none-some}
 use Rattle.std.proofs.lemmas.List.{get_or-take, length-take-le}
 use Rattle.std.proofs.lemmas.Bool.{and_parts, cond_both, cond-false, eqb-false, eqb-true, ne_eqb}
 use Rattle.std.specs.FinMap.{get}
@@ -23,9 +24,6 @@ use Rattle.lit_book.proofs.Bests.{best_some}
 use Rattle.lit_book.proofs.Changes.{at, rest_absent}
 use Rattle.lit_book.proofs.Tables.{head_is, held, lists}
 
-some_none : {X : Type 0} (x : X) → ◌≡◌ {A = Option X} None (Some x) → ⊥
-some_none x e = let z : ◌≡◌ {A = ℕ} 0 1 = cc in omega arith
-
 -- numbers are apart, so every order is found under its number
 found_in : (xs : List Order) (i : ℕ) (o : Order) → Distinct order_number order_held xs → i < length xs → o
     ≡ get_or xs i o → FoundOrder xs o.number (Some i)
@@ -34,7 +32,7 @@ found_in (x ∷ xs) zero o u lt read = (lt, refl, λ d. ap order_number (sym rea
 found_in (x ∷ xs) (suc i) o u lt read =
     let f = found_in xs i o u.1 (omega arith) read in
     let held = look_at order_number order_held xs i o.number o f.0 f.1 f.2 in
-    let ne : eqb x.number o.number ≡ false = ne_eqb _ _ (λ q. some_none _ (sym u.0 ∙ ap (at xs) q ∙ held)) in
+    let ne : eqb x.number o.number ≡ false = ne_eqb _ _ (λ q. none-some _ (sym u.0 ∙ ap (at xs) q ∙ held)) in
     (lt, look_past order_number order_held x (take i xs) o.number ne ∙ f.1, f.2)
 
 pub own_place : (xs : List Order) (i : ℕ) (o : Order) → all_apart xs ≡ true → i < length xs → o ≡ get_or xs i o
@@ -44,8 +42,8 @@ own_place xs i o u lt read = found_in xs i o (distinct_from order_number order_h
 -- the first of the waiting, by its place
 oldest_at : (xs : List Order) (k : ℕ) (a : Order) → slice_get (drop k xs) 0 ≡ Some a → (k < length xs)
     × (a ≡ get_or xs k a)
-oldest_at [] zero a e = absurd (some_none a e)
-oldest_at [] (suc k) a e = absurd (some_none a e)
+oldest_at [] zero a e = absurd (none-some a e)
+oldest_at [] (suc k) a e = absurd (none-some a e)
 oldest_at (x ∷ xs) zero a e = (omega arith, cc)
 oldest_at (x ∷ xs) (suc k) a e = let h = oldest_at xs k a e in (let l = h.0 in omega arith, h.1)
 

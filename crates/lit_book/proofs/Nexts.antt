@@ -1,6 +1,7 @@
 -- What comes next, by the oldest waiting order. Assumes nothing.
-use Rattle.std.specs.Prelude.{◌≡◌, ℕ, true, false, List, [], ◌∷◌, ◌++◌, drop, Some, None, Option, refl}
-use Rattle.std.proofs.Common.{sym, ap, ◌∙◌, arith}
+use Rattle.std.specs.Prelude.{◌≡◌, true, false, List, [], ◌∷◌, ◌++◌, drop, Some, None, Option, refl}
+use Rattle.std.proofs.Common.{sym, ap, ◌∙◌}
+use Rattle.std.proofs.lemmas.Option.{none-some}
 use Rattle.std.proofs.lemmas.Bool.{cond-true, cond-false}
 use Rattle.std.specs.List.{slice_get}
 use Rattle.matching.specs.declared.event.Event.{Event}
@@ -10,15 +11,12 @@ use Rattle.lit_book.specs.Orders.{rests}
 use Rattle.lit_book.specs.Lists.{best}
 use Rattle.lit_book.specs.Rules.{Lit, altered, next, next_of, outcome, trade_of, traded}
 
-clash : {X : Type 0} (x : X) → ◌≡◌ {A = Option X} None (Some x) → ⊥
-clash x e = let z : ◌≡◌ {A = ℕ} 0 1 = cc in omega arith
-
 pub next_idle : (b : Lit) → slice_get b.waiting 0 ≡ None → next b ≡ (Nothing, b)
 next_idle b e = go b.resting b.waiting e
   where
     go : (rs ws : List Order) → slice_get ws 0 ≡ None → next_of rs ws ≡ (Nothing, record { resting = rs; waiting = ws })
     go rs [] e = refl
-    go rs (w ∷ ws) e = absurd (clash w (sym e))
+    go rs (w ∷ ws) e = absurd (none-some w (sym e))
 
 unrolled : (b : Lit) (a : Order) → slice_get b.waiting 0 ≡ Some a → next b
     ≡ outcome b a (best a b.resting) (next_of (b.resting ++ a ∷ []) (drop 1 b.waiting))
@@ -26,7 +24,7 @@ unrolled b a e = go b.resting b.waiting e
   where
     go : (rs ws : List Order) → slice_get ws 0 ≡ Some a → next_of rs ws
         ≡ outcome (record { resting = rs; waiting = ws }) a (best a rs) (next_of (rs ++ a ∷ []) (drop 1 ws))
-    go rs [] e = absurd (clash a e)
+    go rs [] e = absurd (none-some a e)
     go rs (w ∷ ws) e =
         let s : w ≡ a = cc in
         ap (λ (x : Order). outcome (record { resting = rs; waiting = w ∷ ws }) x (best x rs)
@@ -46,7 +44,7 @@ next_expire b a e f r =
 
 pub none_waits : (ws : List Order) → slice_get ws 0 ≡ None → ws ≡ []
 none_waits [] e = refl
-none_waits (w ∷ ws) e = absurd (clash w (sym e))
+none_waits (w ∷ ws) e = absurd (none-some w (sym e))
 
 pub idle_event : (rs ws : List Order) → slice_get ws 0 ≡ None → (next_of rs ws).0 ≡ Nothing
 idle_event rs ws e = ap (λ (x : Event × Lit). x.0) (next_idle (record { resting = rs; waiting = ws }) e)

@@ -1,8 +1,8 @@
 -- A byte that is found is an owner that is found. Assumes nothing.
 use Rattle.std.specs.Prelude.{position}
-use Rattle.std.proofs.Common.{◌≡◌, ◌≢◌, ℕ, ◌+◌, ◌<◌, ◌⊎◌, Bool, true, false, cond, not, eqb, ltb, List, [], ◌∷◌, map, drop, length, Some, None, Option, inl, inr, refl, sym, ap, ◌∙◌, arith}
+use Rattle.std.proofs.Common.{◌≡◌, ◌≢◌, ℕ, ◌+◌, ◌<◌, ◌⊎◌, cond, not, eqb, ltb, List, [], ◌∷◌, map, drop, length, Some, None, Option, inl, inr, refl, sym, ap, ◌∙◌, arith}
 use Rattle.std.specs.List.{position_or_len}
-use Rattle.std.proofs.lemmas.Bool.{eq-eqb, ne_eqb, cases_eq, cond-true, cond-false, lt-ltb, le-ltb}
+use Rattle.std.proofs.lemmas.Bool.{eq-eqb, ne_eqb, cases_eq, cond-true, cond-false, lt-ltb, le-ltb, false_from_ne_true}
 use Rattle.std.proofs.lemmas.List.{drop-map, length-map}
 use Rattle.std.proofs.lemmas.List.Sums.{position_or_len_is}
 use Rattle.memchr.specs.Find.{IsFirstByte, is_byte}
@@ -39,19 +39,15 @@ module _ {X : Type 0} (owner : X → ℕ) where
       e ∙ ap (λ t. position (λ m. eqb m o) (drop above t)) same ∙ ap (position (λ m. eqb m o))
       (drop-map (λ x. mark (owner x)) above xs) ∙ in_marks (drop above xs) o lt
 
-untrue : (b : Bool) → (b ≡ true → ⊥) → b ≡ false
-untrue true h = absurd (h refl)
-untrue false h = refl
-
 -- the first byte that is a given one
 pub first_is_position : (o : ℕ) (hay : List ℕ) (r : Option ℕ) → IsFirstByte (is_byte o) hay r → r
     ≡ position (λ m. eqb m o) hay
 first_is_position o hay None h =
     let p = position_or_len_is (λ m. eqb m o) hay (length hay) 0 (omega arith)
-    (λ k lt. untrue _ (h k (omega arith) lt)) (λ lt. absurd (let no : ⊥ = omega arith in no)) in
+    (λ k lt. false_from_ne_true _ (h k (omega arith) lt)) (λ lt. absurd (let no : ⊥ = omega arith in no)) in
     sym (cond-false _ _ _ (le-ltb (position_or_len (λ m. eqb m o) hay) (length hay) (omega arith)))
 first_is_position o hay (Some k) h =
     let first = h.0 in
     let p = position_or_len_is (λ m. eqb m o) hay k 0 (omega (arith, first.high))
-    (λ j lt. untrue _ (first.before j (omega arith) lt)) (λ lt. h.1) in
+    (λ j lt. false_from_ne_true _ (first.before j (omega arith) lt)) (λ lt. h.1) in
     sym (ap (λ n. cond (ltb n (length hay)) (Some n) None) p ∙ cond-true _ _ _ (lt-ltb k (length hay) first.high))

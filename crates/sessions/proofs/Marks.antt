@@ -1,6 +1,6 @@
 -- That marks may move past reports of others. Assumes nothing.
-use Rattle.std.proofs.Common.{◌≡◌, ℕ, ◌<◌, ◌≤◌, max, Bool, true, false, List, [], ◌∷◌, ◌++◌, length, Some, None, Option, sym, refl, ap, ◌∙◌, subst, arith, inl, inr, ◌⊎◌, append_assoc}
-use Rattle.std.proofs.lemmas.Bool.{cases_order, cases_lt}
+use Rattle.std.proofs.Common.{◌≡◌, ℕ, ◌<◌, ◌≤◌, max, false, List, [], ◌∷◌, ◌++◌, length, Some, None, Option, sym, refl, ap, ◌∙◌, subst, arith, inl, inr, ◌⊎◌, append_assoc}
+use Rattle.std.proofs.lemmas.Bool.{cases_order, cases_lt, true≢false}
 use Rattle.std.proofs.lemmas.List.{append-nil}
 use Rattle.std.specs.Option.{is_some, unwrap_or, option_or, option_map}
 use Rattle.std.specs.Prelude.{if◌then◌else◌}
@@ -17,20 +17,17 @@ use Rattle.store.proofs.Nexts.{next-lowest}
 use Rattle.store.specs.Kept.{Kept, next_after}
 use Rattle.store.specs.Laws.{Lowest}
 
-clash : {X : Type 0} (b : Bool) → b ≡ true → b ≡ false → X
-clash b t f = cc
-
 -- only one number is the lowest
 pub only : (l : List Entry) (o a : ℕ) (r r' : Option ℕ) → Lowest l o a r → Lowest l o a r' → r ≡ r'
 only l o a None None h h' = refl
-only l o a None (Some n) h h' = clash (hers o l n) h'.1 (h n h'.0)
-only l o a (Some n) None h h' = clash (hers o l n) h.1 (h' n h.0)
+only l o a None (Some n) h h' = absurd (true≢false (sym h'.1 ∙ h n h'.0))
+only l o a (Some n) None h h' = absurd (true≢false (sym h.1 ∙ h' n h.0))
 only l o a (Some n) (Some m) h h' = go (cases_order n m)
   where
     go : (n ≡ m) ⊎ ((n < m) ⊎ (m < n)) → Some n ≡ Some m
     go (inl e) = ap Some e
-    go (inr (inl b)) = clash (hers o l n) h.1 (h'.2 n h.0 b)
-    go (inr (inr b)) = clash (hers o l m) h'.1 (h.2 m h'.0 b)
+    go (inr (inl b)) = absurd (true≢false (sym h.1 ∙ h'.2 n h.0 b))
+    go (inr (inr b)) = absurd (true≢false (sym h'.1 ∙ h.2 m h'.0 b))
 
 -- a lowest number above b is the lowest above a, where none between is the owner's
 widen : (l : List Entry) (o a b : ℕ) (r : Option ℕ) → a ≤ b → ((k : ℕ) → a < k → k ≤ b → hers o l k ≡ false)

@@ -1,6 +1,6 @@
 -- That each report is sent, in order and once. Assumes nothing.
-use Rattle.std.proofs.Common.{◌≡◌, ℕ, zero, suc, ◌+◌, ◌-◌, ◌<◌, ◌≤◌, max, Bool, true, false, leb, List, [], ◌∷◌, ◌++◌, length, Some, None, Option, sym, refl, ap, ◌∙◌, subst, arith, inl, inr, ◌⊎◌, length-append}
-use Rattle.std.proofs.lemmas.Bool.{cases_lt, cond-false, le-leb}
+use Rattle.std.proofs.Common.{◌≡◌, ℕ, zero, suc, ◌+◌, ◌-◌, ◌<◌, ◌≤◌, max, true, false, leb, List, [], ◌∷◌, ◌++◌, length, Some, None, Option, sym, refl, ap, ◌∙◌, subst, arith, inl, inr, ◌⊎◌, length-append}
+use Rattle.std.proofs.lemmas.Bool.{cases_lt, cond-false, le-leb, true≢false}
 use Rattle.std.specs.List.{cons_option, filter_map}
 use Rattle.codes.specs.declared.session.Partition.{Partition}
 use Rattle.codes.specs.declared.session.Partition.TheVariants.{One, Two, Three}
@@ -17,9 +17,6 @@ use Rattle.sessions.proofs.Owned.{hers, hers_from, under_grown, from_none, Next,
 use Rattle.store.proofs.Nexts.{next-lowest}
 use Rattle.store.specs.Kept.{Kept, next_after}
 use Rattle.store.specs.Laws.{Lowest}
-
-clash : {X : Type 0} (b : Bool) → b ≡ true → b ≡ false → X
-clash b t f = cc
 
 -- numbers that are not the owner's are passed over
 skip : (o : ℕ) (l : List Entry) (d a c : ℕ) → ((k : ℕ) → a < k → k ≤ a + d → hers o l k ≡ false)
@@ -64,7 +61,7 @@ stands : (o : ℕ) (l : List Entry) (n : ℕ) → hers o l n ≡ true → n ≤ 
 stands o l n t = by (cases_lt (length l) n)
   where
     by : (length l < n) ⊎ (n ≤ length l) → n ≤ length l
-    by (inl q) = clash (hers o l n) t (ap (is_of o) (under_past l n q))
+    by (inl q) = absurd (true≢false (sym t ∙ ap (is_of o) (under_past l n q)))
     by (inr q) = q
 
 -- one that was found is still the lowest when more reports come

@@ -1,5 +1,6 @@
 -- That a download is whole. Assumes nothing.
 use Rattle.std.proofs.Common.{◌≡◌, ℕ, zero, suc, ◌+◌, ◌≤◌, true, false, leb, List, [], ◌∷◌, length, take, Some, None, Option, sym, refl, ap, ◌∙◌, arith, length-append}
+use Rattle.std.proofs.Math.Seq.{take-nil}
 use Rattle.std.proofs.Math.Dec.{leb-zero, leb-suc-zero, leb-suc-suc}
 use Rattle.std.proofs.lemmas.Bool.{le-leb, lt-leb}
 use Rattle.codes.specs.declared.session.Partition.{Partition}
@@ -21,16 +22,12 @@ nothing_more : (o : ℕ) (ks : List Kept) → hands_out o ks None ≡ []
 nothing_more o [] = refl
 nothing_more o (k ∷ ks) = nothing_more o ks
 
-take_none : {X : Type 0} (n : ℕ) → ◌≡◌ {A = List X} (take n []) []
-take_none zero = refl
-take_none (suc n) = refl
-
 -- what a download hands out first
 whole_none : (p : Partition) (m n : ℕ) → take (suc n) (whole p m []) ≡ Ended Complete ∷ []
-whole_none p m n = rw (take_none {X = ℕ} m, leb-zero m, take_none {X = Recovered} n)
+whole_none p m n = rw (take-nil {A = ℕ} m, leb-zero m, take-nil {A = Recovered} n)
 
 whole_full : (p : Partition) (x : ℕ) (ns : List ℕ) (n : ℕ) → take (suc n) (whole p 0 (x ∷ ns)) ≡ Ended MessageLimit ∷ []
-whole_full p x ns n = rw (leb-suc-zero (length ns), take_none {X = Recovered} n)
+whole_full p x ns n = rw (leb-suc-zero (length ns), take-nil {A = Recovered} n)
 
 whole_some : (p : Partition) (m x : ℕ) (ns : List ℕ) (n : ℕ) → take (suc n) (whole p (suc m) (x ∷ ns)) ≡ Report p x
     ∷ take n (whole p m ns)

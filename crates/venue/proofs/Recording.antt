@@ -2,7 +2,7 @@
 use Rattle.std.specs.Prelude.{slice_get, IfSome, is_some}
 use Rattle.std.specs.Option.{option_map}
 use Rattle.std.proofs.Common.{◌≡◌, ℕ, ◌+◌, ◌<◌, ◌≤◌, ◌⊎◌, Bool, true, false, cond, ◌&&◌, eqb, List, [], ◌∷◌, ◌++◌, length, Some, None, Ok, Err, Option, Result, inl, inr, refl, sym, ap, ◌∙◌, subst, append_assoc, append-nil, arith}
-use Rattle.std.proofs.lemmas.Bool.{cond-true, cond-false, eq-eqb, ne_eqb, cases_eq}
+use Rattle.std.proofs.lemmas.Bool.{cond-true, cond-false, eq-eqb, ne_eqb, cases_eq, true≢false, and_left, and_right}
 use Rattle.std.proofs.lemmas.List.Sums.{fold-append}
 use Rattle.std.specs.List.{fold as fold_each}
 use Rattle.std.specs.FinMap.{get, insert, len, contains_key, len-insert}
@@ -60,19 +60,16 @@ grown-here k One e = refl
 grown-here k Two e = refl
 grown-here k Three e = refl
 
-never : {A : Type 0} → ◌≡◌ {A = Bool} true false → A
-never e = absurd (cc)
-
 grown-apart : (k : Kept) (p q : Partition) (e : Entry) → same_partition p q ≡ false → at (grown k p e) q ≡ at k q
-grown-apart k One One e h = never h
+grown-apart k One One e h = absurd (true≢false h)
 grown-apart k One Two e h = refl
 grown-apart k One Three e h = refl
 grown-apart k Two One e h = refl
-grown-apart k Two Two e h = never h
+grown-apart k Two Two e h = absurd (true≢false h)
 grown-apart k Two Three e h = refl
 grown-apart k Three One e h = refl
 grown-apart k Three Two e h = refl
-grown-apart k Three Three e h = never h
+grown-apart k Three Three e h = absurd (true≢false h)
 
 pub appended-here : (k : Kept) (p : Partition) (es : List Entry) → at (appended k p es) p ≡ at k p ++ es
 appended-here k p [] = sym (append-nil (at k p))
@@ -137,13 +134,6 @@ standing-some is b i at_i =
     ap (standing_in b.terms.owner i.partition b) at_i
     ∙ cond-true _ _ _ (ap (λ x. x && same_partition i.partition i.partition)
     (eq-eqb b.terms.owner b.terms.owner refl) ∙ same_self i.partition)
-
-apart-owner : (x y : Bool) → x ≡ false → (x && y) ≡ false
-apart-owner x y h = ap (λ b. b && y) h
-
-apart-partition : (x y : Bool) → y ≡ false → (x && y) ≡ false
-apart-partition true y h = h
-apart-partition false y h = refl
 
 -- ---- one row changes, or is new, and its owner is told
 
@@ -293,8 +283,8 @@ module _ (is : List Instrument) (n : ℕ) (c : Change) (rows : List Row) (r : Ro
 
   each : (q : ℕ) (u : Partition) → (o ≡ q) ⊎ (o ≡ q → ⊥) → (p ≡ u) ⊎ (same_partition p u ≡ false) → Each q u
   each q u (inl a) (inl b) = subst (λ x. Each x u) a (subst (Each o) b each_own)
-  each q u (inl a) (inr b) = each_other q u (inr b) (apart-partition (eqb o q) (same_partition p u) b)
-  each q u (inr a) b = each_other q u b (apart-owner (eqb o q) (same_partition p u) (ne_eqb o q a))
+  each q u (inl a) (inr b) = each_other q u (inr b) (and_right (eqb o q) (same_partition p u) b)
+  each q u (inr a) b = each_other q u b (and_left (eqb o q) (same_partition p u) (ne_eqb o q a))
 
   placed : (m : ℕ) (x : Row) → under rows' m ≡ Some x → (m ≡ n) ⊎ (m ≡ n → ⊥) → x.terms.instrument < length is
   placed m x e (inl h) =
