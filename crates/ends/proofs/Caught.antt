@@ -101,7 +101,8 @@ module _ {V : Type 0} where
       (counted N (remove m (suc N)) (λ n k. within n (cases_eq n (suc N)) k))
     where
       within : (n : ℕ) → (n ≡ suc N) ⊎ (n ≡ suc N → ⊥) → is_some (get (remove m (suc N)) n) ≡ true → (0 < n) × (n ≤ N)
-      within n (inl e) k = absurd (false≢true (sym (ap is_some (ap (get (remove m (suc N))) e ∙ put-here m (suc N) None)) ∙ k))
+      within n (inl e) k =
+          absurd (false≢true (sym (ap is_some (ap (get (remove m (suc N))) e ∙ put-here m (suc N) None)) ∙ k))
       within n (inr ne) k =
           let r = h n (ap is_some (sym (put-apart m (suc N) None n ne)) ∙ k) in
           let lt = r.0 in

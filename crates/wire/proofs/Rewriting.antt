@@ -25,7 +25,8 @@ four letter total (b₀ ∷ b₁ ∷ []) h b s t l = absurd (omega arith)
 four letter total (b₀ ∷ b₁ ∷ b₂ ∷ []) h b s t l = absurd (omega arith)
 four letter total (b₀ ∷ b₁ ∷ b₂ ∷ b₃ ∷ bs) h b s t l =
     let n : total - 3 ≡ b₁ + 256 * (b₂ + 256 * 0) = omega (arith, t) in
-    let q : to_le 2 (total - 3) ≡ b₁ ∷ b₂ ∷ [] = ap (to_le 2) n ∙ to_le_le (b₁ ∷ b₂ ∷ []) (bytes_take 2 (b₁ ∷ b₂ ∷ b₃ ∷ bs) (λ i. b (suc i))) in
+    let c = bytes_take 2 (b₁ ∷ b₂ ∷ b₃ ∷ bs) (λ i. b (suc i)) in
+    let q : to_le 2 (total - 3) ≡ b₁ ∷ b₂ ∷ [] = ap (to_le 2) n ∙ to_le_le (b₁ ∷ b₂ ∷ []) c in
     let z : b₀ ≡ 2 = omega (arith, s) in
     let w : letter ≡ b₃ = omega (arith, l) in
     ap (λ x. 2 ∷ x ++ (letter ∷ [])) q ∙ rw (z, w)

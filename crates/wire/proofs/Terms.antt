@@ -84,7 +84,8 @@ pricing_same x y c p = first_of (cc, grind arith)
 
 pub target_same : (x y : Target) → book_code (book_of x) ≡ book_code (book_of y) → target_instruction x
     ≡ target_instruction y → x ≡ y
-target_same (target.DarkMidpoint i) (target.DarkMidpoint j) c e = ap target.DarkMidpoint (exec_instruction_law.one i j (cc))
+target_same (target.DarkMidpoint i) (target.DarkMidpoint j) c e =
+    ap target.DarkMidpoint (exec_instruction_law.one i j (cc))
 target_same x y c e = first_of (cc, grind arith)
 
 pub execution_same : (x y : Execution) → exec_type_code (kind_of x) ≡ exec_type_code (kind_of y) → execution_reject x

@@ -11,8 +11,8 @@ pub one_form : (m n : Message) (b a : List ℕ) → m ≡ n
 one_form m n b a e w =
     let P : Message → Type 0 = λ x. a ≡ written x ++ drop (total_of (kind_of x)) b in
     let k = kind_of n in
-    let f = append_assoc (header (letter_of k) (total_of k)) (encode (table_of k) (contents_of n)) (drop (total_of k) b) in
-    subst P (sym e) (w ∙ sym f)
+    let whole = append_assoc (header (letter_of k) (total_of k)) (encode (table_of k) (contents_of n)) _ in
+    subst P (sym e) (w ∙ sym whole)
 
 pub holdable : (m n : Message) → m ≡ n → Holdable n → Holdable m
 holdable m n e h = subst Holdable (sym e) h

@@ -18,13 +18,16 @@ layout_of kind.LogonReply = session.logon_reply.LogonReplyLayout.TheImpl.ghosts.
 layout_of kind.Logout = session.logout.LogoutLayout.TheImpl.ghosts.shape
 layout_of kind.Heartbeat = session.heartbeat.HeartbeatLayout.TheImpl.ghosts.shape
 layout_of kind.MissedMessageRequest = session.missed_message_request.MissedMessageRequestLayout.TheImpl.ghosts.shape
-layout_of kind.MissedMessageRequestAck = session.missed_message_request_ack.MissedMessageRequestAckLayout.TheImpl.ghosts.shape
+layout_of kind.MissedMessageRequestAck =
+    session.missed_message_request_ack.MissedMessageRequestAckLayout.TheImpl.ghosts.shape
 layout_of kind.MissedMessageReport = session.missed_message_report.MissedMessageReportLayout.TheImpl.ghosts.shape
 layout_of kind.Reject = session.reject.RejectLayout.TheImpl.ghosts.shape
 layout_of kind.NewOrder = orders.new_order.NewOrderLayout.TheImpl.ghosts.shape
 layout_of kind.OrderCancelRequest = orders.order_cancel_request.OrderCancelRequestLayout.TheImpl.ghosts.shape
-layout_of kind.OrderCancelReplaceRequest = orders.order_cancel_replace_request.OrderCancelReplaceRequestLayout.TheImpl.ghosts.shape
-layout_of kind.OrderMassCancelRequest = orders.order_mass_cancel_request.OrderMassCancelRequestLayout.TheImpl.ghosts.shape
+layout_of kind.OrderCancelReplaceRequest =
+    orders.order_cancel_replace_request.OrderCancelReplaceRequestLayout.TheImpl.ghosts.shape
+layout_of kind.OrderMassCancelRequest =
+    orders.order_mass_cancel_request.OrderMassCancelRequestLayout.TheImpl.ghosts.shape
 layout_of kind.ExecutionReport = orders.execution_report.ExecutionReportLayout.TheImpl.ghosts.shape
 layout_of kind.OrderCancelReject = orders.order_cancel_reject.OrderCancelRejectLayout.TheImpl.ghosts.shape
 layout_of kind.OrderMassCancelReport = orders.order_mass_cancel_report.OrderMassCancelReportLayout.TheImpl.ghosts.shape

@@ -46,7 +46,8 @@ whole (message.NewOrder m) = framed kind.NewOrder orders.new_order.NewOrderFrame
 whole (message.OrderCancelRequest m) =
     framed kind.OrderCancelRequest orders.order_cancel_request.OrderCancelRequestFramed.TheImpl.ghosts m
 whole (message.OrderCancelReplaceRequest m) =
-    framed kind.OrderCancelReplaceRequest orders.order_cancel_replace_request.OrderCancelReplaceRequestFramed.TheImpl.ghosts m
+    framed kind.OrderCancelReplaceRequest
+    orders.order_cancel_replace_request.OrderCancelReplaceRequestFramed.TheImpl.ghosts m
 whole (message.OrderMassCancelRequest m) =
     framed kind.OrderMassCancelRequest orders.order_mass_cancel_request.OrderMassCancelRequestFramed.TheImpl.ghosts m
 whole (message.ExecutionReport m) =

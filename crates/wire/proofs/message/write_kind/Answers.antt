@@ -13,7 +13,8 @@ returns-in-OrderCancelReplaceRequest-clause-wrote c =
     one_form _ _ _ _ c.in-OrderCancelReplaceRequest.is c.write-in-OrderCancelReplaceRequest.ensures.wrote
 
 pub returns-in-OrderCancelReplaceRequest-clause-holds : goal.returns-in-OrderCancelReplaceRequest-clause-holds
-returns-in-OrderCancelReplaceRequest-clause-holds c = holdable _ _ c.in-OrderCancelReplaceRequest.is c.write-in-OrderCancelReplaceRequest.ensures.holds
+returns-in-OrderCancelReplaceRequest-clause-holds c =
+    holdable _ _ c.in-OrderCancelReplaceRequest.is c.write-in-OrderCancelReplaceRequest.ensures.holds
 
 pub returns-in-ExecutionReport-clause-wrote : goal.returns-in-ExecutionReport-clause-wrote
 returns-in-ExecutionReport-clause-wrote c =
