@@ -2,7 +2,16 @@ use Rattle.std.proofs.Common.{ap, arith}
 use Rattle.layout.specs.Layout.{Says, nth}
 use Rattle.order_messages.proofs.execution_report.ExecutionReportFramed.fields.Goals as goal
 
--- the field at 138 is the 25th of the table
+-- the fields at 107, 135, 137 and 138 are the 18th, 22nd, 24th and 25th of the table
+pub text-requires-6 : goal.text-requires-6
+text-requires-6 c = (omega arith, (omega arith, c.requires.passed.1.1.1.1.1.1.1.1.1.1.1.1.1.1.1.1.1.0))
+
+pub code-requires-4-clause-listed : goal.code-requires-4-clause-listed
+code-requires-4-clause-listed c = c.requires.passed.1.1.1.1.1.1.1.1.1.1.1.1.1.1.1.1.1.1.1.1.1.0
+
+pub code-requires-5-clause-listed : goal.code-requires-5-clause-listed
+code-requires-5-clause-listed c = c.requires.passed.1.1.1.1.1.1.1.1.1.1.1.1.1.1.1.1.1.1.1.1.1.1.1.0
+
 pub code-requires-6-clause-listed : goal.code-requires-6-clause-listed
 code-requires-6-clause-listed c = c.requires.passed.1.1.1.1.1.1.1.1.1.1.1.1.1.1.1.1.1.1.1.1.1.1.1.1.0
 
