@@ -10,10 +10,11 @@ use crate::words::{blanks, word};
 use hex::FromHexError;
 use std::alloc::{AllocError, Global};
 use std::fmt;
+use thiserror::Error;
 use wire::kinds::Channel;
 
 /// Why a line is not understood.
-#[derive(Clone, Copy, Debug, PartialEq)]
+#[derive(Clone, Copy, Debug, PartialEq, Error)]
 pub enum Unclear {
     UnknownReader,
     NoBytes,
