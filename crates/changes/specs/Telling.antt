@@ -5,6 +5,7 @@ use Rattle.codes.specs.declared.report.TradeType.TheVariants.{Visible}
 use Rattle.texts.specs.declared.fixed.FixedText.{FixedText}
 use Rattle.terms.specs.declared.execution.Execution.{Execution}
 use Rattle.terms.specs.declared.execution.Execution.TheVariants as execution
+use Rattle.refusals.specs.declared.Refusal.{Refusal}
 use Rattle.orders.specs.declared.row.Row.{Row}
 use Rattle.orders.specs.declared.row.Ending.{Ending}
 use Rattle.orders.specs.declared.row.Ending.TheVariants.{Cancelled, Expired}
@@ -15,7 +16,7 @@ use Rattle.changes.specs.declared.change.Change.TheVariants.{Accept, Replace, Wi
 use Rattle.changes.specs.declared.change.Told.{Told}
 
 -- an order's fields under a client order id; what no rule names is null
-abbrev pub told_as : Told → FixedText 20 → Execution → Row → ExecutionReport
+abbrev pub told_as : Told → FixedText 20 → Execution Refusal → Row → ExecutionReport
 told_as t c e r = record {
   client = c;
   order = Some (record { number = r.number });
@@ -34,7 +35,7 @@ told_as t c e r = record {
   capacity = r.terms.capacity;
 }
 
-abbrev pub ending_told : Ending → Execution
+abbrev pub ending_told : Ending → Execution Refusal
 ending_told Cancelled = execution.Cancelled
 ending_told Expired = execution.Expired
 

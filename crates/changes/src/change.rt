@@ -5,6 +5,7 @@ ghost use Rattle.changes.specs.Telling.{ending_told, told_as};
 use codes::report::{Liquidity, TradeType};
 use orders::order::Order;
 use orders::row::{Ask, Ending, Terms};
+use refusals::Refusal;
 use reports::report::ExecutionReport;
 use terms::execution::Execution;
 use texts::fixed::FixedText;
@@ -61,7 +62,12 @@ pub struct Made {
 }
 
 // An order's fields, under a client order id.
-fn told_as(told: Told, client: FixedText<20>, execution: Execution, order: Order) -> ExecutionReport
+fn told_as(
+    told: Told,
+    client: FixedText<20>,
+    execution: Execution<Refusal>,
+    order: Order,
+) -> ExecutionReport
     ensures { result ≡ told_as told client execution order }
 {
     let status = order.status();
@@ -86,7 +92,7 @@ fn told_as(told: Told, client: FixedText<20>, execution: Execution, order: Order
 }
 
 // Why the report of an order that ended is sent.
-fn ending_told(ending: Ending) -> Execution
+fn ending_told(ending: Ending) -> Execution<Refusal>
     ensures { result ≡ ending_told ending }
 {
     match ending {

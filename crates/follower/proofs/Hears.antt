@@ -17,7 +17,7 @@ use Rattle.codes.specs.declared.session.AckResponse.{AckResponse}
 use Rattle.codes.specs.declared.session.AckResponse.TheVariants as ack
 use Rattle.codes.specs.declared.session.ReportResponse.{ReportResponse}
 use Rattle.codes.specs.declared.session.ReportResponse.TheVariants as ending
-use Rattle.terms.specs.Execution.{kind_of as exec_of}
+use Rattle.order_messages.specs.Terms.{exec_type_of}
 use Rattle.layout.specs.declared.fault.Fault.{Fault}
 use Rattle.layout.specs.Layout.{fault_of, Says, value_of}
 use Rattle.layout.specs.Layout.Content.{figure}
@@ -56,7 +56,7 @@ ending_back x =
 pub contents_say : (m : Message) → heard_from (kind_of m) (contents_of m) ≡ heard m
 contents_say (message.ExecutionReport m) =
     let a = partition_back m.partition in
-    let b = exec_back (exec_of m.execution) in
+    let b = exec_back (exec_type_of m.execution) in
     let c = status_back m.status in
     cc
 contents_say (message.OrderCancelReject m) = let a = partition_back m.partition in cc

@@ -1,6 +1,6 @@
 -- What is written is heard. Assumes nothing.
 use Rattle.std.proofs.Common.{◌≡◌, ℕ, pos, Some, None, Ok, Option, refl, sym, subst, ap, ◌∙◌}
-use Rattle.std.specs.Option.{option_map, option_and_then}
+use Rattle.std.specs.Option.{option_map}
 use Rattle.codes.specs.declared.session.Partition.{Partition}
 use Rattle.layout.specs.declared.fault.Fault.TheVariants as fault
 use Rattle.layout.specs.Writing.{header, encode}
@@ -16,7 +16,8 @@ use Rattle.reports.specs.declared.standing.Told.{Told}
 use Rattle.reports.specs.declared.report.Report.{Report}
 use Rattle.reports.specs.declared.report.Report.TheVariants as report
 use Rattle.reports.specs.Told.{told_of}
-use Rattle.report_messages.specs.Back.{report_in}
+use Rattle.report_messages.specs.Back.{told_in}
+use Rattle.report_messages.proofs.Told.{told_same}
 use Rattle.report_messages.specs.Telling.{told_as, kind_told}
 use Rattle.report_messages.proofs.Takes.{follower_takes}
 use Rattle.follower.specs.declared.heard.Heard.{Heard}
@@ -38,9 +39,9 @@ abbrev told_heard : Heard → Option Told
 told_heard (heard.Report p h) = h.told
 told_heard h = None
 
-told_in : (m : Message) → told_heard (heard_of m) ≡ option_and_then told_of (report_in m)
-told_in (message.ExecutionReport m) = refl
-told_in m = refl
+told_is : (m : Message) → told_heard (heard_of m) ≡ told_in m
+told_is (message.ExecutionReport m) = refl
+told_is m = refl
 
 -- every report's message begins with its partition and its number
 abbrev told_by : Partition → ℕ → Report → Option Told
@@ -64,8 +65,8 @@ said p n r m t =
 pub told : (p : Partition) (n : ℕ) (r : Report) (m : Message) → Tells p n r m → heard_of m
     ≡ heard.Report p (record { sequence = pos n; told = told_of r })
 told p n r m t =
-    let same : told_by p n r ≡ told_of r = ap told_heard (sym (said p n r m t)) ∙ told_in m ∙ ap
-    (option_and_then told_of) t.back in
+    let same : told_by p n r ≡ told_of r = ap told_heard (sym (said p n r m t)) ∙ told_is m
+    ∙ told_same m r (told_in m) refl t.back in
     said p n r m t ∙ begins p n r ∙ ap (λ x. heard.Report p (record { sequence = pos n; told = x })) same
 
 pub reports_heard : ReportsHeard

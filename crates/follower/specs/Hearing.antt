@@ -1,6 +1,5 @@
 -- What a follower hears in a message, and in the bytes of one. Assumes nothing.
 use Rattle.std.specs.Prelude.{ℕ, ℤ, List, map, Some, None, Ok, Err, Option, Result}
-use Rattle.std.specs.Option.{option_and_then}
 use Rattle.codes.specs.Report.{exec_types, exec_type_code, statuses, status_code}
 use Rattle.codes.specs.Session.{partitions, partition_code, ack_responses, ack_response_code, report_responses, report_response_code}
 use Rattle.codes.specs.declared.report.ExecType.TheVariants as exec
@@ -18,15 +17,14 @@ use Rattle.wire.specs.declared.message.Message.TheVariants as message
 use Rattle.wire.specs.Kinds.{table_of}
 use Rattle.wire.specs.Messages.{opening}
 use Rattle.reports.specs.declared.standing.Told.{Told}
-use Rattle.reports.specs.Told.{told_of}
-use Rattle.report_messages.specs.Back.{report_in, order_in}
+use Rattle.report_messages.specs.Back.{order_in, told_in}
 use Rattle.follower.specs.declared.heard.Held.{Held}
 use Rattle.follower.specs.declared.heard.Heard.{Heard}
 use Rattle.follower.specs.declared.heard.Heard.TheVariants.{Report, Ack, End, Reject, Nothing}
 
 -- a message under its number, with what it tells of an order
 abbrev pub numbered : ℤ → Message → Held
-numbered n m = record { sequence = n; told = option_and_then told_of (report_in m) }
+numbered n m = record { sequence = n; told = told_in m }
 
 -- what is heard in a message: in most of them nothing
 abbrev pub heard : Message → Heard

@@ -25,7 +25,7 @@ pub enum FollowerFault {
     #[error("that is not what the download waits for")]
     OutOfTurn,
     /// The report does not fit what is known, or there is no room for its order.
-    #[error("the report does not fit what is known")]
+    #[error("{0}")]
     Fold(FoldRefusal),
     /// As many reports are held as there is room for; the follower has let them go, and is not up.
     #[error("no more reports can be held")]

@@ -4,7 +4,7 @@ ghost use Rattle.follower.specs.Hearing.{heard, heard_in, numbered};
 
 use crate::heard::{Heard, Held};
 use layout::fault::Fault;
-use report_messages::back::report_of;
+use report_messages::back::told_by;
 use wire::kinds::Channel;
 use wire::message::{Message, read};
 
@@ -13,7 +13,7 @@ fn numbered(sequence: &i32, message: &Message<'_>) -> Held
 {
     Held {
         sequence: *sequence,
-        told: report_of(message).and_then(|report| report.told()),
+        told: told_by(message),
     }
 }
 

@@ -2,6 +2,7 @@
 use codes::order::{Book, Side};
 use codes::report::{Capacity, Status};
 use codes::session::{AckResponse, Partition, ReportResponse};
+use refusals::Refusal;
 use report_messages::telling::Telling;
 use reports::report::{ExecutionReport, Report};
 use session_messages::missed_message_report::MissedMessageReport;
@@ -17,7 +18,7 @@ use wire::message::{BUFFER, Message, write};
 #[derive(Clone, Copy)]
 pub struct Said {
     pub order: u64,
-    pub execution: Execution,
+    pub execution: Execution<Refusal>,
     pub status: Status,
     pub quantity: i32,
     pub leaves: i32,

@@ -3,11 +3,10 @@ use Rattle.std.specs.Prelude.{ℕ, List, [], ◌∷◌}
 use Rattle.codes.specs.Order.{book_code, side_code}
 use Rattle.codes.specs.Report.{capacity_code, exec_type_code, mass_response_code, price_differential_code, status_code}
 use Rattle.codes.specs.Session.{partition_code}
-use Rattle.terms.specs.Execution.{kind_of}
 use Rattle.texts.specs.Says.{says}
 use Rattle.layout.specs.Layout.{Content}
 use Rattle.layout.specs.Layout.Content.{words, figure, int32, price, clock, nothing}
-use Rattle.order_messages.specs.Terms.{execution_reject, execution_liquidity, execution_trade}
+use Rattle.order_messages.specs.Terms.{exec_type_of, execution_reject, execution_liquidity, execution_trade}
 use Rattle.order_messages.specs.declared.execution_report.ExecutionReport.{ExecutionReport}
 use Rattle.order_messages.specs.declared.order_cancel_reject.OrderCancelReject.{OrderCancelReject}
 use Rattle.order_messages.specs.declared.order_mass_cancel_report.OrderMassCancelReport.{OrderMassCancelReport}
@@ -20,7 +19,7 @@ execution_report_contents m =
     ∷ words (says m.execution_id)
     ∷ words (says m.client_order_id)
     ∷ words (says m.order_id)
-    ∷ figure (exec_type_code (kind_of m.execution))
+    ∷ figure (exec_type_code (exec_type_of m.execution))
     ∷ words (says m.reference_id)
     ∷ figure (status_code m.status)
     ∷ execution_reject m.execution

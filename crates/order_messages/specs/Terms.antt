@@ -1,9 +1,11 @@
 -- What several fields tell together: those fields, one of which says which others matter, and what each of them holds.
 -- Assumes nothing.
-use Rattle.std.specs.Prelude.{ℕ, ◌+◌, List, [], ◌∷◌}
+use Rattle.std.specs.Prelude.{ℕ, ◌+◌, ℤ, List, [], ◌∷◌, Some, None, Option}
 use Rattle.codes.specs.declared.lists.Codes.TheVariants as list
 use Rattle.codes.specs.declared.order.MassCancelType.{MassCancelType}
 use Rattle.codes.specs.declared.order.MassCancelType.TheVariants as mass_cancel_type
+use Rattle.codes.specs.declared.report.ExecType.{ExecType}
+use Rattle.codes.specs.declared.report.ExecType.TheVariants as exec
 use Rattle.codes.specs.Order.{book_code, exec_instruction_code, mass_cancel_type_code, order_type_code}
 use Rattle.codes.specs.Report.{exec_type_code, liquidity_code, trade_type_code}
 use Rattle.terms.specs.declared.pricing.Pricing.{Pricing}
@@ -51,26 +53,34 @@ target_fields at =
 abbrev pub target_contents : Target → List Content
 target_contents t = figure (book_code (book_of t)) ∷ target_instruction t ∷ []
 
+-- why an Execution Report is sent; none where its exec type is null
+abbrev pub Sent : Type 0
+Sent = Option (Execution ℤ)
+
+abbrev pub exec_type_of : Sent → ExecType
+exec_type_of None = exec.Unspecified
+exec_type_of (Some e) = kind_of e
+
 -- Order Reject Code, of a rejected order
-abbrev pub execution_reject : Execution → Content
-execution_reject (execution.Rejected n) = int32 n
+abbrev pub execution_reject : Sent → Content
+execution_reject (Some (execution.Rejected n)) = int32 n
 execution_reject e = nothing
 
 abbrev pub reject_field : ℕ → Field
 reject_field at = When at form.Int32 53 list.RejectedOnly
 
 -- Trade Liquidity Indicator, of a trade or its cancellation
-abbrev pub execution_liquidity : Execution → Content
-execution_liquidity (execution.Trade l t) = figure (liquidity_code l)
-execution_liquidity (execution.TradeCancel l) = figure (liquidity_code l)
+abbrev pub execution_liquidity : Sent → Content
+execution_liquidity (Some (execution.Trade l t)) = figure (liquidity_code l)
+execution_liquidity (Some (execution.TradeCancel l)) = figure (liquidity_code l)
 execution_liquidity e = nothing
 
 abbrev pub liquidity_field : ℕ → Field
 liquidity_field at = When at (form.Code list.Liquidities) 53 list.TradeOrCancel
 
 -- TypeOfTrade, of a trade
-abbrev pub execution_trade : Execution → Content
-execution_trade (execution.Trade l t) = figure (trade_type_code t)
+abbrev pub execution_trade : Sent → Content
+execution_trade (Some (execution.Trade l t)) = figure (trade_type_code t)
 execution_trade e = nothing
 
 abbrev pub trade_field : ℕ → Field
@@ -80,9 +90,9 @@ abbrev pub execution_fields : List Field
 execution_fields =
     Always 53 (form.Code list.ExecTypes) ∷ reject_field 67 ∷ liquidity_field 118 ∷ trade_field 136 ∷ []
 
-abbrev pub execution_contents : Execution → List Content
+abbrev pub execution_contents : Sent → List Content
 execution_contents e =
-    figure (exec_type_code (kind_of e)) ∷ execution_reject e ∷ execution_liquidity e ∷ execution_trade e ∷ []
+    figure (exec_type_code (exec_type_of e)) ∷ execution_reject e ∷ execution_liquidity e ∷ execution_trade e ∷ []
 
 -- MassCancelType
 abbrev pub scope_kind : Scope → MassCancelType

@@ -3,11 +3,10 @@ ghost use Rattle.std.specs.Prelude.{◌≡◌, ◌+◌, ◌≤◌, length, refl}
 ghost use Rattle.layout.specs.Shapes.{Shaped, laid};
 ghost use Rattle.order_messages.specs.declared.execution_report.TheConstants.{LETTER, TABLE, TOTAL};
 ghost use Rattle.codes.specs.Report.{exec_type_code};
-ghost use Rattle.terms.specs.Execution.{kind_of};
 ghost use Rattle.layout.specs.Holding.{Holds};
 ghost use Rattle.layout.specs.Layout.{AllOk, Says};
 ghost use Rattle.layout.specs.Writing.{field_bytes, over};
-ghost use Rattle.order_messages.specs.Terms.{execution_contents, execution_fields, execution_liquidity, execution_reject, execution_trade, liquidity_field, reject_field, trade_field};
+ghost use Rattle.order_messages.specs.Terms.{execution_contents, execution_fields, execution_liquidity, execution_reject, execution_trade, exec_type_of, liquidity_field, reject_field, trade_field};
 
 use codes::lists::Codes;
 use codes::order::{Book, Side};
@@ -28,8 +27,9 @@ pub struct ExecutionReport<'a> {
     pub execution_id: Text<'a, 12>,
     pub client_order_id: Text<'a, 20>,
     pub order_id: Text<'a, 12>,
-    /// Why the report is sent, with what only such a report tells.
-    pub execution: Execution,
+    /// Why the report is sent, with what only such a report tells; an order is rejected with a number. None where the
+    /// exec type is null.
+    pub execution: Option<Execution<i32>>,
     /// The execution that the report refers back to, if any.
     pub reference_id: Text<'a, 12>,
     pub status: Status,
@@ -142,7 +142,7 @@ impl<'a> Framed<'a> for ExecutionReport<'a> {
         put_text(out, 9, &self.execution_id);
         put_text(out, 21, &self.client_order_id);
         put_text(out, 41, &self.order_id);
-        put_code(out, 53, &self.execution.kind());
+        put_code(out, 53, &self.kind());
         put_text(out, 54, &self.reference_id);
         put_code(out, 66, &self.status);
         put_reject_code(out, 67, &self.execution);
@@ -166,66 +166,78 @@ impl<'a> Framed<'a> for ExecutionReport<'a> {
     }
 }
 
+impl ExecutionReport<'_> {
+    /// Its exec type.
+    pub fn kind(&self) -> ExecType
+        ensures { result ≡ exec_type_of self.now.execution }
+    {
+        match &self.execution {
+            Some(execution) => execution.kind(),
+            None => ExecType::Unspecified,
+        }
+    }
+}
+
 // Why the report is sent, with what only such a report tells.
-fn execution_at(r: &Reader<'_>) -> Execution
+fn execution_at(r: &Reader<'_>) -> Option<Execution<i32>>
     requires room { TOTAL ≤ length r.now.src.now }
     requires good { AllOk execution_fields r.now.src.now }
     ensures { Says (execution_contents result) execution_fields r.now.src.now }
 {
     let kind: ExecType = r.code(53);
     match kind {
-        ExecType::Unspecified => Execution::Unspecified,
-        ExecType::New => Execution::New,
-        ExecType::Cancelled => Execution::Cancelled,
-        ExecType::Replaced => Execution::Replaced,
-        ExecType::Rejected => Execution::Rejected(r.i32(67)),
-        ExecType::Expired => Execution::Expired,
-        ExecType::Restated => Execution::Restated,
-        ExecType::Trade => Execution::Trade(r.code(118), r.code(136)),
-        ExecType::TradeCancel => Execution::TradeCancel(r.code(118)),
+        ExecType::Unspecified => None,
+        ExecType::New => Some(Execution::New),
+        ExecType::Cancelled => Some(Execution::Cancelled),
+        ExecType::Replaced => Some(Execution::Replaced),
+        ExecType::Rejected => Some(Execution::Rejected(r.i32(67))),
+        ExecType::Expired => Some(Execution::Expired),
+        ExecType::Restated => Some(Execution::Restated),
+        ExecType::Trade => Some(Execution::Trade(r.code(118), r.code(136))),
+        ExecType::TradeCancel => Some(Execution::TradeCancel(r.code(118))),
     }
 }
 
 // The reject code, or nulls.
 #[tactic(auto, unfolding(layout::specs::Writing::field_bytes, layout::specs::Layout::taken))]
-fn put_reject_code(out: &mut [u8], at: usize, execution: &Execution)
+fn put_reject_code(out: &mut [u8], at: usize, execution: &Option<Execution<i32>>)
     requires { at + 4 ≤ length out.old }
     ensures wrote { out.new ≡ over out.old at (field_bytes (reject_field at) (execution_reject execution.now)) }
-    ensures holds { Holds (λ n. exec_type_code (kind_of execution.now)) (reject_field at)
+    ensures holds { Holds (λ n. exec_type_code (exec_type_of execution.now)) (reject_field at)
         (execution_reject execution.now) }
 {
     match execution {
-        Execution::Rejected(code) => put_i32(out, at, code),
+        Some(Execution::Rejected(code)) => put_i32(out, at, code),
         _ => put_blank(out, at, 4),
     }
 }
 
 // Whether the trade added or removed liquidity, or a null.
 #[tactic(auto, unfolding(layout::specs::Writing::field_bytes, layout::specs::Layout::taken))]
-fn put_liquidity(out: &mut [u8], at: usize, execution: &Execution)
+fn put_liquidity(out: &mut [u8], at: usize, execution: &Option<Execution<i32>>)
     requires { at + 1 ≤ length out.old }
     ensures wrote { out.new ≡ over out.old at (field_bytes (liquidity_field at) (execution_liquidity execution.now)) }
-    ensures holds { Holds (λ n. exec_type_code (kind_of execution.now)) (liquidity_field at)
+    ensures holds { Holds (λ n. exec_type_code (exec_type_of execution.now)) (liquidity_field at)
         (execution_liquidity execution.now) }
 {
     match execution {
-        Execution::Trade(liquidity, _) | Execution::TradeCancel(liquidity) => put_code(
-            out, at, liquidity,
-        ),
+        Some(Execution::Trade(liquidity, _) | Execution::TradeCancel(liquidity)) => {
+            put_code(out, at, liquidity)
+        }
         _ => put_blank(out, at, 1),
     }
 }
 
 // Whether the executed part was shown, or a null.
 #[tactic(auto, unfolding(layout::specs::Writing::field_bytes, layout::specs::Layout::taken))]
-fn put_trade_type(out: &mut [u8], at: usize, execution: &Execution)
+fn put_trade_type(out: &mut [u8], at: usize, execution: &Option<Execution<i32>>)
     requires { at + 1 ≤ length out.old }
     ensures wrote { out.new ≡ over out.old at (field_bytes (trade_field at) (execution_trade execution.now)) }
-    ensures holds { Holds (λ n. exec_type_code (kind_of execution.now)) (trade_field at)
+    ensures holds { Holds (λ n. exec_type_code (exec_type_of execution.now)) (trade_field at)
         (execution_trade execution.now) }
 {
     match execution {
-        Execution::Trade(_, trade_type) => put_code(out, at, trade_type),
+        Some(Execution::Trade(_, trade_type)) => put_code(out, at, trade_type),
         _ => put_blank(out, at, 1),
     }
 }

@@ -1,6 +1,7 @@
 // A store that fills up.
 use codes::session::Partition;
 use limits::MESSAGE_BYTES;
+use refusals::Refusal;
 use reports::report::{CancelReject, Entry, Report};
 use std::test::Fail;
 use store::Store;
@@ -8,7 +9,7 @@ use store::records::Records;
 use texts::fixed::FixedText;
 use texts::values::Time;
 
-fn entry(owner: usize, reason: i32) -> Entry {
+fn entry(owner: usize, reason: Refusal) -> Entry {
     let reject = CancelReject {
         client: FixedText::empty(),
         reason,
@@ -33,9 +34,18 @@ fn same<T: PartialEq + Drop>(got: T, wanted: T) -> Result<(), Fail> {
 
 // A store of three places, empty.
 fn numbers_and_owners<S: Store>(store: &mut S) -> Result<(), Fail> {
-    same(store.append(Partition::Two, entry(0, 25)), Some(1))?;
-    same(store.append(Partition::Two, entry(1, 26)), Some(2))?;
-    same(store.append(Partition::One, entry(1, 27)), Some(1))?;
+    same(
+        store.append(Partition::Two, entry(0, Refusal::NoSuchOrder)),
+        Some(1),
+    )?;
+    same(
+        store.append(Partition::Two, entry(1, Refusal::NotOpen)),
+        Some(2),
+    )?;
+    same(
+        store.append(Partition::One, entry(1, Refusal::NotAboveExecuted)),
+        Some(1),
+    )?;
     same(store.last(Partition::Two), 2)?;
     same(store.next(Partition::Two, 1, 0), Some(2))?;
     same(store.next(Partition::Two, 1, 2), None)?;
@@ -45,7 +55,7 @@ fn numbers_and_owners<S: Store>(store: &mut S) -> Result<(), Fail> {
     let Report::CancelReject(reject) = read.report else {
         return Err(Fail::new("read as another report"));
     };
-    same(reject.reason, 26)?;
+    same(reject.reason, Refusal::NotOpen)?;
     Ok(())
 }
 
@@ -54,7 +64,10 @@ fn records_keep(rt: HostRuntime) -> Result<(), Fail> {
     let mut store = Records::new(rt.alloc(), 3)?;
     let kept = numbers_and_owners(&mut store);
     assert_eq!(rt; store.places(), 0);
-    assert_eq!(rt; store.append(Partition::Three, entry(1, 28)), None);
+    assert_eq!(rt;
+        store.append(Partition::Three, entry(1, Refusal::TimeInForceDiffers)),
+        None
+    );
     drop(store);
     kept
 }
@@ -65,7 +78,10 @@ fn wire_bytes_keep(rt: HostRuntime) -> Result<(), Fail> {
     assert_eq!(rt; store.places(), 3);
     let kept = numbers_and_owners(&mut store);
     assert_eq!(rt; store.places(), 1);
-    assert_eq!(rt; store.append(Partition::Three, entry(1, 28)), Some(1));
+    assert_eq!(rt;
+        store.append(Partition::Three, entry(1, Refusal::TimeInForceDiffers)),
+        Some(1)
+    );
     assert_eq!(rt; store.places(), 1);
     drop(store);
     kept

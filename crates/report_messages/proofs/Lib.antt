@@ -1,2 +1,3 @@
 pub mod Takes
 pub mod Texts
+pub mod Told

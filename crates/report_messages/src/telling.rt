@@ -3,14 +3,17 @@ ghost use Rattle.std.specs.Prelude.{◌≡◌, ◌<◌, ◌≤◌, [], Some, Non
 ghost use Rattle.texts.specs.Bytes.{said};
 ghost use Rattle.report_messages.specs.declared.telling.TheConstants.{NUMBERS};
 ghost use Rattle.report_messages.specs.Back.{order_in, reference_in, execution_in, reject_in, mass_in, report_in};
+ghost use Rattle.report_messages.specs.Telling.{sent_as, response_of, reason_of};
 ghost use Rattle.report_messages.specs.Identifiers.{order_of, reference_of, order_text, reference_text, own_text};
 
-use codes::report::PriceDifferential;
+use codes::report::{MassResponse, PriceDifferential};
 use codes::session::Partition;
 use order_messages::execution_report::ExecutionReport as ExecutionMessage;
 use order_messages::order_cancel_reject::OrderCancelReject;
 use order_messages::order_mass_cancel_report::OrderMassCancelReport;
-use reports::report::{CancelReject, ExecutionReport, MassCancelReport, Report};
+use refusals::Refusal;
+use reports::report::{CancelReject, ExecutionReport, MassAnswer, MassCancelReport, Report};
+use terms::execution::Execution;
 use texts::fixed::FixedText;
 use texts::identifiers::{ExecutionId, OrderId};
 use wire::message::Message;
@@ -82,6 +85,41 @@ fn open_shares(e: &ExecutionReport) -> &i32
     &e.leaves
 }
 
+// Why a report is sent, in the message's words: a refusal as its number.
+fn sent_as(execution: &Execution<Refusal>) -> Execution<i32>
+    ensures { result ≡ sent_as execution.now }
+{
+    match execution {
+        Execution::New => Execution::New,
+        Execution::Cancelled => Execution::Cancelled,
+        Execution::Replaced => Execution::Replaced,
+        Execution::Rejected(refusal) => Execution::Rejected(i32::from(refusal.number())),
+        Execution::Expired => Execution::Expired,
+        Execution::Restated => Execution::Restated,
+        Execution::Trade(liquidity, kind) => Execution::Trade(*liquidity, *kind),
+        Execution::TradeCancel(liquidity) => Execution::TradeCancel(*liquidity),
+    }
+}
+
+fn response_of(answer: MassAnswer) -> MassResponse
+    ensures { result ≡ response_of answer }
+{
+    match answer {
+        MassAnswer::Accepted => MassResponse::Accepted,
+        MassAnswer::Rejected(_) => MassResponse::Rejected,
+    }
+}
+
+// The number of a mass cancel's refusal; 0 where it was accepted.
+fn reason_of(answer: MassAnswer) -> u8
+    ensures { result ≡ reason_of answer }
+{
+    match answer {
+        MassAnswer::Accepted => 0,
+        MassAnswer::Rejected(refusal) => refusal.number(),
+    }
+}
+
 fn order_of(report: &Report) -> Option<OrderId>
     ensures { result ≡ order_of report.now }
 {
@@ -128,7 +166,7 @@ impl Telling {
     fn execution_message<'a>(&'a self, e: &'a ExecutionReport) -> ExecutionMessage<'a>
         requires order { order_of self.now.report ≡ e.now.order }
         requires reference { reference_of self.now.report ≡ e.now.reference }
-        ensures back { execution_in result ≡ e.now }
+        ensures back { execution_in result ≡ Some e.now }
         ensures contents { execution_report_contents result ≡ execution_told self.now.partition self.now.number e.now }
     {
         ExecutionMessage {
@@ -137,7 +175,7 @@ impl Telling {
             execution_id: self.execution.as_text(),
             client_order_id: e.client.as_text(),
             order_id: self.order.as_text(),
-            execution: e.execution,
+            execution: Some(sent_as(&e.execution)),
             reference_id: self.reference.as_text(),
             status: e.status,
             executed_price: e.price,
@@ -158,7 +196,7 @@ impl Telling {
 
     fn reject_message<'a>(&'a self, r: &'a CancelReject) -> OrderCancelReject<'a>
         requires { order_of self.now.report ≡ None }
-        ensures back { reject_in result ≡ r.now }
+        ensures back { reject_in result ≡ Some r.now }
         ensures contents { order_cancel_reject_contents result ≡ reject_told self.now.partition self.now.number r.now }
     {
         OrderCancelReject {
@@ -166,13 +204,13 @@ impl Telling {
             sequence: self.number as i32,
             client_order_id: r.client.as_text(),
             order_id: self.order.as_text(),
-            reason: r.reason,
+            reason: i32::from(r.reason.number()),
             transact_time: r.time,
         }
     }
 
     fn mass_message<'a>(&'a self, r: &'a MassCancelReport) -> OrderMassCancelReport<'a>
-        ensures back { mass_in result ≡ r.now }
+        ensures back { mass_in result ≡ Some r.now }
         ensures contents { order_mass_cancel_report_contents result
             ≡ mass_told self.now.partition self.now.number r.now }
     {
@@ -180,8 +218,8 @@ impl Telling {
             partition: self.partition,
             sequence: self.number as i32,
             client_order_id: r.client.as_text(),
-            response: r.response,
-            reason: r.reason,
+            response: response_of(r.answer),
+            reason: i32::from(reason_of(r.answer)),
             transact_time: r.time,
         }
     }

@@ -4,8 +4,9 @@ ghost use Rattle.std.specs.Prelude.{◌≡◌};
 
 use crate::standing::Told;
 use codes::order::{Book, Side};
-use codes::report::{Capacity, MassResponse, Status};
+use codes::report::{Capacity, Status};
 use partitions::series::Owned;
+use refusals::Refusal;
 use terms::execution::Execution;
 use texts::fixed::FixedText;
 use texts::identifiers::{ExecutionId, OrderId};
@@ -17,7 +18,7 @@ use texts::values::{Price, Time};
 pub struct ExecutionReport {
     pub client: FixedText<20>,
     pub order: Option<OrderId>,
-    pub execution: Execution,
+    pub execution: Execution<Refusal>,
     pub reference: Option<ExecutionId>,
     pub status: Status,
     pub price: Price,
@@ -36,16 +37,22 @@ pub struct ExecutionReport {
 #[derive(Clone, Copy)]
 pub struct CancelReject {
     pub client: FixedText<20>,
-    pub reason: i32,
+    pub reason: Refusal,
     pub time: Time,
+}
+
+/// Whether a mass cancel was accepted.
+#[derive(Clone, Copy, Debug, PartialEq)]
+pub enum MassAnswer {
+    Accepted,
+    Rejected(Refusal),
 }
 
 /// How a mass cancel was answered.
 #[derive(Clone, Copy)]
 pub struct MassCancelReport {
     pub client: FixedText<20>,
-    pub response: MassResponse,
-    pub reason: i32,
+    pub answer: MassAnswer,
     pub time: Time,
 }
 

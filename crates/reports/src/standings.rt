@@ -9,6 +9,7 @@ use keyed::{Numbered, place_of};
 use limits::ORDERS;
 use std::alloc::{AllocError, Global};
 use std::marker::Model;
+use thiserror::Error;
 
 /// A known order.
 #[derive(Clone, Copy)]
@@ -25,11 +26,12 @@ impl Numbered for Known {
     }
 }
 
-/// Why a report is not folded, with the number of each reason: it does not fit what is known, or there is no room for
-/// one more order.
-#[derive(Clone, Copy, Debug, PartialEq)]
+/// Why a report is not folded, with the number of each reason.
+#[derive(Clone, Copy, Debug, PartialEq, Error)]
 pub enum FoldRefusal {
+    #[error("the report does not fit what is known")]
     Unfit = 53,
+    #[error("there is no room for one more order")]
     Full = 55,
 }
 
@@ -166,7 +168,8 @@ impl Standings {
         Ok(())
     }
 
-    /// Folds what a report of a partition tells; a refused report changes nothing.
+    /// Folds what a report of a partition tells. Refused with 53 where it does not fit what is known, and 55 where a
+    /// 257th order would become known, tried in this order; then nothing changes.
     pub fn fold(&mut self, partition: Partition, told: Option<Told>) -> Result<(), FoldRefusal>
         ensures { Folds (fold partition told (known self.old)) (known self.old) result (known self.new) }
     {

@@ -1,6 +1,7 @@
 // A line that misses a report and asks for it again.
 use codes::session::{AckResponse, Partition, ReportResponse};
 use partitions::per_partition::PerPartition;
+use refusals::Refusal;
 use reports::report::{CancelReject, Entry, Report};
 use sessions::download::Recovered;
 use sessions::session::{Channel, Session};
@@ -13,7 +14,7 @@ use texts::values::Time;
 fn entry(owner: usize) -> Entry {
     let reject = CancelReject {
         client: FixedText::empty(),
-        reason: 25,
+        reason: Refusal::NoSuchOrder,
         time: Time {
             seconds: 0,
             microseconds: 0,

@@ -3,22 +3,21 @@ ghost use Rattle.std.specs.Prelude.{◌≡◌};
 
 use codes::report::{ExecType, Liquidity, TradeType};
 
-/// Why an Execution Report is sent, with what only such a report tells.
+/// Why an Execution Report is sent, with what only such a report tells; `R` says why an order was rejected: in a message
+/// a number, in a stored report a refusal.
 #[derive(Clone, Copy, Debug, PartialEq)]
-pub enum Execution {
-    Unspecified,
+pub enum Execution<R> {
     New,
     Cancelled,
     Replaced,
-    /// The reject code.
-    Rejected(i32),
+    Rejected(R),
     Expired,
     Restated,
     Trade(Liquidity, TradeType),
     TradeCancel(Liquidity),
 }
 
-impl Execution {
+impl<R> Execution<R> {
     ghost use Rattle.terms.specs.Execution.{kind_of};
 
     /// What happened, without what is told of it.
@@ -26,7 +25,6 @@ impl Execution {
         ensures { result ≡ kind_of self.now }
     {
         match self {
-            Execution::Unspecified => ExecType::Unspecified,
             Execution::New => ExecType::New,
             Execution::Cancelled => ExecType::Cancelled,
             Execution::Replaced => ExecType::Replaced,

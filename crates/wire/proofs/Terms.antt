@@ -23,10 +23,8 @@ use Rattle.layout.specs.declared.sequence.LastSequence.{LastSequence}
 use Rattle.layout.specs.declared.sequence.TheConstants.{SEQUENCE_LIMIT}
 use Rattle.layout.specs.Layout.{price_of, seconds_of, micros_of}
 use Rattle.layout.specs.Layout.Content.{order, figure, int32, price, clock}
-use Rattle.terms.specs.Execution.{kind_of}
 use Rattle.terms.specs.Pricing.{order_type_of}
 use Rattle.terms.specs.Target.{book_of}
-use Rattle.terms.specs.declared.execution.Execution.{Execution}
 use Rattle.terms.specs.declared.execution.Execution.TheVariants as execution
 use Rattle.terms.specs.declared.pricing.Pricing.{Pricing}
 use Rattle.terms.specs.declared.pricing.Pricing.TheVariants as pricing
@@ -34,7 +32,7 @@ use Rattle.terms.specs.declared.target.Target.{Target}
 use Rattle.terms.specs.declared.target.Target.TheVariants as target
 use Rattle.order_messages.specs.declared.order_mass_cancel_request.Scope.{Scope}
 use Rattle.order_messages.specs.declared.order_mass_cancel_request.Scope.TheVariants as scope
-use Rattle.order_messages.specs.Terms.{pricing_price, target_instruction, execution_reject, execution_liquidity, execution_trade, scope_kind, scope_symbol, scope_book, scope_segment}
+use Rattle.order_messages.specs.Terms.{Sent, exec_type_of, pricing_price, target_instruction, execution_reject, execution_liquidity, execution_trade, scope_kind, scope_symbol, scope_book, scope_segment}
 use Rattle.wire.specs.Plain.{plain_text, plain_name, plain_scope}
 
 -- numbers that fields hold
@@ -88,13 +86,13 @@ target_same (target.DarkMidpoint i) (target.DarkMidpoint j) c e =
     ap target.DarkMidpoint (exec_instruction_law.one i j (cc))
 target_same x y c e = first_of (cc, grind arith)
 
-pub execution_same : (x y : Execution) → exec_type_code (kind_of x) ≡ exec_type_code (kind_of y) → execution_reject x
-    ≡ execution_reject y
+pub execution_same : (x y : Sent) → exec_type_code (exec_type_of x) ≡ exec_type_code (exec_type_of y)
+    → execution_reject x ≡ execution_reject y
     → execution_liquidity x ≡ execution_liquidity y → execution_trade x ≡ execution_trade y → x ≡ y
-execution_same (execution.Trade a s) (execution.Trade b u) c r l t =
+execution_same (Some (execution.Trade a s)) (Some (execution.Trade b u)) c r l t =
     let p = liquidity_law.one a b (cc) in let q = trade_type_law.one s u (cc) in cc
-execution_same (execution.TradeCancel a) (execution.TradeCancel b) c r l t =
-    ap execution.TradeCancel (liquidity_law.one a b (cc))
+execution_same (Some (execution.TradeCancel a)) (Some (execution.TradeCancel b)) c r l t =
+    ap (λ q. Some (execution.TradeCancel q)) (liquidity_law.one a b (cc))
 execution_same x y c r l t = first_of (cc, grind arith)
 
 pub scope_same : (x y : Scope) → mass_cancel_type_code (scope_kind x) ≡ mass_cancel_type_code (scope_kind y)

@@ -1,6 +1,7 @@
 -- What is told from a message's contents is what the message tells. Assumes nothing.
-use Rattle.std.proofs.Common.{◌≡◌, ℕ, cond, List, [], ◌++◌, length, take, drop, replicate, pos, Some, None, Ok, Option, refl, sym, ap, ◌∙◌, subst, arith, le-leb}
-use Rattle.std.specs.Option.{unwrap_or, is_some, option_map}
+use Rattle.std.proofs.Common.{◌≡◌, ℕ, cond, List, [], ◌++◌, length, take, drop, replicate, Some, None, Ok, Option, refl, sym, ap, ◌∙◌, subst, arith, le-leb}
+use Rattle.std.specs.Option.{unwrap_or, is_some, option_and_then, option_map}
+use Rattle.std.proofs.Math.Path.{fun_ext}
 use Rattle.std.proofs.lemmas.Bool.{and_from, cond-true}
 use Rattle.std.proofs.lemmas.List.{length-take-le, take_at}
 use Rattle.std.proofs.lemmas.List.Sums.{prefix_len-le-length}
@@ -29,8 +30,6 @@ use Rattle.codes.specs.declared.report.Capacity.TheVariants as capacity
 use Rattle.codes.specs.declared.report.MassResponse.{MassResponse}
 use Rattle.codes.specs.declared.report.MassResponse.TheVariants as mass_response
 use Rattle.codes.specs.declared.session.Partition.{Partition}
-use Rattle.terms.specs.Execution.{kind_of as exec_of}
-use Rattle.terms.specs.declared.execution.Execution.{Execution}
 use Rattle.terms.specs.declared.execution.Execution.TheVariants as execution
 use Rattle.texts.specs.Bytes.{printable, padded}
 use Rattle.texts.specs.Texts.{fitting}
@@ -46,7 +45,10 @@ use Rattle.layout.specs.Layout.{Says, value_of}
 use Rattle.layout.specs.Writing.{header, encode}
 use Rattle.layout.proofs.Values.{all_got, value_back}
 use Rattle.layout.specs.Layout.Content.{figure}
-use Rattle.order_messages.specs.Terms.{execution_reject, execution_liquidity, execution_trade}
+use Rattle.order_messages.specs.Terms.{Sent, exec_type_of, execution_reject, execution_liquidity, execution_trade}
+use Rattle.order_messages.specs.declared.execution_report.ExecutionReport.{ExecutionReport as ExecutionMessage}
+use Rattle.refusals.specs.Numbers.{refusal_of}
+use Rattle.refusals.specs.declared.Refusal.TheVariants.{NoSuchOrder}
 use Rattle.wire.specs.declared.kinds.Channel.TheVariants.{Follower}
 use Rattle.wire.specs.declared.message.Message.{Message}
 use Rattle.wire.specs.declared.message.Message.TheVariants as message
@@ -57,22 +59,22 @@ use Rattle.wire.proofs.Sound.{sound}
 use Rattle.wire.proofs.Trips.{trip}
 use Rattle.reports.specs.declared.report.Report.{Report}
 use Rattle.reports.specs.declared.report.Report.TheVariants as report
-use Rattle.report_messages.specs.Back.{report_in}
+use Rattle.report_messages.specs.Back.{answer_in, execution_with, report_in, sent_for}
 use Rattle.report_messages.specs.Telling.{told_as, kind_told, report_bytes}
 use Rattle.report_messages.proofs.Takes.{follower_takes}
 use Rattle.wire_store.specs.Fitted.{fit, fitted}
-use Rattle.wire_store.specs.Told.{decoded, execution_from, nothing_told, told_from, told_in}
+use Rattle.wire_store.specs.Told.{decoded, executed_from, execution_from, nothing_told, told_from, told_in}
 
 blank_same : (x : FixedText 20) → x.bytes ≡ padded 20 [] → x ≡ fitted 20 []
 blank_same x e = fixed_same x (fitted 20 []) e
 
 pub blank_told : (x : FixedText 20) → x.bytes ≡ replicate 20 0
-    → report.CancelReject (record { client = x; reason = pos 0; time = record { seconds = 0; microseconds = 0 } })
+    → report.CancelReject (record { client = x; reason = NoSuchOrder; time = record { seconds = 0; microseconds = 0 } })
     ≡ nothing_told
 blank_told x e =
     ap (λ t. report.CancelReject (record {
       client = t;
-      reason = pos 0;
+      reason = NoSuchOrder;
       time = record { seconds = 0; microseconds = 0 };
     })) (blank_same x e)
 
@@ -122,46 +124,63 @@ mass_response_back : (x : MassResponse) → value_of mass_response_code mass_res
 mass_response_back x =
     value_back mass_responses mass_response.Rejected x mass_response_law.sound-law refl
 
-execution_back : (e : Execution) → execution_from (figure (exec_type_code (exec_of e))) (execution_reject e)
-    (execution_liquidity e) (execution_trade e) ≡ e
-execution_back (execution.Trade l t) =
-    ap (λ x. execution.Trade x (value_of trade_type_code trade_types trade_type.Visible (figure (trade_type_code t))))
-    (liquidity_back l) ∙ ap (execution.Trade l) (trade_type_back t)
-execution_back (execution.TradeCancel l) = ap execution.TradeCancel (liquidity_back l)
+execution_back : (e : Sent) → execution_from (figure (exec_type_code (exec_type_of e))) (execution_reject e)
+    (execution_liquidity e) (execution_trade e) ≡ option_and_then sent_for e
+execution_back (Some (execution.Trade l t)) =
+    ap (λ x. Some (execution.Trade x
+    (value_of trade_type_code trade_types trade_type.Visible (figure (trade_type_code t)))))
+    (liquidity_back l) ∙ ap (λ x. Some (execution.Trade l x)) (trade_type_back t)
+execution_back (Some (execution.TradeCancel l)) = ap (λ x. Some (execution.TradeCancel x)) (liquidity_back l)
 execution_back e = refl
 
--- a message's report, by its contents
-contents_tell : (m : Message) → told_from (kind_of m) (contents_of m) ≡ unwrap_or (report_in m) nothing_told
-contents_tell (message.ExecutionReport m) =
+-- the same report in two steps, or none
+mapped : {A B C : Type 0} (f : A → B) (g : B → C) (o : Option A) → option_map (λ x. g (f x)) o
+    ≡ option_map g (option_map f o)
+mapped f g None = refl
+mapped f g (Some x) = refl
+
+executed_same : (m : ExecutionMessage) → executed_from (contents_of (message.ExecutionReport m))
+    ≡ (λ x. report.Execution (execution_with m x))
+executed_same m =
     let a = text_back m.client_order_id in
-    let b = execution_back m.execution in
     let c = status_back m.status in
     let d = text_back m.symbol in
     let e = side_back m.side in
     let f = book_back m.book in
     let g = capacity_back m.capacity in
-    let price : record { raw = m.executed_price.raw } ≡ m.executed_price = refl in
-    let time : record { seconds = m.transact_time.seconds; microseconds = m.transact_time.microseconds }
-    ≡ m.transact_time = refl in
-    cc
+    fun_ext (λ x. cc)
+
+-- a message's report, by its contents
+contents_tell : (m : Message) → told_from (kind_of m) (contents_of m) ≡ report_in m
+contents_tell (message.ExecutionReport m) =
+    ap (λ f. option_map f (execution_from (figure (exec_type_code (exec_type_of m.execution)))
+    (execution_reject m.execution) (execution_liquidity m.execution) (execution_trade m.execution))) (executed_same m)
+    ∙ ap (option_map (λ x. report.Execution (execution_with m x))) (execution_back m.execution)
+    ∙ mapped (execution_with m) report.Execution (option_and_then sent_for m.execution)
 contents_tell (message.OrderCancelReject m) =
-    let a = text_back m.client_order_id in let time : record {
-      seconds = m.transact_time.seconds;
-      microseconds = m.transact_time.microseconds;
-    } ≡ m.transact_time = refl in cc
+    ap (λ t. option_map (λ r. report.CancelReject (record { client = t; reason = r; time = m.transact_time }))
+    (refusal_of m.reason)) (text_back m.client_order_id)
+    ∙ mapped (λ r. record { client = kept m.client_order_id; reason = r; time = m.transact_time }) report.CancelReject
+    (refusal_of m.reason)
 contents_tell (message.OrderMassCancelReport m) =
-    let a = text_back m.client_order_id in
-    let b = mass_response_back m.response in
-    let time : record { seconds = m.transact_time.seconds; microseconds = m.transact_time.microseconds }
-    ≡ m.transact_time = refl in
-    cc
+    ap (λ t. option_map (λ a. report.MassCancel (record { client = t; answer = a; time = m.transact_time }))
+    (answer_in (value_of mass_response_code mass_responses mass_response.Rejected
+    (figure (mass_response_code m.response))) m.reason)) (text_back m.client_order_id)
+    ∙ ap (λ r. option_map (λ a. report.MassCancel (record {
+      client = kept m.client_order_id;
+      answer = a;
+      time = m.transact_time;
+    })) (answer_in r m.reason)) (mass_response_back m.response)
+    ∙ mapped (λ a. record { client = kept m.client_order_id; answer = a; time = m.transact_time }) report.MassCancel
+    (answer_in m.response m.reason)
 contents_tell m = refl
 
 told_by : (bs : List ℕ) (m : Message) → verdict Follower bs ≡ None → opening Follower bs ≡ Ok (kind_of m)
     → Says (contents_of m) (table_of (kind_of m)) bs → decoded bs ≡ unwrap_or (report_in m) nothing_told
 told_by bs m v o s =
-    ap (λ x. cond (is_some x) nothing_told (told_in (opening Follower bs) bs)) v ∙ ap (λ r. told_in r bs) o ∙ ap
-    (told_from (kind_of m)) (all_got (table_of (kind_of m)) (contents_of m) bs s) ∙ contents_tell m
+    ap (λ x. cond (is_some x) nothing_told (unwrap_or (told_in (opening Follower bs) bs) nothing_told)) v
+    ∙ ap (λ o. unwrap_or o nothing_told) (ap (λ r. told_in r bs) o ∙ ap
+    (told_from (kind_of m)) (all_got (table_of (kind_of m)) (contents_of m) bs s) ∙ contents_tell m)
 
 -- what was read
 pub read_report : (bs : List ℕ) (m : Message) (r d : Report) (o : Option Report) → Reads Follower bs m → r
@@ -170,7 +189,8 @@ read_report bs m r d o h e a b =
     e ∙ ap (λ x. unwrap_or x d) a ∙ ap (unwrap_or (report_in m)) b ∙ sym (told_by bs m h.passes h.opens h.says)
 
 pub refused : (bs : List ℕ) (e : Fault) (r : Report) → verdict Follower bs ≡ Some e → r ≡ nothing_told → r ≡ decoded bs
-refused bs e r v h = h ∙ sym (ap (λ x. cond (is_some x) nothing_told (told_in (opening Follower bs) bs)) v)
+refused bs e r v h =
+    h ∙ sym (ap (λ x. cond (is_some x) nothing_told (unwrap_or (told_in (opening Follower bs) bs) nothing_told)) v)
 
 -- what was written
 report_is : (p : Partition) (n : ℕ) (r : Report) (m : Message) → kind_of m ≡ kind_told r → contents_of m

@@ -6,6 +6,7 @@ ghost use Rattle.wire_store.specs.Told.{decoded, nothing_told};
 
 use byte_store::codec::{Codec, Number};
 use codes::session::Partition;
+use refusals::Refusal;
 use report_messages::back::report_of;
 use report_messages::telling::Telling;
 use reports::report::{CancelReject, Report};
@@ -24,7 +25,7 @@ fn nothing_told() -> Report
 {
     Report::CancelReject(CancelReject {
         client: FixedText::empty(),
-        reason: 0,
+        reason: Refusal::NoSuchOrder,
         time: Time {
             seconds: 0,
             microseconds: 0,
