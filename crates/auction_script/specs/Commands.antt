@@ -75,7 +75,7 @@ abbrev pub EnterRead : List ℕ → List ℕ → List ℕ → List ℕ → List 
 EnterRead n i s k f p q (Ok (Enter m t)) =
     NumberRead 64 Number n (Ok m) × NumberRead 8 Instrument i (Ok t.instrument) × SideRead s (Ok t.side)
     × PricingRead k p t.pricing
-    × ForceRead f (Ok t.time_in_force) × NumberRead 32 Quantity q (Ok t.quantity) × (t.book ≡ Integrated)
+    × ForceRead f (Ok t.lifetime) × NumberRead 32 Quantity q (Ok t.quantity) × (t.book ≡ Integrated)
 EnterRead n i s k f p q (Ok (Cancel m)) = ⊥
 EnterRead n i s k f p q (Ok (Amend m r z)) = ⊥
 EnterRead n i s k f p q (Ok Run) = ⊥

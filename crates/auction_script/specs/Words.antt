@@ -6,8 +6,8 @@ use Rattle.codes.specs.declared.order.OrderType.{OrderType}
 use Rattle.codes.specs.declared.order.OrderType.TheVariants.{Market, Limit}
 use Rattle.codes.specs.declared.order.Side.{Side}
 use Rattle.codes.specs.declared.order.Side.TheVariants.{Buy, Sell}
-use Rattle.codes.specs.declared.order.TimeInForce.{TimeInForce}
-use Rattle.codes.specs.declared.order.TimeInForce.TheVariants.{Day, GoodTillCancel, ImmediateOrCancel, FillOrKill, GoodTillDate, GoodTillTime}
+use Rattle.terms.specs.declared.lifetime.Lifetime.{Lifetime}
+use Rattle.terms.specs.declared.lifetime.Lifetime.TheVariants.{Day, ImmediateOrCancel}
 use Rattle.texts.specs.declared.values.Price.{Price}
 use Rattle.auction_script.specs.declared.command.Misread.{Misread}
 use Rattle.auction_script.specs.declared.command.Misread.TheVariants as misread
@@ -29,13 +29,9 @@ KindRead w (Ok Market) = w ≡ codes "market"
 KindRead w (Ok Limit) = w ≡ codes "limit"
 KindRead w (Err e) = (e ≡ misread.OrderType) × Neither (codes "market") (codes "limit") w
 
-abbrev pub ForceRead : List ℕ → Result TimeInForce Misread → Type 0
+abbrev pub ForceRead : List ℕ → Result Lifetime Misread → Type 0
 ForceRead w (Ok Day) = w ≡ codes "day"
-ForceRead w (Ok GoodTillCancel) = ⊥
 ForceRead w (Ok ImmediateOrCancel) = w ≡ codes "ioc"
-ForceRead w (Ok FillOrKill) = ⊥
-ForceRead w (Ok GoodTillDate) = ⊥
-ForceRead w (Ok GoodTillTime) = ⊥
 ForceRead w (Err e) = (e ≡ misread.TimeInForce) × Neither (codes "day") (codes "ioc") w
 
 -- a number of k bits in decimal digits

@@ -84,7 +84,7 @@ fn enter(
     let instrument = words::instrument(instrument)?;
     let side = words::side(side)?;
     let kind = words::kind(kind)?;
-    let time_in_force = words::force(force)?;
+    let lifetime = words::force(force)?;
     let price = words::price(price)?;
     let quantity = words::quantity(quantity)?;
     Ok(Command::Enter(
@@ -93,7 +93,7 @@ fn enter(
             instrument,
             side,
             pricing: Pricing::new(kind, price),
-            time_in_force,
+            lifetime,
             quantity,
             book: Book::Integrated,
         },

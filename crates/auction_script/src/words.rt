@@ -3,7 +3,8 @@ ghost use Rattle.auction_script.specs.Words.{ForceRead, KindRead, NumberRead, Pr
 ghost use Rattle.auction_script.specs.declared.command.Misread.TheVariants as misread;
 
 use crate::command::Misread;
-use codes::order::{OrderType, Side, TimeInForce};
+use codes::order::{OrderType, Side};
+use terms::lifetime::Lifetime;
 use texts::values::Price;
 
 pub(crate) fn side(word: &str) -> Result<Side, Misread>
@@ -26,12 +27,12 @@ pub(crate) fn kind(word: &str) -> Result<OrderType, Misread>
     }
 }
 
-pub(crate) fn force(word: &str) -> Result<TimeInForce, Misread>
+pub(crate) fn force(word: &str) -> Result<Lifetime, Misread>
     ensures { ForceRead word.now result }
 {
     match word {
-        "day" => Ok(TimeInForce::Day),
-        "ioc" => Ok(TimeInForce::ImmediateOrCancel),
+        "day" => Ok(Lifetime::Day),
+        "ioc" => Ok(Lifetime::ImmediateOrCancel),
         _ => Err(Misread::TimeInForce),
     }
 }

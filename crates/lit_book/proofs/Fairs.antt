@@ -9,7 +9,7 @@ use Rattle.std.proofs.lemmas.Bool.{and_cases, and_left, and_parts, and_right, bo
 use Rattle.std.specs.List.{All}
 use Rattle.codes.specs.declared.order.Side.{Side}
 use Rattle.codes.specs.declared.order.Side.TheVariants.{Buy, Sell}
-use Rattle.codes.specs.declared.order.TimeInForce.{TimeInForce}
+use Rattle.terms.specs.declared.lifetime.Lifetime.{Lifetime}
 use Rattle.keyed.specs.Look.{look}
 use Rattle.keyed.proofs.Looks.{passes}
 use Rattle.matching.specs.declared.event.Event.{Event}
@@ -125,7 +125,7 @@ better_one_way : (s : Side) (p q : Price) → prefers s p q ≡ true → prefers
 better_one_way Buy p q h = grind (arith, ints)
 better_one_way Sell p q h = grind (arith, ints)
 
-refuses : (s : Side) (u t : Pricing) (f : TimeInForce) → lasting t f ≡ true → takes s u t ≡ false
+refuses : (s : Side) (u t : Pricing) (f : Lifetime) → lasting t f ≡ true → takes s u t ≡ false
     → accepts s u (price_of t) ≡ false
 refuses s u Market f h k = absurd (both_ways false refl h)
 refuses s u (Limit p) f h k = k
@@ -154,7 +154,7 @@ uncrossed_worse a o x c r l n =
     let k = third (eqb a.instrument x.instrument) (opposes a.side x.side)
     (takes a.side a.pricing x.pricing) same face n in
     accepts_better a.side a.pricing (price o) (price x) (crosses_accepts a o c)
-    (refuses a.side a.pricing x.pricing x.time_in_force r k)
+    (refuses a.side a.pricing x.pricing x.lifetime r k)
 
 -- no price is better than itself
 not_better : (s : Side) (p : Price) → prefers s p p ≡ false
@@ -252,7 +252,7 @@ self_uncrossed x = and_right (eqb x.instrument x.instrument) _ (and_left (oppose
     same Buy = refl
     same Sell = refl
 
-both_limits : (s s' : Side) (t t' : Pricing) (f f' : TimeInForce) → lasting t f ≡ true → lasting t' f' ≡ true
+both_limits : (s s' : Side) (t t' : Pricing) (f f' : Lifetime) → lasting t f ≡ true → lasting t' f' ≡ true
     → (opposes s s' && takes s t t') ≡ false → (opposes s' s && takes s' t' t) ≡ false
 both_limits s s' Market t' f f' h k e = absurd (both_ways false refl h)
 both_limits s s' (Limit l) Market f f' h k e = absurd (both_ways false refl k)
@@ -267,7 +267,7 @@ either_way x y r q e =
       | inl n ↦ and_left (eqb y.instrument x.instrument) _
           (ne_eqb _ _ (λ i. eqb-false x.instrument y.instrument n (sym i)))
       | inr n ↦ and_right (eqb y.instrument x.instrument) _
-          (both_limits x.side y.side x.pricing y.pricing x.time_in_force y.time_in_force r q n)
+          (both_limits x.side y.side x.pricing y.pricing x.lifetime y.lifetime r q n)
     ]
 
 clear_at : (x : Order) (xs : List Order) (i : ℕ) (d : Order) → i < length xs → clear_of x xs ≡ true

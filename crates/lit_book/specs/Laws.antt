@@ -4,9 +4,9 @@ use Rattle.std.specs.Fn.{iterate}
 use Rattle.std.specs.List.{All, take_while}
 use Rattle.codes.specs.declared.order.Side.{Side}
 use Rattle.codes.specs.declared.order.Side.TheVariants.{Buy, Sell}
-use Rattle.codes.specs.declared.order.TimeInForce.TheVariants.{Day}
 use Rattle.matching.specs.declared.event.Event.{Event}
 use Rattle.matching.specs.declared.event.Event.TheVariants.{Nothing, Expired, Trade}
+use Rattle.terms.specs.declared.lifetime.Lifetime.TheVariants.{Day}
 use Rattle.terms.specs.declared.pricing.Pricing.TheVariants.{Limit}
 use Rattle.texts.specs.declared.values.Price.{Price}
 use Rattle.lit_book.specs.declared.order.Order.{Order}
@@ -95,7 +95,7 @@ day_order n s p q = record {
   instrument = 0;
   side = s;
   pricing = Limit (at_price p);
-  time_in_force = Day;
+  lifetime = Day;
   quantity = q;
 }
 

@@ -2,8 +2,8 @@
 use Rattle.std.specs.Prelude.{ℕ, Bool, true, false, if◌then◌else◌, ◌&&◌, ◌||◌, Some, None, Option, ◌==◌, nat_lt, int_le, int_lt}
 use Rattle.codes.specs.declared.order.Side.{Side}
 use Rattle.codes.specs.declared.order.Side.TheVariants.{Buy, Sell}
-use Rattle.codes.specs.declared.order.TimeInForce.{TimeInForce}
-use Rattle.codes.specs.declared.order.TimeInForce.TheVariants.{Day}
+use Rattle.terms.specs.declared.lifetime.Lifetime.{Lifetime}
+use Rattle.terms.specs.declared.lifetime.Lifetime.TheVariants.{Day, ImmediateOrCancel}
 use Rattle.terms.specs.declared.pricing.Pricing.{Pricing}
 use Rattle.terms.specs.declared.pricing.Pricing.TheVariants.{Market, Limit}
 use Rattle.terms.specs.Pricing.{price_of}
@@ -50,16 +50,16 @@ abbrev pub better_at : Order → Option (ℕ × Price) → ℕ → Order → Opt
 better_at a found i o = if crosses a o && betters a.side (price o) found then Some (i, price o) else found
 
 -- of what does not trade, only a Day limit order comes to rest
-abbrev pub is_day : TimeInForce → Bool
+abbrev pub is_day : Lifetime → Bool
 is_day Day = true
-is_day t = false
+is_day ImmediateOrCancel = false
 
-abbrev pub lasting : Pricing → TimeInForce → Bool
+abbrev pub lasting : Pricing → Lifetime → Bool
 lasting Market t = false
 lasting (Limit p) t = is_day t
 
 abbrev pub rests : Order → Bool
-rests o = lasting o.pricing o.time_in_force
+rests o = lasting o.pricing o.lifetime
 
 -- ---- the same order with another quantity or limit
 

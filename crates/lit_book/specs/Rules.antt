@@ -24,7 +24,7 @@ order_of n t = record {
   instrument = t.instrument;
   side = t.side;
   pricing = t.pricing;
-  time_in_force = t.time_in_force;
+  lifetime = t.lifetime;
   quantity = t.quantity;
 }
 

@@ -5,10 +5,11 @@ ghost use Rattle.lit_book.specs.Orders.{accepts, better_at, crosses, goes_back, 
 ghost use Rattle.lit_book.specs.Rules.{order_of};
 ghost use Rattle.lit_book.specs.Texts.{order_text, pricing_text};
 
-use codes::order::{Side, TimeInForce};
+use codes::order::Side;
 use keyed::Numbered;
 use matching::matcher::Terms;
 use std::fmt;
+use terms::lifetime::Lifetime;
 use terms::pricing::Pricing;
 use texts::values::Price;
 
@@ -19,7 +20,7 @@ pub struct Order {
     pub instrument: u8,
     pub side: Side,
     pub pricing: Pricing,
-    pub time_in_force: TimeInForce,
+    pub lifetime: Lifetime,
     /// The open quantity, in shares.
     pub quantity: u32,
 }
@@ -73,7 +74,7 @@ impl Order {
             instrument: terms.instrument,
             side: terms.side,
             pricing: terms.pricing,
-            time_in_force: terms.time_in_force,
+            lifetime: terms.lifetime,
             quantity: terms.quantity,
         }
     }
@@ -164,8 +165,8 @@ impl Order {
     pub(crate) fn rests(&self) -> bool
         ensures { result ≡ rests self.now }
     {
-        match (self.pricing, self.time_in_force) {
-            (Pricing::Limit(_), TimeInForce::Day) => true,
+        match (self.pricing, self.lifetime) {
+            (Pricing::Limit(_), Lifetime::Day) => true,
             _ => false,
         }
     }

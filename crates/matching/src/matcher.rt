@@ -12,8 +12,9 @@ ghost use Rattle.matching.specs.Texts.{refusal_text};
 ghost use Rattle.matching.specs.declared.event.Event.{Event as Happening};
 
 use crate::event::Event;
-use codes::order::{Book, Side, TimeInForce};
+use codes::order::{Book, Side};
 use std::fmt;
+use terms::lifetime::Lifetime;
 use terms::pricing::Pricing;
 use texts::values::Price;
 
@@ -23,7 +24,7 @@ pub struct Terms {
     pub instrument: u8,
     pub side: Side,
     pub pricing: Pricing,
-    pub time_in_force: TimeInForce,
+    pub lifetime: Lifetime,
     /// The open quantity, in shares.
     pub quantity: u32,
     pub book: Book,

@@ -3,13 +3,14 @@
 
 #[cfg(test)]
 mod tests {
-    use codes::order::{Book, Side, TimeInForce};
+    use codes::order::{Book, Side};
     use lit_book::book::LitBook;
     use matching::event::Event;
     use matching::matcher::{Matcher, Refusal, Terms};
     use matching::tape::{Line, Tape};
     use queue::Queue;
     use std::test::Fail;
+    use terms::lifetime::Lifetime;
     use terms::pricing::Pricing;
     use texts::values::Price;
 
@@ -18,7 +19,7 @@ mod tests {
             instrument: 0,
             side,
             pricing: Pricing::Limit(Price { raw: price }),
-            time_in_force: TimeInForce::Day,
+            lifetime: Lifetime::Day,
             quantity,
             book: Book::Integrated,
         }
@@ -132,7 +133,7 @@ mod tests {
             instrument: 0,
             side: Side::Sell,
             pricing: Pricing::Market,
-            time_in_force: TimeInForce::ImmediateOrCancel,
+            lifetime: Lifetime::ImmediateOrCancel,
             quantity: 15,
             book: Book::Integrated,
         };

@@ -98,7 +98,8 @@ impl Trades {
         Some(self.trades.len() as u64)
     }
 
-    /// Marks a trade as cancelled, and answers it as it was; a refusal changes nothing.
+    /// Marks a trade as cancelled, and answers it as it was. Refused with 42 where there is no such trade, and 43 where
+    /// it was cancelled before; then nothing changes.
     pub fn cancel(&mut self, number: u64) -> Result<Trade, TradeRefusal>
         ensures { Voids self.old number result self.new }
     {

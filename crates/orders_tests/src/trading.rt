@@ -1,10 +1,11 @@
 // An order's life in its table.
-use codes::order::{AutoCancel, Book, OrderType, Side, TimeInForce};
+use codes::order::{AutoCancel, Book, OrderType, Side};
 use codes::report::Capacity;
 use orders::order::Order;
 use orders::row::{Ask, Ending, Terms};
 use orders::table::Table;
 use std::test::Fail;
+use terms::lifetime::Lifetime;
 use texts::fixed::FixedText;
 use texts::values::Price;
 
@@ -15,7 +16,7 @@ fn terms(owner: usize) -> Terms {
         side: Side::Buy,
         book: Book::Integrated,
         kind: OrderType::Limit,
-        time_in_force: TimeInForce::Day,
+        lifetime: Lifetime::Day,
         capacity: Capacity::Principal,
         auto_cancel: AutoCancel::Keep,
     }

@@ -9,7 +9,7 @@ use Rattle.requests.specs.MassCancels.{accepted, refused, told_everywhere, swept
 use Rattle.requests.specs.Outcomes.{Outcome, Gives, spare}
 use Rattle.requests.specs.Outcomes.Outcome.{Refused, Done}
 use Rattle.requests.specs.declared.listing.Listing.{Listing}
-use Rattle.requests.specs.declared.refusal.Turned.TheVariants.{NoPlace}
+use Rattle.refusals.specs.declared.Turned.TheVariants.{NoPlace}
 use Rattle.texts.specs.declared.fixed.FixedText.{FixedText}
 use Rattle.codes.specs.declared.session.Partition.{Partition}
 use Rattle.configuration.specs.declared.instrument.Instrument.{Instrument}

@@ -1,5 +1,5 @@
 -- What a Cancel Request gets. Assumes nothing.
-use Rattle.std.specs.Prelude.{ℕ, pos, Some, None, Ok, Err, Option, Result, nat_lt, if◌then◌else◌}
+use Rattle.std.specs.Prelude.{ℕ, Some, None, Ok, Err, Option, Result, nat_lt, if◌then◌else◌}
 use Rattle.codes.specs.declared.order.Book.{Book}
 use Rattle.matching.specs.Meaning.{serves}
 use Rattle.order_messages.specs.declared.order_cancel_request.OrderCancelRequest.{OrderCancelRequest}
@@ -11,12 +11,11 @@ use Rattle.requests.specs.Instruments.{look_up}
 use Rattle.requests.specs.Naming.{named}
 use Rattle.requests.specs.Outcomes.{Outcome, spare}
 use Rattle.requests.specs.Outcomes.Outcome.{Refused, Done}
-use Rattle.requests.specs.Refusals.{refusal_number}
 use Rattle.requests.specs.declared.listing.Listing.{Listing}
 use Rattle.requests.specs.declared.naming.Naming.{Naming}
-use Rattle.requests.specs.declared.refusal.Refusal.{Refusal}
-use Rattle.requests.specs.declared.refusal.Refusal.TheVariants.{BookNotServed}
-use Rattle.requests.specs.declared.refusal.Turned.TheVariants.{UnknownInstrument, NoPlace}
+use Rattle.refusals.specs.declared.Refusal.{Refusal}
+use Rattle.refusals.specs.declared.Refusal.TheVariants.{BookNotServed}
+use Rattle.refusals.specs.declared.Turned.TheVariants.{UnknownInstrument, NoPlace}
 use Rattle.texts.specs.Says.{says, kept}
 use Rattle.texts.specs.declared.fixed.FixedText.{FixedText}
 use Rattle.texts.specs.declared.values.Time.{Time}
@@ -31,7 +30,7 @@ served b n v = if serves v.market b then named n v.rows else Err BookNotServed
 abbrev pub refusal_entry : ℕ → Refusal → FixedText 20 → Time → Entry
 refusal_entry line e client t = record {
   owner = line;
-  report = CancelReject (record { client = client; reason = pos (refusal_number e); time = t });
+  report = CancelReject (record { client = client; reason = e; time = t });
 }
 
 abbrev pub refuses : ℕ → Refusal → FixedText 20 → Listing → Time → View → Outcome

@@ -7,8 +7,6 @@ use Rattle.codes.specs.declared.order.OrderType.{OrderType}
 use Rattle.codes.specs.declared.order.OrderType.TheVariants as kind
 use Rattle.codes.specs.declared.order.PassiveOnly.{PassiveOnly}
 use Rattle.codes.specs.declared.order.PassiveOnly.TheVariants as passive
-use Rattle.codes.specs.declared.order.TimeInForce.{TimeInForce}
-use Rattle.codes.specs.declared.order.TimeInForce.TheVariants as tif
 use Rattle.codes.specs.declared.report.Capacity.{Capacity}
 use Rattle.codes.specs.declared.report.Capacity.TheVariants as told
 use Rattle.orders.specs.Rows.{orderable}
@@ -41,12 +39,6 @@ is_priced (Limit p) = is_above_zero p
 abbrev pub may_cost : OrderType → Price → Bool
 may_cost kind.Market p = true
 may_cost kind.Limit p = is_above_zero p
-
--- an order stays for the day, or is not to rest
-abbrev pub is_timely : TimeInForce → Bool
-is_timely tif.Day = true
-is_timely tif.ImmediateOrCancel = true
-is_timely _ = false
 
 abbrev pub is_own : OrderCapacity → Bool
 is_own capacity.CfdGiveUp = false

@@ -1,7 +1,6 @@
 pub mod Outcomes
 pub mod Instruments
 pub mod Checks
-pub mod Refusals
 pub mod NewOrders
 pub mod Naming
 pub mod Cancels

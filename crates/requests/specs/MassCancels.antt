@@ -1,10 +1,8 @@
 -- What a Mass Cancel Request gets. Assumes nothing.
-use Rattle.std.specs.Prelude.{ℕ, ◌+◌, ◌-◌, Bool, true, false, ◌&&◌, List, pos, slice_get, Some, None, Option, ◌==◌, nat_lt, if◌then◌else◌}
+use Rattle.std.specs.Prelude.{ℕ, ◌+◌, ◌-◌, Bool, true, false, ◌&&◌, List, slice_get, Some, None, Option, ◌==◌, nat_lt, if◌then◌else◌}
 use Rattle.std.specs.List.{list_any}
 use Rattle.std.specs.Str.{bytes_eq}
 use Rattle.codes.specs.declared.order.Book.{Book}
-use Rattle.codes.specs.declared.report.MassResponse.{MassResponse}
-use Rattle.codes.specs.declared.report.MassResponse.TheVariants as response
 use Rattle.codes.specs.declared.session.Partition.TheVariants.{One, Two, Three}
 use Rattle.configuration.specs.declared.instrument.Instrument.{Instrument}
 use Rattle.configuration.specs.declared.participant.Participant.{Participant}
@@ -15,14 +13,15 @@ use Rattle.order_messages.specs.declared.order_mass_cancel_request.Scope.TheVari
 use Rattle.orders.specs.Tables.{open_count}
 use Rattle.orders.specs.declared.row.Row.{Row}
 use Rattle.reports.specs.declared.report.Entry.{Entry}
+use Rattle.reports.specs.declared.report.MassAnswer.{MassAnswer}
+use Rattle.reports.specs.declared.report.MassAnswer.TheVariants.{Accepted, Rejected}
 use Rattle.reports.specs.declared.report.Report.TheVariants.{MassCancel}
 use Rattle.requests.specs.Instruments.{look_up}
 use Rattle.requests.specs.Outcomes.{Outcome, spare}
 use Rattle.requests.specs.Outcomes.Outcome.{Refused, Done}
-use Rattle.requests.specs.Refusals.{refusal_number}
 use Rattle.requests.specs.declared.listing.Listing.{Listing}
-use Rattle.requests.specs.declared.refusal.Refusal.TheVariants.{BookNotServed}
-use Rattle.requests.specs.declared.refusal.Turned.TheVariants.{UnknownInstrument, NoPlace}
+use Rattle.refusals.specs.declared.Refusal.TheVariants.{BookNotServed}
+use Rattle.refusals.specs.declared.Turned.TheVariants.{UnknownInstrument, NoPlace}
 use Rattle.texts.specs.Bytes.{said}
 use Rattle.texts.specs.Says.{says, kept}
 use Rattle.texts.specs.declared.values.Time.{Time}
@@ -55,17 +54,17 @@ has_segment is s = list_any (λ i. bytes_eq (said i.segment.bytes) s) is
 
 -- ---- the reports to the requester, and the withdrawals
 
-abbrev pub mass_entry : ℕ → OrderMassCancelRequest → MassResponse → ℕ → Time → Entry
-mass_entry line m r reason t = record {
+abbrev pub mass_entry : ℕ → OrderMassCancelRequest → MassAnswer → Time → Entry
+mass_entry line m a t = record {
   owner = line;
-  report = MassCancel (record { client = kept m.client_order_id.text; response = r; reason = pos reason; time = t });
+  report = MassCancel (record { client = kept m.client_order_id.text; answer = a; time = t });
 }
 
 abbrev pub accepted : ℕ → OrderMassCancelRequest → Time → Entry
-accepted line m t = mass_entry line m response.Accepted 0 t
+accepted line m t = mass_entry line m Accepted t
 
 abbrev pub refused : ℕ → OrderMassCancelRequest → Time → Entry
-refused line m t = mass_entry line m response.Rejected (refusal_number BookNotServed) t
+refused line m t = mass_entry line m (Rejected BookNotServed) t
 
 -- in each partition
 abbrev pub told_everywhere : Entry → View → View

@@ -5,8 +5,8 @@ use Rattle.keyed.specs.Numbers.{under}
 use Rattle.orders.specs.Tables.{latest, owned}
 use Rattle.orders.specs.declared.row.Row.{Row}
 use Rattle.requests.specs.declared.naming.Naming.{Naming}
-use Rattle.requests.specs.declared.refusal.Refusal.{Refusal}
-use Rattle.requests.specs.declared.refusal.Refusal.TheVariants.{NoSuchOrder, NotOpen}
+use Rattle.refusals.specs.declared.Refusal.{Refusal}
+use Rattle.refusals.specs.declared.Refusal.TheVariants.{NoSuchOrder, NotOpen}
 use Rattle.texts.specs.Bytes.{said}
 use Rattle.texts.specs.declared.fixed.FixedText.{FixedText}
 use Rattle.texts.specs.declared.identifiers.OrderId.{OrderId}

@@ -2,7 +2,7 @@
 use Rattle.std.specs.Prelude.{◌≡◌, ℕ, ◌-◌, None, Err, Result}
 use Rattle.std.specs.Result.{result_err}
 use Rattle.orders.specs.Tables.{open_count}
-use Rattle.requests.specs.declared.refusal.Turned.{Turned}
+use Rattle.refusals.specs.declared.Turned.{Turned}
 use Rattle.venue.specs.View.{View}
 use Rattle.venue.specs.Steps.{Leaves}
 

@@ -1,21 +1,21 @@
 -- What a Cancel/Replace Request gets. Assumes nothing.
-use Rattle.std.specs.Prelude.{ℕ, ◌&&◌, Some, None, Ok, Err, Option, Result, ◌==◌, nat_le, nat_lt, if◌then◌else◌}
+use Rattle.std.specs.Prelude.{ℕ, ◌&&◌, Some, None, Ok, Err, Option, Result, nat_le, nat_lt, if◌then◌else◌}
 use Rattle.std.specs.Option.{option_map}
-use Rattle.codes.specs.Order.{time_in_force_code}
 use Rattle.order_messages.specs.declared.order_cancel_replace_request.OrderCancelReplaceRequest.{OrderCancelReplaceRequest}
 use Rattle.orders.specs.declared.row.Ask.{Ask}
 use Rattle.orders.specs.declared.row.Row.{Row}
 use Rattle.requests.specs.Cancels.{served, refuses}
-use Rattle.requests.specs.Checks.{shown, is_plain, may_cost, is_timely}
+use Rattle.requests.specs.Checks.{shown, is_plain, may_cost}
 use Rattle.requests.specs.Instruments.{look_up}
 use Rattle.requests.specs.Outcomes.{Outcome, spare}
 use Rattle.requests.specs.Outcomes.Outcome.{Refused, Done}
 use Rattle.requests.specs.declared.listing.Listing.{Listing}
 use Rattle.requests.specs.declared.naming.Naming.{Naming}
-use Rattle.requests.specs.declared.refusal.Refusal.{Refusal}
-use Rattle.requests.specs.declared.refusal.Refusal.TheVariants.{BadTerms, NotAboveExecuted, TimeInForceDiffers}
-use Rattle.requests.specs.declared.refusal.Turned.TheVariants.{UnknownInstrument, NoPlace}
+use Rattle.refusals.specs.declared.Refusal.{Refusal}
+use Rattle.refusals.specs.declared.Refusal.TheVariants.{BadTerms, NotAboveExecuted, TimeInForceDiffers}
+use Rattle.refusals.specs.declared.Turned.TheVariants.{UnknownInstrument, NoPlace}
 use Rattle.requests.specs.declared.replace.Replacement.{Replacement}
+use Rattle.terms.specs.Lifetime.{is_asked}
 use Rattle.terms.specs.Target.{book_of}
 use Rattle.texts.specs.Says.{says, kept}
 use Rattle.texts.specs.declared.values.Time.{Time}
@@ -30,10 +30,10 @@ asks m q = record {
   quantity = q;
 }
 
--- what it asks for, of an order
+-- what it asks for, of an order whose time in force it has
 abbrev pub ask_of : OrderCancelReplaceRequest → Row → Option Ask
 ask_of m r =
-    if may_cost r.terms.kind m.limit_price && is_plain m.min_quantity m.passive_only && is_timely m.time_in_force
+    if may_cost r.terms.kind m.limit_price && is_plain m.min_quantity m.passive_only
     then option_map (asks m) (shown m.quantity m.display_quantity)
     else None
 
@@ -46,8 +46,7 @@ above r (Some a) =
 abbrev pub of_row : OrderCancelReplaceRequest → Result Row Refusal → Result Replacement Refusal
 of_row m (Err e) = Err e
 of_row m (Ok r) =
-    if time_in_force_code r.terms.time_in_force == time_in_force_code m.time_in_force then above r (ask_of m r)
-    else Err TimeInForceDiffers
+    if is_asked m.time_in_force r.terms.lifetime then above r (ask_of m r) else Err TimeInForceDiffers
 
 abbrev pub named_by : ℕ → Listing → OrderCancelReplaceRequest → Naming
 named_by line l m = record {

@@ -7,11 +7,11 @@ ghost use Rattle.requests.specs.Outcomes.{Gives};
 
 use crate::listing::{Listing, look_up};
 use crate::naming::Naming;
-use crate::refusal::{Refusal, Turned};
 use codes::order::Book;
 use matching::matcher::Matcher;
 use order_messages::order_cancel_request::OrderCancelRequest;
 use orders::row::Row;
+use refusals::{Refusal, Turned};
 use reports::report::{CancelReject, Entry, Report};
 use store::Store;
 use texts::fixed::FixedText;
@@ -48,7 +48,7 @@ pub(crate) fn refuse<M: Matcher, S: Store>(
 {
     let report = Report::CancelReject(CancelReject {
         client,
-        reason: i32::from(refusal.number()),
+        reason: refusal,
         time,
     });
     let entry = Entry {

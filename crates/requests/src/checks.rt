@@ -1,8 +1,8 @@
 // What an order may ask for.
 ghost use Rattle.std.specs.Prelude.{◌≡◌, true};
-ghost use Rattle.requests.specs.Checks.{shares, shown, is_plain, is_above_zero, is_priced, may_cost, is_timely, is_own, told_capacity};
+ghost use Rattle.requests.specs.Checks.{shares, shown, is_plain, is_above_zero, is_priced, may_cost, is_own, told_capacity};
 
-use codes::order::{OrderCapacity, OrderType, PassiveOnly, TimeInForce};
+use codes::order::{OrderCapacity, OrderType, PassiveOnly};
 use codes::report::Capacity;
 use limits::SHARES;
 use terms::pricing::Pricing;
@@ -58,15 +58,6 @@ pub(crate) fn may_cost(kind: OrderType, price: Price) -> bool
     match kind {
         OrderType::Market => true,
         OrderType::Limit => is_above_zero(price),
-    }
-}
-
-pub(crate) fn is_timely(time_in_force: TimeInForce) -> bool
-    ensures { result ≡ is_timely time_in_force }
-{
-    match time_in_force {
-        TimeInForce::Day | TimeInForce::ImmediateOrCancel => true,
-        _ => false,
     }
 }
 

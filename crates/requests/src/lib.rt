@@ -7,5 +7,4 @@ pub mod listing;
 pub mod mass_cancel;
 pub mod naming;
 pub mod new_order;
-pub mod refusal;
 pub mod replace;

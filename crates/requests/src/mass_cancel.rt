@@ -11,15 +11,14 @@ ghost use Rattle.venue.specs.declared.selection.Scope.TheVariants.{All};
 ghost use Rattle.venue.specs.Steps.{Leaves, Silent};
 
 use crate::listing::look_up;
-use crate::refusal::{Refusal, Turned};
 use codes::order::Book;
-use codes::report::MassResponse;
 use codes::session::Partition;
 use configuration::instrument::Instrument;
 use configuration::participant::Participant;
 use matching::matcher::Matcher;
 use order_messages::order_mass_cancel_request::{OrderMassCancelRequest, Scope};
-use reports::report::{Entry, MassCancelReport, Report};
+use refusals::{Refusal, Turned};
+use reports::report::{Entry, MassAnswer, MassCancelReport, Report};
 use store::Store;
 use texts::values::Time;
 use venue::selection::{Cause, Owners, Scope as Reach, Selection};
@@ -39,21 +38,14 @@ fn has_segment(instruments: &[Instrument], segment: &[u8]) -> bool
         .any(|instrument| is_of(instrument, segment))
 }
 
-fn mass_entry(
-    line: usize,
-    m: &OrderMassCancelRequest<'_>,
-    response: MassResponse,
-    reason: u8,
-    time: Time,
-) -> Entry
-    ensures { result ≡ mass_entry line m.now response reason time }
+fn mass_entry(line: usize, m: &OrderMassCancelRequest<'_>, answer: MassAnswer, time: Time) -> Entry
+    ensures { result ≡ mass_entry line m.now answer time }
 {
     Entry {
         owner: line,
         report: Report::MassCancel(MassCancelReport {
             client: m.client_order_id.text.keep(),
-            response,
-            reason: i32::from(reason),
+            answer,
             time,
         }),
     }
@@ -62,19 +54,13 @@ fn mass_entry(
 fn accepted(line: usize, m: &OrderMassCancelRequest<'_>, time: Time) -> Entry
     ensures { result ≡ accepted line m.now time }
 {
-    mass_entry(line, m, MassResponse::Accepted, 0, time)
+    mass_entry(line, m, MassAnswer::Accepted, time)
 }
 
 fn refused(line: usize, m: &OrderMassCancelRequest<'_>, time: Time) -> Entry
     ensures { result ≡ refused line m.now time }
 {
-    mass_entry(
-        line,
-        m,
-        MassResponse::Rejected,
-        Refusal::BookNotServed.number(),
-        time,
-    )
+    mass_entry(line, m, MassAnswer::Rejected(Refusal::BookNotServed), time)
 }
 
 // Tells a requester in each partition.

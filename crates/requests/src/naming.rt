@@ -4,12 +4,12 @@ ghost use Rattle.keyed.specs.Numbers.{under};
 ghost use Rattle.orders.specs.Tables.{owned};
 ghost use Rattle.requests.specs.Naming.{found, agrees, named};
 
-use crate::refusal::Refusal;
 use codes::code::Code;
 use codes::order::{Book, Side};
 use matching::matcher::Matcher;
 use orders::order::Order;
 use orders::row::Row;
+use refusals::Refusal;
 use store::Store;
 use texts::fixed::FixedText;
 use texts::identifiers::OrderId;

@@ -2,45 +2,55 @@
 ghost use Rattle.std.specs.Prelude.{◌≡◌, ◌≤◌, ◌<◌, ◌+◌, true, IfSome, IfOk};
 ghost use Rattle.orders.specs.Rows.{orderable};
 ghost use Rattle.orders.specs.Tables.{open_count};
-ghost use Rattle.requests.specs.NewOrders.{ask_of, asked, terms_of, rejected, rejects, new_order};
+ghost use Rattle.requests.specs.NewOrders.{placement_of, asked, terms_of, refusal_of, rejected, rejects, new_order};
 ghost use Rattle.requests.specs.Outcomes.{Gives};
 
-use crate::checks::{is_own, is_plain, is_priced, is_timely, shown, told_capacity};
+use crate::checks::{is_own, is_plain, is_priced, shown, told_capacity};
 use crate::listing::{Listing, look_up};
-use crate::refusal::{Refusal, Turned};
 use codes::report::Status;
 use matching::matcher::Matcher;
 use order_messages::new_order::NewOrder;
 use orders::row::{Ask, Terms};
+use refusals::{Refusal, Turned};
 use reports::report::{Entry, ExecutionReport, Report};
 use store::Store;
 use terms::execution::Execution;
+use terms::lifetime::Lifetime;
 use texts::values::{Price, Time};
+use venue::refusal::AcceptRefusal;
 use venue::venue::Venue;
 
+/// How long a New Order that is taken waits, and what it asks for.
+#[derive(Clone, Copy)]
+pub struct Placement {
+    pub lifetime: Lifetime,
+    pub ask: Ask,
+}
+
 // What it asks for; none where that is not taken.
-fn ask_of(m: &NewOrder<'_>) -> Option<Ask>
-    ensures value { result ≡ ask_of m.now }
-    ensures orderable { IfSome result (λ a. orderable a.quantity ≡ true) }
+fn placement_of(m: &NewOrder<'_>) -> Option<Placement>
+    ensures value { result ≡ placement_of m.now }
+    ensures orderable { IfSome result (λ p. orderable p.ask.quantity ≡ true) }
 {
     let fits = is_priced(m.pricing)
         && is_plain(m.min_quantity, m.passive_only)
-        && is_timely(m.time_in_force)
         && is_own(m.capacity);
     if !fits {
         return None;
     }
+    let lifetime = Lifetime::of(m.time_in_force)?;
     let quantity = shown(m.quantity, m.display_quantity)?;
-    Some(Ask {
+    let ask = Ask {
         client: m.client_order_id.text.keep(),
         price: m.pricing.price(),
         display: m.display_quantity,
         quantity,
-    })
+    };
+    Some(Placement { lifetime, ask })
 }
 
-fn terms_of(line: usize, place: usize, m: &NewOrder<'_>) -> Terms
-    ensures { result ≡ terms_of line place m.now }
+fn terms_of(line: usize, place: usize, lifetime: Lifetime, m: &NewOrder<'_>) -> Terms
+    ensures { result ≡ terms_of line place lifetime m.now }
 {
     Terms {
         owner: line,
@@ -48,7 +58,7 @@ fn terms_of(line: usize, place: usize, m: &NewOrder<'_>) -> Terms
         side: m.side,
         book: m.target.book(),
         kind: m.pricing.order_type(),
-        time_in_force: m.time_in_force,
+        lifetime,
         capacity: told_capacity(m.capacity),
         auto_cancel: m.auto_cancel,
     }
@@ -60,7 +70,7 @@ fn rejected(refusal: Refusal, listing: &Listing, m: &NewOrder<'_>, time: Time) -
     ExecutionReport {
         client: m.client_order_id.text.keep(),
         order: None,
-        execution: Execution::Rejected(i32::from(refusal.number())),
+        execution: Execution::Rejected(refusal),
         reference: None,
         status: Status::Rejected,
         price: Price { raw: 0 },
@@ -73,6 +83,16 @@ fn rejected(refusal: Refusal, listing: &Listing, m: &NewOrder<'_>, time: Time) -
         time,
         book: m.target.book(),
         capacity: told_capacity(m.capacity),
+    }
+}
+
+// Why an order is not accepted, where it has no place.
+fn refusal_of(refusal: AcceptRefusal) -> Refusal
+    ensures { result ≡ refusal_of refusal }
+{
+    match refusal {
+        AcceptRefusal::OrdersFull => Refusal::OrdersFull,
+        AcceptRefusal::MatcherFull => Refusal::MatcherFull,
     }
 }
 
@@ -98,14 +118,14 @@ fn reject<M: Matcher, S: Store>(
 }
 
 // Why it is not accepted, before there is a place for it; else what it asks for.
-fn asked<M: Matcher, S: Store>(venue: &Venue<M, S>, m: &NewOrder<'_>) -> Result<Ask, Refusal>
+fn asked<M: Matcher, S: Store>(venue: &Venue<M, S>, m: &NewOrder<'_>) -> Result<Placement, Refusal>
     ensures value { result ≡ asked m.now venue.now }
-    ensures orderable { IfOk result (λ a. orderable a.quantity ≡ true) }
+    ensures orderable { IfOk result (λ p. orderable p.ask.quantity ≡ true) }
 {
     if !venue.matcher().serves(m.target.book()) {
         return Err(Refusal::BookNotServed);
     }
-    ask_of(m).ok_or(Refusal::BadTerms)
+    placement_of(m).ok_or(Refusal::BadTerms)
 }
 
 /// Accepts an order of a line's CompID, or reports why not. Turned down, nothing changes.
@@ -125,11 +145,11 @@ pub fn new_order<M: Matcher, S: Store>(
     }
     match asked(venue, m) {
         Err(refusal) => reject(venue, line, refusal, &listing, m, time),
-        Ok(ask) => {
-            let terms = terms_of(line, listing.place, m);
-            match venue.accept(terms, ask, time) {
+        Ok(placement) => {
+            let terms = terms_of(line, listing.place, placement.lifetime, m);
+            match venue.accept(terms, placement.ask, time) {
                 Ok(_) => Ok(()),
-                Err(e) => reject(venue, line, Refusal::of_accept(e), &listing, m, time),
+                Err(e) => reject(venue, line, refusal_of(e), &listing, m, time),
             }
         }
     }

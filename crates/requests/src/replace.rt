@@ -6,14 +6,13 @@ ghost use Rattle.requests.specs.Outcomes.{Gives};
 ghost use Rattle.venue.specs.Steps.{Replaceable};
 
 use crate::cancel::{refuse, served};
-use crate::checks::{is_plain, is_timely, may_cost, shown};
+use crate::checks::{is_plain, may_cost, shown};
 use crate::listing::{Listing, look_up};
 use crate::naming::Naming;
-use crate::refusal::{Refusal, Turned};
-use codes::code::Code;
 use matching::matcher::Matcher;
 use order_messages::order_cancel_replace_request::OrderCancelReplaceRequest;
 use orders::row::{Ask, Row};
+use refusals::{Refusal, Turned};
 use store::Store;
 use texts::values::Time;
 use venue::venue::Venue;
@@ -25,14 +24,12 @@ pub struct Replacement {
     pub ask: Ask,
 }
 
-// What it asks for of an order; none where that is not taken.
+// What it asks for of an order, whose time in force it has; none where that is not taken.
 fn ask_of(m: &OrderCancelReplaceRequest<'_>, row: &Row) -> Option<Ask>
     ensures value { result ≡ ask_of m.now row.now }
     ensures orderable { IfSome result (λ a. orderable a.quantity ≡ true) }
 {
-    let fits = may_cost(row.terms.kind, m.limit_price)
-        && is_plain(m.min_quantity, m.passive_only)
-        && is_timely(m.time_in_force);
+    let fits = may_cost(row.terms.kind, m.limit_price) && is_plain(m.min_quantity, m.passive_only);
     if !fits {
         return None;
     }
@@ -70,7 +67,7 @@ fn judge<M: Matcher, S: Store>(
     ensures allowed { IfOk result (λ r. Replaceable venue.now r.number r.ask) }
 {
     let row = served(venue, m.target.book(), &named_by(line, listing, m))?;
-    if row.terms.time_in_force.byte() != m.time_in_force.byte() {
+    if !row.terms.lifetime.is_asked(m.time_in_force) {
         return Err(Refusal::TimeInForceDiffers);
     }
     let ask = ask_of(m, &row).ok_or(Refusal::BadTerms)?;

@@ -1,3 +1,4 @@
 pub mod Execution
+pub mod Lifetime
 pub mod Pricing
 pub mod Target

@@ -9,7 +9,7 @@ request_of s a = record {
   instrument = s.instrument;
   side = s.side;
   pricing = pricing_of s.kind a.price;
-  time_in_force = s.time_in_force;
+  lifetime = s.lifetime;
   quantity = a.quantity;
   book = s.book;
 }

@@ -19,7 +19,7 @@ pub(crate) fn request_of(terms: &Terms, ask: &Ask) -> Request
         instrument: terms.instrument as u8,
         side: terms.side,
         pricing: Pricing::new(terms.kind, ask.price),
-        time_in_force: terms.time_in_force,
+        lifetime: terms.lifetime,
         quantity: ask.quantity,
         book: terms.book,
     }
