@@ -13,6 +13,7 @@ use Rattle.wire.specs.Plain.{plain}
 use Rattle.answers.specs.declared.answer.Answer.{Answer}
 use Rattle.answers.specs.declared.answer.Answer.TheVariants as answer
 use Rattle.answers.specs.Bytes.{answer_bytes}
+use Rattle.answers.specs.Numbers.{admission_number, reason_number}
 use Rattle.answers.specs.Sent.{Sent}
 use Rattle.answers.specs.Told.{Told, Answers, AnswerTold}
 use Rattle.answers.proofs.Heard.{heard}
@@ -36,17 +37,18 @@ answers_plain r a b e h = answers_from r a (subst (Answers r) (sym e) (answers_t
 form : (a : Answer) (m : Message) → Answers a m → written m ≡ answer_bytes a
 form (answer.LogonReply c) (message.LogonReply m) h =
     ap (λ x. message_bytes kind.LogonReply (int32 x ∷ words (says m.expiry_days) ∷ [])) h.0 ∙ ap
-    (λ x. message_bytes kind.LogonReply (int32 c ∷ words x ∷ [])) h.1
+    (λ x. message_bytes kind.LogonReply (int32 (pos (admission_number c)) ∷ words x ∷ [])) h.1
 form (answer.Ack r) (message.MissedMessageRequestAck m) h =
     ap (λ x. message_bytes kind.MissedMessageRequestAck (figure (ack_response_code x) ∷ [])) h
 form (answer.Reject r) (message.Reject m) h =
     ap (λ x. message_bytes kind.Reject (int32 x ∷ words (says m.reason) ∷ figure m.message_type
     ∷ words (says m.client_order_id) ∷ [])) h.0
-    ∙ ap (λ x. message_bytes kind.Reject (int32 (pos r.code) ∷ words x ∷ figure m.message_type
+    ∙ ap (λ x. message_bytes kind.Reject (int32 (pos (reason_number r.reason)) ∷ words x ∷ figure m.message_type
     ∷ words (says m.client_order_id) ∷ [])) h.1
-    ∙ ap (λ x. message_bytes kind.Reject (int32 (pos r.code) ∷ words [] ∷ figure x ∷ words (says m.client_order_id)
-    ∷ [])) h.2
-    ∙ ap (λ x. message_bytes kind.Reject (int32 (pos r.code) ∷ words [] ∷ figure r.message_type ∷ words x ∷ [])) h.3
+    ∙ ap (λ x. message_bytes kind.Reject (int32 (pos (reason_number r.reason)) ∷ words [] ∷ figure x
+    ∷ words (says m.client_order_id) ∷ [])) h.2
+    ∙ ap (λ x. message_bytes kind.Reject (int32 (pos (reason_number r.reason)) ∷ words [] ∷ figure r.message_type
+    ∷ words x ∷ [])) h.3
 form a m h = absurd h
 
 taken_by : (a : Answer) (m : Message) → Answers a m → takes Follower (letter_of (kind_of m)) ≡ Some (kind_of m)

@@ -117,28 +117,22 @@ at_place : (q p : Partition) (z : ℤ) (n : ℕ) → partition_code q ≡ partit
     → ◌≡◌ {A = Option (Partition × ℤ)} (Some (q, z)) (Some (p, pos n))
 at_place q p z n a b = let f = partition_law.one q p a in cc
 
-placed : (p : Partition) (n : ℕ) (r : Report) (m : Message) → report_in m ≡ Some r → contents_of m ≡ told_as p n r
+placed : (p : Partition) (n : ℕ) (r : Report) (m : Message) → kind_of m ≡ kind_told r → contents_of m ≡ told_as p n r
     → place_in m ≡ Some (p, pos n)
-placed p n (report.Execution e) (message.ExecutionReport m) h c =
+placed p n (report.Execution e) (message.ExecutionReport m) k c =
     at_place m.partition p m.sequence n (figure_at 0 c) (int32_at 1 c)
-placed p n (report.CancelReject e) (message.ExecutionReport m) h c = cc
-placed p n (report.MassCancel e) (message.ExecutionReport m) h c = cc
-placed p n (report.Execution e) (message.OrderCancelReject m) h c = cc
-placed p n (report.CancelReject e) (message.OrderCancelReject m) h c =
+placed p n (report.CancelReject e) (message.OrderCancelReject m) k c =
     at_place m.partition p m.sequence n (figure_at 0 c) (int32_at 1 c)
-placed p n (report.MassCancel e) (message.OrderCancelReject m) h c = cc
-placed p n (report.Execution e) (message.OrderMassCancelReport m) h c = cc
-placed p n (report.CancelReject e) (message.OrderMassCancelReport m) h c = cc
-placed p n (report.MassCancel e) (message.OrderMassCancelReport m) h c =
+placed p n (report.MassCancel e) (message.OrderMassCancelReport m) k c =
     at_place m.partition p m.sequence n (figure_at 0 c) (int32_at 1 c)
-placed p n r m h c = cc
+placed p n r m k c = cc
 
 pub report_told : (p : Partition) (n : ℕ) (r : Report) (m : Message) → report_in m ≡ Some r → kind_of m ≡ kind_told r
     → contents_of m ≡ told_as p n r → Holdable m → GivenBack m → ReportTold p n r
 report_told p n r m b k c w g =
     heard (Reports p n r) (report_bytes p n r) m (reports_plain p n r)
     (subst (λ j. takes Follower (letter_of j) ≡ Some j) (sym k) (follower_takes r)) w g
-    (record { report = b; place = placed p n r m b c; kind = k; contents = c })
+    (record { report = b; place = placed p n r m k c; kind = k; contents = c })
     (ap (λ j. message_bytes j (contents_of m)) k ∙ ap (message_bytes (kind_told r)) c)
 
 pub same_told : (p q : Partition) (n k : ℕ) (r s : Report) → ReportTold p n r → p ≡ q → n ≡ k → r ≡ s → ReportTold q k s

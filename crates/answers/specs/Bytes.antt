@@ -8,6 +8,7 @@ use Rattle.texts.specs.declared.fixed.FixedText.{FixedText}
 use Rattle.layout.specs.Layout.Content.{words, figure, int32}
 use Rattle.wire.specs.declared.kinds.Kind.TheVariants as kind
 use Rattle.wire.specs.Messages.{message_bytes}
+use Rattle.answers.specs.Numbers.{admission_number, reason_number}
 use Rattle.answers.specs.declared.answer.Answer.{Answer}
 use Rattle.answers.specs.declared.answer.Answer.TheVariants.{Silent, LogonReply, Ack, Reject}
 
@@ -18,11 +19,11 @@ client_said o = option_map_or (λ c. said c.bytes) o []
 -- a Logon Reply says of no day when the password expires, a Reject gives no words for its reason
 abbrev pub answer_bytes : Answer → List ℕ
 answer_bytes Silent = []
-answer_bytes (LogonReply code) = message_bytes kind.LogonReply (int32 code ∷ words [] ∷ [])
+answer_bytes (LogonReply a) = message_bytes kind.LogonReply (int32 (pos (admission_number a)) ∷ words [] ∷ [])
 answer_bytes (Ack r) = message_bytes kind.MissedMessageRequestAck (figure (ack_response_code r) ∷ [])
 answer_bytes (Reject r) =
     message_bytes kind.Reject (
-    int32 (pos r.code)
+    int32 (pos (reason_number r.reason))
     ∷ words []
     ∷ figure r.message_type
     ∷ words (client_said r.client)

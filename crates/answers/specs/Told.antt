@@ -13,6 +13,7 @@ use Rattle.report_messages.specs.Telling.{told_as, kind_told, report_bytes}
 use Rattle.answers.specs.declared.answer.Answer.{Answer}
 use Rattle.answers.specs.declared.answer.Answer.TheVariants.{Silent, LogonReply, Ack, Reject}
 use Rattle.answers.specs.Bytes.{answer_bytes, client_said, end_bytes}
+use Rattle.answers.specs.Numbers.{admission_number, reason_number}
 
 -- the bytes are the one form of a message of which P holds, and from them a follower reads such a message and no other
 pub record Told (P : Message → Type 0) (bs : List ℕ) : Type 0 where
@@ -26,10 +27,11 @@ pub record Told (P : Message → Type 0) (bs : List ℕ) : Type 0 where
 
 -- the message of an answer
 abbrev pub Answers : Answer → Message → Type 0
-Answers (LogonReply code) (message.LogonReply m) = (m.reject_code ≡ code) × (says m.expiry_days ≡ [])
+Answers (LogonReply a) (message.LogonReply m) =
+    (m.reject_code ≡ pos (admission_number a)) × (says m.expiry_days ≡ [])
 Answers (Ack r) (message.MissedMessageRequestAck m) = m.response ≡ r
 Answers (Reject r) (message.Reject m) =
-    (m.code ≡ pos r.code) × (says m.reason ≡ []) × (m.message_type ≡ r.message_type)
+    (m.code ≡ pos (reason_number r.reason)) × (says m.reason ≡ []) × (m.message_type ≡ r.message_type)
     × (says m.client_order_id ≡ client_said r.client)
 Answers a m = ⊥
 

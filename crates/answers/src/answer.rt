@@ -5,11 +5,14 @@ ghost use Rattle.texts.specs.Says.{says};
 ghost use Rattle.answers.specs.declared.answer.Answer.TheVariants as answer;
 ghost use Rattle.wire.specs.declared.message.TheConstants.{BUFFER};
 ghost use Rattle.answers.specs.Bytes.{answer_bytes, client_said};
+ghost use Rattle.answers.specs.Numbers.{admission_number, reason_number};
 ghost use Rattle.answers.specs.Sent.{Sent};
 ghost use Rattle.answers.specs.Told.{Answers, AnswerTold};
 
 use crate::sending::send;
 use codes::session::AckResponse;
+use layout::fault::Fault;
+use refusals::{LogonRefusal, RequestRefusal, Turned};
 use session_messages::logon_reply::LogonReply;
 use session_messages::missed_message_request_ack::MissedMessageRequestAck;
 use session_messages::reject::Reject;
@@ -17,11 +20,30 @@ use texts::fixed::FixedText;
 use texts::text::Text;
 use wire::message::Message;
 
+/// Whether a Logon is accepted.
+#[derive(Clone, Copy, Debug, PartialEq)]
+pub enum Admission {
+    Accepted,
+    Refused(LogonRefusal),
+}
+
+/// Why a message is not taken.
+#[derive(Clone, Copy, Debug, PartialEq)]
+pub enum Reason {
+    /// What was given is no message.
+    Fault(Fault),
+    /// No Logon was accepted on its channel.
+    NotLoggedOn,
+    /// A request for orders is turned down.
+    Turned(Turned),
+    /// A Missed Message Request is refused.
+    Request(RequestRefusal),
+}
+
 /// A message that was not taken.
 #[derive(Clone, Copy, Debug)]
 pub struct Rejection {
-    /// The number of the check that it failed.
-    pub code: u8,
+    pub reason: Reason,
     /// Its type byte; 0 where that is not known.
     pub message_type: u8,
     /// Its Client Order ID, where it has one.
@@ -33,12 +55,38 @@ pub struct Rejection {
 pub enum Answer {
     /// No bytes.
     Silent,
-    /// To a Logon: 0 where it is accepted, else the number of the refusal.
-    LogonReply(i32),
+    /// To a Logon.
+    LogonReply(Admission),
     /// To a Missed Message Request.
     Ack(AckResponse),
     /// To any message that is not taken.
     Reject(Rejection),
+}
+
+impl Admission {
+    /// The code of a Logon Reply: 0, or 11 to 13 where it is refused.
+    pub fn number(self) -> u8
+        ensures { result ≡ admission_number self }
+    {
+        match self {
+            Admission::Accepted => 0,
+            Admission::Refused(refusal) => refusal.number(),
+        }
+    }
+}
+
+impl Reason {
+    /// The code of a Reject: 1 to 5 of what is no message, 10, 20, 29 or 30.
+    pub fn number(self) -> u8
+        ensures { result ≡ reason_number self }
+    {
+        match self {
+            Reason::Fault(fault) => fault.number(),
+            Reason::NotLoggedOn => 10,
+            Reason::Turned(turned) => turned.number(),
+            Reason::Request(refusal) => refusal.number(),
+        }
+    }
 }
 
 fn nothing<const N: usize>() -> FixedText<N>
@@ -71,8 +119,8 @@ impl Answer {
     {
         match self {
             Answer::Silent => None,
-            Answer::LogonReply(code) => Some(Message::LogonReply(LogonReply {
-                reject_code: *code,
+            Answer::LogonReply(admission) => Some(Message::LogonReply(LogonReply {
+                reject_code: i32::from(admission.number()),
                 expiry_days: nothing.as_text(),
             })),
             Answer::Ack(response) => Some(Message::MissedMessageRequestAck(
@@ -81,7 +129,7 @@ impl Answer {
                 },
             )),
             Answer::Reject(rejection) => Some(Message::Reject(Reject {
-                code: i32::from(rejection.code),
+                code: i32::from(rejection.reason.number()),
                 reason: nothing.as_text(),
                 message_type: rejection.message_type,
                 client_order_id: client_text(&rejection.client, nobody),

@@ -9,10 +9,10 @@ use Rattle.partitions.specs.PerPartition.{for_each}
 use Rattle.sessions.specs.declared.download.Download.{Download}
 use Rattle.sessions.specs.declared.session.Channel.{Channel}
 use Rattle.sessions.specs.declared.session.Channel.TheVariants.{RealTime, Recovery}
-use Rattle.sessions.specs.declared.session.LogonRefusal.{LogonRefusal}
-use Rattle.sessions.specs.declared.session.LogonRefusal.TheVariants.{AlreadyOn, RecoveryBeforeRealTime}
-use Rattle.sessions.specs.declared.session.RequestRefusal.{RequestRefusal}
-use Rattle.sessions.specs.declared.session.RequestRefusal.TheVariants.{DownloadRuns}
+use Rattle.refusals.specs.declared.LogonRefusal.{LogonRefusal}
+use Rattle.refusals.specs.declared.LogonRefusal.TheVariants.{AlreadyOn, RecoveryBeforeRealTime}
+use Rattle.refusals.specs.declared.RequestRefusal.{RequestRefusal}
+use Rattle.refusals.specs.declared.RequestRefusal.TheVariants.{DownloadRuns}
 use Rattle.sessions.specs.declared.session.SessionState.{SessionState}
 use Rattle.sessions.specs.Downloads.{begun}
 
@@ -28,14 +28,6 @@ fresh = record { real_time = false; recovery = false; sent = for_each 0; downloa
 abbrev pub on : Channel → SessionState → Bool
 on RealTime s = s.real_time
 on Recovery s = s.recovery
-
--- the number of each refusal
-abbrev pub logon_number : LogonRefusal → ℕ
-logon_number AlreadyOn = 12
-logon_number RecoveryBeforeRealTime = 13
-
-abbrev pub request_number : RequestRefusal → ℕ
-request_number DownloadRuns = 30
 
 -- a Logon on the real-time channel fixes each partition's last number for sending
 abbrev pub logged_on : Channel → PerPartition ℕ → SessionState → Result SessionState LogonRefusal

@@ -1,6 +1,6 @@
 // A line's session: what it may do on each channel, and how far it has come.
 ghost use Rattle.std.specs.Prelude.{◌≡◌, true};
-ghost use Rattle.sessions.specs.Sessions.{Sound, fresh, on, logon_number, request_number, logged_on, closed, recovery_closed, requested, with_download, with_sent};
+ghost use Rattle.sessions.specs.Sessions.{Sound, fresh, on, logged_on, closed, recovery_closed, requested, with_download, with_sent};
 ghost use Rattle.sessions.specs.Downloads.{recovered};
 ghost use Rattle.sessions.specs.Sending.{next_to_send, sent_after, found, looked};
 
@@ -8,6 +8,7 @@ use crate::download::{Download, Recovered};
 use codes::session::{AckResponse, Partition};
 use limits::REQUESTS;
 use partitions::per_partition::PerPartition;
+use refusals::{LogonRefusal, RequestRefusal};
 use std::marker::Model;
 use store::Store;
 
@@ -16,37 +17,6 @@ use store::Store;
 pub enum Channel {
     RealTime,
     Recovery,
-}
-
-/// Why a Logon is refused, with the number of each reason.
-#[derive(Clone, Copy, Debug, PartialEq)]
-pub enum LogonRefusal {
-    AlreadyOn = 12,
-    RecoveryBeforeRealTime = 13,
-}
-
-/// Why a Missed Message Request is refused, with its number.
-#[derive(Clone, Copy, Debug, PartialEq)]
-pub enum RequestRefusal {
-    DownloadRuns = 30,
-}
-
-impl LogonRefusal {
-    /// The number of the reason.
-    pub fn number(self) -> u8
-        ensures { result ≡ logon_number self }
-    {
-        self as u8
-    }
-}
-
-impl RequestRefusal {
-    /// The number of the reason.
-    pub fn number(self) -> u8
-        ensures { result ≡ request_number self }
-    {
-        self as u8
-    }
 }
 
 /// What is kept of a line: `sent` is the last number of each partition that was sent or passed over, `used` are the
