@@ -4,19 +4,19 @@ use Rattle.std.specs.Option.{option_map_or}
 use Rattle.answers.specs.Bytes.{answer_bytes}
 use Rattle.answers.specs.declared.answer.Answer.{Answer}
 use Rattle.answers.specs.declared.answer.Answer.TheVariants.{Silent, Ack, Reject}
+use Rattle.answers.specs.declared.answer.Reason.{Reason}
+use Rattle.answers.specs.declared.answer.Reason.TheVariants as reason
 use Rattle.wire.specs.declared.message.TheConstants.{BUFFER}
 use Rattle.codes.specs.declared.session.AckResponse.{AckResponse}
 use Rattle.codes.specs.declared.session.Partition.{Partition}
 use Rattle.codes.specs.declared.session.Partition.TheVariants.{One, Two, Three}
 use Rattle.configuration.specs.declared.participant.Participant.{Participant}
-use Rattle.gateway.specs.Faults.{session_number}
 use Rattle.gateway.specs.Lines.{ended, logon, line_closed}
 use Rattle.gateway.specs.State.{State, session, with_session, with_venue, Follows}
 use Rattle.gateway.specs.declared.fault.GatewayFault.{GatewayFault}
 use Rattle.gateway.specs.declared.fault.GatewayFault.TheVariants.{ShortBuffer, NoSuchLine, Session}
 use Rattle.gateway.specs.declared.fault.SessionFault.{SessionFault}
 use Rattle.gateway.specs.declared.fault.SessionFault.TheVariants.{NotLoggedOn, Wire}
-use Rattle.layout.specs.Faults.{fault_number}
 use Rattle.layout.specs.declared.fault.Fault.{Fault}
 use Rattle.layout.specs.declared.fault.Fault.TheVariants as fault
 use Rattle.session_messages.specs.declared.missed_message_request.MissedMessageRequest.{MissedMessageRequest}
@@ -27,13 +27,12 @@ use Rattle.requests.specs.MassCancels.{mass_cancel}
 use Rattle.requests.specs.NewOrders.{new_order}
 use Rattle.requests.specs.Outcomes.{Outcome as Requested}
 use Rattle.requests.specs.Outcomes.Outcome.{Refused, Done}
-use Rattle.requests.specs.Refusals.{turned_number}
 use Rattle.requests.specs.Replaces.{replace}
-use Rattle.requests.specs.declared.refusal.Turned.{Turned}
-use Rattle.sessions.specs.Sessions.{on, requested, recovery_closed, request_number}
+use Rattle.refusals.specs.declared.Turned.{Turned}
+use Rattle.sessions.specs.Sessions.{on, requested, recovery_closed}
 use Rattle.sessions.specs.declared.session.Channel.{Channel}
 use Rattle.sessions.specs.declared.session.Channel.TheVariants.{RealTime, Recovery}
-use Rattle.sessions.specs.declared.session.RequestRefusal.{RequestRefusal}
+use Rattle.refusals.specs.declared.RequestRefusal.{RequestRefusal}
 use Rattle.sessions.specs.declared.session.SessionState.{SessionState}
 use Rattle.store.specs.Kept.{Kept}
 use Rattle.texts.specs.declared.fixed.FixedText.{FixedText}
@@ -66,8 +65,8 @@ client_of (message.OrderCancelReplaceRequest m) = Some (kept m.client_order_id.t
 client_of (message.OrderMassCancelRequest m) = Some (kept m.client_order_id.text)
 client_of m = None
 
-abbrev pub rejection : ℕ → Message → Answer
-rejection code m = Reject (record { code = code; message_type = letter_of (kind_of m); client = client_of m })
+abbrev pub rejection : Reason → Message → Answer
+rejection why m = Reject (record { reason = why; message_type = letter_of (kind_of m); client = client_of m })
 
 -- the type of what is no message is told where it is one of the channel's
 abbrev pub type_told : Fault → List ℕ → ℕ
@@ -78,7 +77,7 @@ type_told fault.Length bs = slice_index_or bs 3 0
 type_told (fault.Field at) bs = slice_index_or bs 3 0
 
 abbrev pub fault_rejection : Fault → List ℕ → Answer
-fault_rejection f bs = Reject (record { code = fault_number f; message_type = type_told f bs; client = None })
+fault_rejection f bs = Reject (record { reason = reason.Fault f; message_type = type_told f bs; client = None })
 
 -- ---- a message of a line that is logged on
 
@@ -95,7 +94,7 @@ last_of k o = option_map_or (λ p. length (at k p)) o 0
 
 -- what the session makes of a Missed Message Request
 abbrev pub missed_by : Result (SessionState × AckResponse) RequestRefusal → ℕ → MissedMessageRequest → State → Outcome
-missed_by (Err e) line m s = Answered (rejection (request_number e) (message.MissedMessageRequest m)) s
+missed_by (Err e) line m s = Answered (rejection (reason.Request e) (message.MissedMessageRequest m)) s
 missed_by (Ok (x, r)) line m s = Answered (Ack r) (with_session s line x)
 
 abbrev pub missed : ℕ → MissedMessageRequest → State → Outcome
@@ -111,11 +110,11 @@ missed_on RealTime line m s = silently s
 -- the answer to a request, which is turned down or done
 abbrev pub answer_for : Message → Result (Unit {0}) Turned → Answer
 answer_for m (Ok u) = Silent
-answer_for m (Err t) = rejection (turned_number t) m
+answer_for m (Err t) = rejection (reason.Turned t) m
 
 -- what the orders make of a request
 abbrev pub requested_as : Message → State → Requested → Outcome
-requested_as m s (Refused t) = Answered (rejection (turned_number t) m) s
+requested_as m s (Refused t) = Answered (rejection (reason.Turned t) m) s
 requested_as m s (Done most v) = Reported most (with_venue s v)
 
 -- a Logout; the line's marked orders are withdrawn with a real-time one
@@ -148,7 +147,7 @@ taken ch line m t s = silently s
 abbrev pub outcome_of : Channel → ℕ → Message → Time → State → Outcome
 outcome_of ch line (message.Logon m) t s = answered (logon ch line m s)
 outcome_of ch line m t s =
-    if on ch (session s line) then taken ch line m t s else Answered (rejection (session_number NotLoggedOn) m) s
+    if on ch (session s line) then taken ch line m t s else Answered (rejection reason.NotLoggedOn m) s
 
 -- what a caller inside is told: the answer, and the state after it
 abbrev pub Took : Outcome → Answer → State → Type 0

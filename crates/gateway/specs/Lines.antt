@@ -1,7 +1,8 @@
 -- What happens to a line. Assumes nothing.
-use Rattle.std.specs.Prelude.{ℕ, ◌-◌, Bool, ◌&&◌, length, pos, slice_get, Ok, Err, Option, Result, ◌==◌, true, false}
+use Rattle.std.specs.Prelude.{ℕ, ◌-◌, Bool, ◌&&◌, length, slice_get, Ok, Err, Option, Result, ◌==◌, true, false}
 use Rattle.std.specs.Str.{bytes_eq}
 use Rattle.std.specs.Option.{option_map_or}
+use Rattle.answers.specs.declared.answer.Admission.TheVariants.{Accepted, Refused}
 use Rattle.answers.specs.declared.answer.Answer.{Answer}
 use Rattle.answers.specs.declared.answer.Answer.TheVariants.{LogonReply}
 use Rattle.configuration.specs.declared.participant.Participant.{Participant}
@@ -9,14 +10,14 @@ use Rattle.gateway.specs.State.{State, session, with_session, with_venue, lasts}
 use Rattle.session_messages.specs.declared.logon.Logon.{Logon}
 use Rattle.orders.specs.Tables.{open_count}
 use Rattle.orders.specs.declared.row.Row.{Row}
-use Rattle.sessions.specs.Sessions.{logged_on, logon_number, closed}
+use Rattle.sessions.specs.Sessions.{logged_on, closed}
 use Rattle.sessions.specs.declared.session.Channel.{Channel}
-use Rattle.sessions.specs.declared.session.LogonRefusal.{LogonRefusal}
+use Rattle.refusals.specs.declared.LogonRefusal.{LogonRefusal}
+use Rattle.refusals.specs.declared.LogonRefusal.TheVariants.{BadCredentials}
 use Rattle.sessions.specs.declared.session.SessionState.{SessionState}
 use Rattle.texts.specs.Bytes.{said}
 use Rattle.texts.specs.Says.{says}
 use Rattle.texts.specs.declared.values.Time.{Time}
-use Rattle.gateway.specs.declared.lines.TheConstants.{BAD_CREDENTIALS}
 use Rattle.venue.specs.Selection.{meant, withdrawn_all}
 use Rattle.venue.specs.View.{View}
 use Rattle.venue.specs.declared.selection.Cause.TheVariants.{LineLost}
@@ -32,9 +33,9 @@ admits o m = option_map_or (λ p. is_known p m) o false
 
 -- the answer to a Logon, and the session after it
 abbrev pub admitted : Bool → ℕ → State → Result SessionState LogonRefusal → Answer × State
-admitted known line s (Err e) = (LogonReply (pos (logon_number e)), s)
-admitted true line s (Ok x) = (LogonReply (pos 0), with_session s line x)
-admitted false line s (Ok x) = (LogonReply (pos BAD_CREDENTIALS), s)
+admitted known line s (Err e) = (LogonReply (Refused e), s)
+admitted true line s (Ok x) = (LogonReply Accepted, with_session s line x)
+admitted false line s (Ok x) = (LogonReply (Refused BadCredentials), s)
 
 abbrev pub logon : Channel → ℕ → Logon → State → Answer × State
 logon ch line m s =

@@ -14,7 +14,6 @@ use codes::session::Partition;
 use configuration::participant::Participant;
 use limits::TRADES;
 use matching::matcher::Matcher;
-use orders::trade::TradeRefusal;
 use sessions::download::Recovered;
 use sessions::session::Channel;
 use store::Store;
@@ -52,7 +51,8 @@ impl<M: Matcher, S: Store> Gateway<M, S> {
         self.hear(Channel::Recovery, line, message, time, reply)
     }
 
-    /// Takes one event of the matcher, and says what it was. Refused with 41 or 29.
+    /// Takes one event of the matcher, and says what it was. Refused with 41 where there are 512 trades, and 29 where
+    /// spare is under 2, tried in this order; then nothing changes.
     pub fn step(&mut self, time: Time) -> Result<Step, GatewayFault>
         ensures { Steps time self.old result self.new }
     {
@@ -65,7 +65,8 @@ impl<M: Matcher, S: Store> Gateway<M, S> {
         Ok(self.venue.step(time))
     }
 
-    /// Cancels a trade. Refused with 42, 43 or 29.
+    /// Cancels a trade, by its number. Refused with 42 where there is none, 43 where it was cancelled before, and 29
+    /// where spare is under 4, tried in this order; then nothing changes.
     pub fn cancel_trade(&mut self, trade: u64, time: Time) -> Result<(), GatewayFault>
         ensures { Undoes trade time self.old result self.new }
     {

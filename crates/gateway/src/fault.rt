@@ -1,10 +1,8 @@
 // What a gateway's caller is told where a call is refused: the wire's fault inside a session's inside the gateway's.
 ghost use Rattle.std.specs.Prelude.{◌≡◌};
 ghost use Rattle.gateway.specs.Faults.{number, offset, session_number, session_offset};
-ghost use Rattle.gateway.specs.Calls.{of_trade};
 
 use layout::fault::Fault;
-use orders::trade::TradeRefusal;
 use thiserror::Error;
 
 /// Why a line is not served.
@@ -104,15 +102,6 @@ impl GatewayFault {
         match self {
             GatewayFault::Session(fault) => fault.offset(),
             _ => None,
-        }
-    }
-
-    pub(crate) fn of_trade(refusal: TradeRefusal) -> GatewayFault
-        ensures { result ≡ of_trade refusal }
-    {
-        match refusal {
-            TradeRefusal::Unknown => GatewayFault::NoSuchTrade,
-            TradeRefusal::DoneBefore => GatewayFault::AlreadyCancelled,
         }
     }
 }

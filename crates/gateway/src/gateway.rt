@@ -62,8 +62,9 @@ impl<M: Matcher, S: Store> Gateway<M, S> {
     ghost use Rattle.gateway.specs.State.{session, with_session, lasts};
     ghost use Rattle.venue.specs.View.{fresh as fresh_venue};
 
-    /// Starts a day: nobody is logged on. A matcher or a store that holds something is refused; whoever is refused gets
-    /// both back.
+    /// Starts a day: nobody is logged on. Refused with 61 where the matcher holds an order or the store a report, and
+    /// without a number where memory is short; 60 is the configuration's, and comes before. Whoever is refused gets
+    /// matcher and store back.
     pub fn start(
         alloc: Global,
         config: Config,

@@ -7,14 +7,14 @@ ghost use Rattle.gateway.specs.Hearing.{Took, Understands, Hears, answer_for, cl
 
 use crate::fault::{GatewayFault, SessionFault};
 use crate::gateway::Gateway;
-use answers::answer::{Answer, Rejection};
+use answers::answer::{Answer, Reason, Rejection};
 use codes::session::Partition;
 use layout::fault::Fault;
 use matching::matcher::Matcher;
+use refusals::Turned;
 use requests::cancel::cancel;
 use requests::mass_cancel::mass_cancel;
 use requests::new_order::new_order;
-use requests::refusal::Turned;
 use requests::replace::replace;
 use session_messages::missed_message_request::MissedMessageRequest;
 use sessions::session::Channel;
@@ -47,11 +47,11 @@ fn client_of(m: &Message<'_>) -> Option<FixedText<20>>
     }
 }
 
-fn rejection(code: u8, m: &Message<'_>) -> Answer
-    ensures { result ≡ rejection code m.now }
+fn rejection(reason: Reason, m: &Message<'_>) -> Answer
+    ensures { result ≡ rejection reason m.now }
 {
     Answer::Reject(Rejection {
-        code,
+        reason,
         message_type: m.kind().letter(),
         client: client_of(m),
     })
@@ -71,7 +71,7 @@ fn fault_rejection(fault: Fault, bytes: &[u8]) -> Answer
     ensures { result ≡ fault_rejection fault bytes.now }
 {
     Answer::Reject(Rejection {
-        code: fault.number(),
+        reason: Reason::Fault(fault),
         message_type: type_told(fault, bytes),
         client: None,
     })
@@ -113,7 +113,7 @@ fn answer_for(m: &Message<'_>, done: Result<(), Turned>) -> Answer
 {
     match done {
         Ok(()) => Answer::Silent,
-        Err(turned) => rejection(turned.number(), m),
+        Err(turned) => rejection(Reason::Turned(turned), m),
     }
 }
 
@@ -148,7 +148,9 @@ impl<M: Matcher, S: Store> Gateway<M, S> {
                 let partition = partition_of(m.partition);
                 let last = self.last_of(partition);
                 match self.session(line).request(partition, m.last.number(), last) {
-                    Err(e) => rejection(e.number(), &Message::MissedMessageRequest(*m)),
+                    Err(refusal) => {
+                        rejection(Reason::Request(refusal), &Message::MissedMessageRequest(*m))
+                    }
                     Ok((session, response)) => {
                         self.set_session(line, session);
                         Answer::Ack(response)
@@ -206,7 +208,7 @@ impl<M: Matcher, S: Store> Gateway<M, S> {
             return self.logon(channel, line, logon);
         }
         if !self.session(line).is_on(channel) {
-            return rejection(SessionFault::NotLoggedOn.number(), m);
+            return rejection(Reason::NotLoggedOn, m);
         }
         self.obey(channel, line, m, time)
     }

@@ -5,18 +5,16 @@ ghost use Rattle.gateway.specs.State.{Follows};
 ghost use Rattle.venue.specs.Steps.{Leaves};
 
 use crate::gateway::Gateway;
-use answers::answer::Answer;
+use answers::answer::{Admission, Answer};
 use configuration::participant::Participant;
 use matching::matcher::Matcher;
+use refusals::LogonRefusal;
 use session_messages::logon::Logon;
 use sessions::session::Channel;
 use store::Store;
 use texts::values::Time;
 use venue::selection::{Cause, Owners, Scope, Selection};
 use venue::venue::Venue;
-
-/// The number of the refusal of a Logon whose CompID or password is not the line's, or that asks for a new password.
-pub const BAD_CREDENTIALS: u8 = 11;
 
 fn is_known(participant: &Participant, m: &Logon<'_>) -> bool
     ensures { result ≡ is_known participant.now m.now }
@@ -69,11 +67,13 @@ impl<M: Matcher, S: Store> Gateway<M, S> {
     {
         let known = self.is_admitted(line, m);
         match self.session(line).logon(channel, self.lasts()) {
-            Err(e) => Answer::LogonReply(i32::from(e.number())),
-            Ok(_) if !known => Answer::LogonReply(i32::from(BAD_CREDENTIALS)),
+            Err(refusal) => Answer::LogonReply(Admission::Refused(refusal)),
+            Ok(_) if !known => {
+                Answer::LogonReply(Admission::Refused(LogonRefusal::BadCredentials))
+            }
             Ok(session) => {
                 self.set_session(line, session);
-                Answer::LogonReply(0)
+                Answer::LogonReply(Admission::Accepted)
             }
         }
     }

@@ -1,5 +1,5 @@
 // A venue: the orders, the trades, a matcher and a store of one day, kept in step.
-ghost use Rattle.std.specs.Prelude.{◌≡◌, ◌+◌, ◌-◌, ◌<◌, ◌≤◌, true, length, nat_le, None, MatchResult};
+ghost use Rattle.std.specs.Prelude.{◌≡◌, ◌+◌, ◌-◌, ◌<◌, ◌≤◌, true, length, None, MatchResult};
 
 use crate::asking::{request_of, resize, take_out};
 use crate::refusal::AcceptRefusal;
@@ -8,7 +8,6 @@ use crate::step::Step;
 use crate::telling::{append, change, expire, open};
 use crate::trading::{Deal, trade, undo};
 use changes::change::Change;
-use codes::order::Book;
 use codes::session::Partition;
 use configuration::instrument::Instrument;
 use limits::ORDERS;
@@ -58,7 +57,6 @@ impl<M: Matcher, S: Store> Venue<M, S> {
     ghost use Rattle.orders.specs.Trades.{void_fault};
     ghost use Rattle.orders.specs.Tables.{latest, open_count};
     ghost use Rattle.partitions.specs.PerPartition.{at};
-    ghost use Rattle.matching.specs.Meaning.{serves};
     ghost use Rattle.store.specs.Kept.{empty};
     ghost use Rattle.texts.specs.Bytes.{said};
     ghost use Rattle.std.specs.FinMap.{len};
@@ -343,20 +341,6 @@ impl<M: Matcher, S: Store> Venue<M, S> {
         ensures { result.now ≡ self.now.instruments }
     {
         &self.instruments
-    }
-
-    /// Whether orders are taken for a book.
-    pub fn serves(&self, book: Book) -> bool
-        ensures { result ≡ serves self.now.market book }
-    {
-        self.matcher.serves(book)
-    }
-
-    /// Whether as many orders are open as the matcher takes.
-    pub fn is_full(&self) -> bool
-        ensures { result ≡ nat_le self.now.market.capacity (len self.now.market.orders) }
-    {
-        self.matcher.open_count() >= self.matcher.capacity()
     }
 
     /// The store, to read its reports.
