@@ -5,7 +5,6 @@ use Rattle.std.specs.Option.{option_map, ok_or}
 use Rattle.std.specs.Ordering.{int_eq}
 use Rattle.changes.specs.declared.change.Change.TheVariants.{Withdraw}
 use Rattle.changes.specs.declared.change.Change.TheVariants as change
-use Rattle.codes.specs.Order.{time_in_force_code}
 use Rattle.codes.specs.declared.order.Book.{Book}
 use Rattle.configuration.specs.declared.participant.Participant.{Participant}
 use Rattle.keyed.proofs.Under.{none-some}
@@ -30,10 +29,13 @@ use Rattle.requests.specs.NewOrders as new
 use Rattle.requests.specs.Outcomes.{Outcome, spare}
 use Rattle.requests.specs.Outcomes.Outcome.{Refused, Done}
 use Rattle.requests.specs.Replaces as replace
+use Rattle.requests.specs.declared.new_order.Placement.{Placement}
+use Rattle.terms.specs.Lifetime.{is_asked, lifetime_of}
+use Rattle.terms.specs.declared.lifetime.Lifetime.{Lifetime}
 use Rattle.requests.specs.declared.listing.Listing.{Listing}
-use Rattle.requests.specs.declared.refusal.Refusal.{Refusal}
-use Rattle.requests.specs.declared.refusal.Refusal.TheVariants.{BadTerms}
-use Rattle.requests.specs.declared.refusal.Turned.TheVariants.{NoPlace, UnknownInstrument}
+use Rattle.refusals.specs.declared.Refusal.{Refusal}
+use Rattle.refusals.specs.declared.Refusal.TheVariants.{BadTerms}
+use Rattle.refusals.specs.declared.Turned.TheVariants.{NoPlace, UnknownInstrument}
 use Rattle.requests.specs.declared.replace.Replacement.{Replacement}
 use Rattle.texts.specs.Says.{says, kept}
 use Rattle.texts.specs.declared.values.Time.{Time}
@@ -82,34 +84,42 @@ Fits q a = (orderable a.quantity ≡ true) × (q ≡ pos a.quantity)
 
 -- ---- a New Order
 
-new_asks : (m : NewOrder) (o : Option ℕ) (a : Ask) → shown m.quantity m.display_quantity ≡ o
-    → option_map (new.asks m) o ≡ Some a → Fits m.quantity a
-new_asks m None a e h = none-some a h
-new_asks m (Some n) a e h =
-    let is : new.asks m n ≡ a = cc in subst (Fits m.quantity) is (shown_are m.quantity m.display_quantity n e)
+new_asks : (m : NewOrder) (x : Option Lifetime) (o : Option ℕ) (p : Placement) → shown m.quantity m.display_quantity
+    ≡ o → new.placed m x o ≡ Some p → Fits m.quantity p.ask
+new_asks m None o p e h = absurd (cc)
+new_asks m (Some l) None p e h = absurd (cc)
+new_asks m (Some l) (Some n) p e h =
+    let one : Placement = record { lifetime = l; ask = new.asks m n } in
+    let same : one ≡ p = cc in
+    let is : new.asks m n ≡ p.ask = ap (λ (q : Placement). q.ask) same in
+    subst (Fits m.quantity) is (shown_are m.quantity m.display_quantity n e)
 
-new_if : (m : NewOrder) (b : Bool) (a : Ask) → cond b
-    (option_map (new.asks m) (shown m.quantity m.display_quantity)) None ≡ Some a → Fits m.quantity a
-new_if m true a h = new_asks m (shown m.quantity m.display_quantity) a refl h
-new_if m false a h = none-some a h
+new_if : (m : NewOrder) (b : Bool) (p : Placement) → cond b
+    (new.placed m (lifetime_of m.time_in_force) (shown m.quantity m.display_quantity)) None ≡ Some p
+    → Fits m.quantity p.ask
+new_if m true p h = new_asks m (lifetime_of m.time_in_force) (shown m.quantity m.display_quantity) p refl h
+new_if m false p h = absurd (cc)
 
-new_or_bad : (m : NewOrder) (o : Option Ask) (a : Ask) → new.ask_of m ≡ o → ok_or o BadTerms ≡ Ok a → Fits m.quantity a
-new_or_bad m None a e h = absurd (cc)
-new_or_bad m (Some b) a e h = let is : b ≡ a = cc in subst (Fits m.quantity) is (new_if m _ b e)
+new_or_bad : (m : NewOrder) (o : Option Placement) (p : Placement) → new.placement_of m ≡ o → ok_or o BadTerms ≡ Ok p
+    → Fits m.quantity p.ask
+new_or_bad m None p e h = absurd (cc)
+new_or_bad m (Some b) p e h =
+    let is : b ≡ p = cc in subst (λ (q : Placement). Fits m.quantity q.ask) is (new_if m _ b e)
 
-pub new_served : (m : NewOrder) (b : Bool) (e : Refusal) (a : Ask)
-    → cond b (ok_or (new.ask_of m) BadTerms) (Err e) ≡ Ok a
-    → Fits m.quantity a
-new_served m true e a h = new_or_bad m (new.ask_of m) a refl h
-new_served m false e a h = absurd (cc)
+pub new_served : (m : NewOrder) (b : Bool) (e : Refusal) (p : Placement)
+    → cond b (ok_or (new.placement_of m) BadTerms) (Err e) ≡ Ok p
+    → Fits m.quantity p.ask
+new_served m true e p h = new_or_bad m (new.placement_of m) p refl h
+new_served m false e p h = absurd (cc)
 
-accepts_moves : (o : Option AcceptRefusal) (line : ℕ) (a : Ask) (l : Listing) (m : NewOrder) (t : Time) (v : View)
-    → Fits m.quantity a
-    → MovesTo (By (message.NewOrder m)) v.rows (new.accepts o line a l m t v)
-accepts_moves (Some e) line a l m t v f = still (By (message.NewOrder m)) v.rows
-accepts_moves None line a l m t v f = adds (By (message.NewOrder m)) v.rows (new.terms_of line l.place m) a f.0 f.1
+accepts_moves : (o : Option AcceptRefusal) (line : ℕ) (p : Placement) (l : Listing) (m : NewOrder) (t : Time)
+    (v : View) → Fits m.quantity p.ask
+    → MovesTo (By (message.NewOrder m)) v.rows (new.accepts o line p l m t v)
+accepts_moves (Some e) line p l m t v f = still (By (message.NewOrder m)) v.rows
+accepts_moves None line p l m t v f =
+    adds (By (message.NewOrder m)) v.rows (new.terms_of line l.place p.lifetime m) p.ask f.0 f.1
 
-ordered_moves : (r : Result Ask Refusal) (line : ℕ) (l : Listing) (m : NewOrder) (t : Time) (v : View)
+ordered_moves : (r : Result Placement Refusal) (line : ℕ) (l : Listing) (m : NewOrder) (t : Time) (v : View)
     → new.asked m v ≡ r
     → MovesTo (By (message.NewOrder m)) v.rows (new.ordered r line l m t v)
 ordered_moves (Err e) line l m t v h = still (By (message.NewOrder m)) v.rows
@@ -188,7 +198,7 @@ of_row_same : (m : OrderCancelReplaceRequest) (x : Result Row Refusal) (r : Repl
     → Same m r
 of_row_same m (Err e) r h = absurd (cc)
 of_row_same m (Ok b) r h =
-    timed m b (eqb (time_in_force_code b.terms.time_in_force) (time_in_force_code m.time_in_force)) _ r h
+    timed m b (is_asked m.time_in_force b.terms.lifetime) _ r h
 
 replaced_moves : (x : Result Replacement Refusal) (line : ℕ) (l : Listing) (m : OrderCancelReplaceRequest) (t : Time)
     (v : View) → replace.judged line l m v ≡ x

@@ -7,19 +7,19 @@ use Rattle.std.proofs.lemmas.Bool.{eqb-true, eqb-false, false≢true, leb-false,
 use Rattle.std.proofs.lemmas.List.{get_or-set_same}
 use Rattle.answers.specs.Bytes.{answer_bytes}
 use Rattle.answers.specs.declared.answer.Answer.{Answer}
+use Rattle.answers.specs.declared.answer.Admission.TheVariants as admission
 use Rattle.answers.specs.declared.answer.Answer.TheVariants.{Silent, LogonReply, Ack}
+use Rattle.answers.specs.declared.answer.Reason.{Reason}
+use Rattle.answers.specs.declared.answer.Reason.TheVariants as reason
 use Rattle.codes.specs.declared.session.AckResponse.{AckResponse}
 use Rattle.codes.specs.declared.session.AckResponse.TheVariants.{Successful, LimitReached, InvalidAppId}
 use Rattle.codes.specs.declared.session.Partition.{Partition}
 use Rattle.gateway.specs.Calls.{Hands, Handed, Loses, Recovers, Sends, send_fault, live_handed, recovery_handed, recovered_bytes, sent_bytes}
-use Rattle.gateway.specs.Faults.{session_number}
 use Rattle.gateway.specs.Hearing.{Outcome, Settled, Read, Given, Hears, answered, call_fault, fronted, outcome_of, last_of, line_fault, logout, missed, missed_by, missed_on, partition_of, reader_of, rejection, requested_as}
 use Rattle.gateway.specs.Hearing.Outcome.{Answered, Reported}
 use Rattle.gateway.specs.Lines.{admitted, admits, logon}
 use Rattle.gateway.specs.State.{State, session, with_session, with_venue, lasts}
 use Rattle.gateway.specs.declared.fault.GatewayFault.{GatewayFault}
-use Rattle.gateway.specs.declared.fault.SessionFault.TheVariants.{NotLoggedOn}
-use Rattle.gateway.specs.declared.lines.TheConstants.{BAD_CREDENTIALS}
 use Rattle.keyed.proofs.Under.{none-some}
 use Rattle.layout.specs.Writing.{encode, field_bytes}
 use Rattle.layout.specs.declared.fault.Fault.{Fault}
@@ -36,15 +36,14 @@ use Rattle.session_messages.specs.declared.missed_message_request.MissedMessageR
 use Rattle.partitions.specs.PerPartition.{at}
 use Rattle.requests.specs.Outcomes.{Outcome as Requested}
 use Rattle.requests.specs.Outcomes.Outcome.{Refused, Done as Did}
-use Rattle.requests.specs.Refusals.{turned_number}
 use Rattle.sessions.specs.Downloads.{begun, recovered}
 use Rattle.sessions.specs.Sending.{next_to_send, sent_after}
-use Rattle.sessions.specs.Sessions.{Sound, acknowledged, closed, fresh, logon_number, on, recovery_closed, request_number, with_download, with_sent}
+use Rattle.sessions.specs.Sessions.{Sound, acknowledged, closed, fresh, on, recovery_closed, with_download, with_sent}
 use Rattle.sessions.specs.declared.download.Download.{Download}
 use Rattle.sessions.specs.declared.session.Channel.{Channel}
 use Rattle.sessions.specs.declared.session.Channel.TheVariants.{RealTime, Recovery}
-use Rattle.sessions.specs.declared.session.LogonRefusal.TheVariants.{AlreadyOn, RecoveryBeforeRealTime}
-use Rattle.sessions.specs.declared.session.RequestRefusal.TheVariants.{DownloadRuns}
+use Rattle.refusals.specs.declared.LogonRefusal.TheVariants.{AlreadyOn, BadCredentials, RecoveryBeforeRealTime}
+use Rattle.refusals.specs.declared.RequestRefusal.TheVariants.{DownloadRuns}
 use Rattle.sessions.specs.declared.session.SessionState.{SessionState}
 use Rattle.store.specs.Kept.{Kept}
 use Rattle.texts.specs.declared.values.Time.{Time}
@@ -69,7 +68,7 @@ Opens k y = (y.sent ≡ lasts k) × (y.download ≡ None)
 
 -- the answer to a Logon that is accepted
 abbrev pub accepted_bytes : List ℕ
-accepted_bytes = answer_bytes (LogonReply (pos 0))
+accepted_bytes = answer_bytes (LogonReply admission.Accepted)
 
 -- a real-time message: a Logon was accepted, and the answer says so; or none was, and the answer is another
 abbrev pub RealTimeDoes : Kept → List ℕ → SessionState → SessionState → Type 0
@@ -174,7 +173,7 @@ module _ (line : ℕ) (P : List ℕ → SessionState → Type 0) where
 
 -- it holds of each thing that a message can come to, on a line that there is
 record Holds (line : ℕ) (P : List ℕ → SessionState → Type 0) (ch : Channel) (bs : List ℕ) (s : State) : Type 0 where
-  rejects : (code : ℕ) (m : Message) → P (answer_bytes (rejection code m)) (session s line)
+  rejects : (why : Reason) (m : Message) → P (answer_bytes (rejection why m)) (session s line)
   opens : (m : Logon) → Makes line P (answered (logon ch line m s))
   asks : (m : MissedMessageRequest) → Reads (reader_of ch) bs (message.MissedMessageRequest m) → on ch (session s line)
       ≡ true → Makes line P (missed_on ch line m s)
@@ -184,21 +183,21 @@ module _ (line : ℕ) (P : List ℕ → SessionState → Type 0) (ch : Channel) 
     (same : P [] (session s line)) where
   module _ (h : Holds line P ch bs s) where
     asked_makes : (m : Message) (o : Requested) → Makes line P (requested_as m s o)
-    asked_makes m (Refused t) = h.rejects (turned_number t) m
+    asked_makes m (Refused t) = h.rejects (reason.Turned t) m
     asked_makes m (Did most v) = same
 
     where_on : (m : Message) (b : Bool) (o : Outcome) → on ch (session s line) ≡ b
         → (on ch (session s line) ≡ true → Makes line P o)
-        → Makes line P (cond b o (Answered (rejection (session_number NotLoggedOn) m) s))
+        → Makes line P (cond b o (Answered (rejection reason.NotLoggedOn m) s))
     where_on m true o e f = f e
-    where_on m false o e f = h.rejects (session_number NotLoggedOn) m
+    where_on m false o e f = h.rejects reason.NotLoggedOn m
 
     silence : (m : Message) → Makes line P (cond (on ch (session s line)) (Answered Silent s)
-        (Answered (rejection (session_number NotLoggedOn) m) s))
+        (Answered (rejection reason.NotLoggedOn m) s))
     silence m = where_on m (on ch (session s line)) (Answered Silent s) refl (λ e. same)
 
     asked : (m : Message) (o : Requested) → Makes line P
-        (cond (on ch (session s line)) (requested_as m s o) (Answered (rejection (session_number NotLoggedOn) m) s))
+        (cond (on ch (session s line)) (requested_as m s o) (Answered (rejection reason.NotLoggedOn m) s))
     asked m o = where_on m (on ch (session s line)) (requested_as m s o) refl (λ e. asked_makes m o)
 
     outcome_makes : (m : Message) (t : Time) → Reads (reader_of ch) bs m → Makes line P (outcome_of ch line m t s)
@@ -241,7 +240,7 @@ module _ (line : ℕ) (P : List ℕ → SessionState → Type 0) (ch : Channel) 
 -- what a Missed Message Request comes to, on a line that there is
 module _ (line : ℕ) (P : List ℕ → SessionState → Type 0) (s : State) (m : MissedMessageRequest)
     (there : line < length s.lines)
-    (turned : P (answer_bytes (rejection (request_number DownloadRuns) (message.MissedMessageRequest m)))
+    (turned : P (answer_bytes (rejection (reason.Request DownloadRuns) (message.MissedMessageRequest m)))
     (session s line))
     (refused : (a : AckResponse) → Grants (Ack a) ≡ false → P (answer_bytes (Ack a)) (session s line))
     (granted : (p : Partition) → partition_of m.partition ≡ Some p → (session s line).download ≡ None
@@ -277,19 +276,20 @@ apart i bytes ne e = ne (ap (λ (l : List ℕ). slice_index_or l i 0) e)
 nothing_apart : [] ≢ accepted_bytes
 nothing_apart = apart 3 [] (λ e. let z : ◌≡◌ {A = ℕ} 0 66 = e in omega arith)
 
-reject_apart : (code : ℕ) (m : Message) → answer_bytes (rejection code m) ≢ accepted_bytes
-reject_apart code m = apart 3 (answer_bytes (rejection code m)) (λ e. let z : ◌≡◌ {A = ℕ} 51 66 = e in omega arith)
+reject_apart : (why : Reason) (m : Message) → answer_bytes (rejection why m) ≢ accepted_bytes
+reject_apart why m = apart 3 (answer_bytes (rejection why m)) (λ e. let z : ◌≡◌ {A = ℕ} 51 66 = e in omega arith)
 
-again_apart : answer_bytes (LogonReply (pos (logon_number AlreadyOn))) ≢ accepted_bytes
+again_apart : answer_bytes (LogonReply (admission.Refused AlreadyOn)) ≢ accepted_bytes
 unfolding encode field_bytes
 again_apart =
-    apart 4 (answer_bytes (LogonReply (pos (logon_number AlreadyOn))))
+    apart 4 (answer_bytes (LogonReply (admission.Refused AlreadyOn)))
     (λ e. let z : ◌≡◌ {A = ℕ} 12 0 = e in omega arith)
 
-unknown_apart : answer_bytes (LogonReply (pos BAD_CREDENTIALS)) ≢ accepted_bytes
+unknown_apart : answer_bytes (LogonReply (admission.Refused BadCredentials)) ≢ accepted_bytes
 unfolding encode field_bytes
 unknown_apart =
-    apart 4 (answer_bytes (LogonReply (pos BAD_CREDENTIALS))) (λ e. let z : ◌≡◌ {A = ℕ} 11 0 = e in omega arith)
+    apart 4 (answer_bytes (LogonReply (admission.Refused BadCredentials)))
+    (λ e. let z : ◌≡◌ {A = ℕ} 11 0 = e in omega arith)
 
 -- ---- a real-time message
 
@@ -313,7 +313,7 @@ module _ (line : ℕ) (s : State) (sound : Sound (session s line)) where
 
   real_holds : (bs : List ℕ) → line < length s.lines → Holds line Tells RealTime bs s
   real_holds bs there = record {
-    rejects = λ code m. inr (reject_apart code m, inl (refl, refl));
+    rejects = λ why m. inr (reject_apart why m, inl (refl, refl));
     opens = λ m. real_opens there (admits (slice_get s.participants line) m) (session s line).real_time refl;
     asks = λ m reads e. inr (nothing_apart, inl (refl, refl));
     closes = λ t. placed line Tells s [] (closed (session s line)) there (inr (nothing_apart, inr (refl, refl)));
@@ -338,24 +338,24 @@ module _ (line : ℕ) (bs : List ℕ) (s : State) where
   recovery_on : line < length s.lines → (known b : Bool)
       → Makes line Replies (answered (admitted known line s
       (cond b (Ok (recovering (session s line))) (Err RecoveryBeforeRealTime))))
-  recovery_on there known false = stays_by (LogonReply (pos (logon_number RecoveryBeforeRealTime))) refl
-  recovery_on there true true = placed line Replies s _ _ there (inr (LogonReply (pos 0), refl, refl, inl (refl, refl)))
-  recovery_on there false true = stays_by (LogonReply (pos BAD_CREDENTIALS)) refl
+  recovery_on there known false = stays_by (LogonReply (admission.Refused RecoveryBeforeRealTime)) refl
+  recovery_on there true true = placed line Replies s _ _ there (inr (LogonReply admission.Accepted, refl, refl, inl (refl, refl)))
+  recovery_on there false true = stays_by (LogonReply (admission.Refused BadCredentials)) refl
 
   recovery_opens : line < length s.lines → (known b : Bool)
       → Makes line Replies (answered (admitted known line s
       (cond b (Err AlreadyOn) (cond (session s line).real_time (Ok (recovering (session s line)))
       (Err RecoveryBeforeRealTime)))))
-  recovery_opens there known true = stays_by (LogonReply (pos (logon_number AlreadyOn))) refl
+  recovery_opens there known true = stays_by (LogonReply (admission.Refused AlreadyOn)) refl
   recovery_opens there known false = recovery_on there known (session s line).real_time
 
   recovery_holds : line < length s.lines → Holds line Replies Recovery bs s
   recovery_holds there = record {
-    rejects = λ code m. stays_by (rejection code m) refl;
+    rejects = λ why m. stays_by (rejection why m) refl;
     opens = λ m. recovery_opens there (admits (slice_get s.participants line) m) (session s line).recovery;
     asks = λ m reads e.
         missed_makes line Replies s m there
-        (stays_by (rejection (request_number DownloadRuns) (message.MissedMessageRequest m)) refl)
+        (stays_by (rejection (reason.Request DownloadRuns) (message.MissedMessageRequest m)) refl)
         (λ a g. stays_by (Ack a) g)
         (λ p named none few. inl (m, p, reads, named, refl, none, refl, refl));
     closes = λ t. placed line Replies s [] (recovery_closed (session s line)) there
@@ -461,7 +461,7 @@ module _ (line : ℕ) (s : State) (sound : Sound (session s line)) where
 
   holds_sound : (ch : Channel) (bs : List ℕ) → line < length s.lines → Holds line Keeps ch bs s
   holds_sound ch bs there = record {
-    rejects = λ code m. sound;
+    rejects = λ why m. sound;
     opens = λ m. opens_sound ch there m;
     asks = λ m reads e. asks_sound ch there m e;
     closes = λ t. closes_sound ch there t;

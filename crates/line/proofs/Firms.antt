@@ -7,7 +7,6 @@ use Rattle.answers.specs.declared.answer.Answer.{Answer}
 use Rattle.changes.specs.declared.change.Change.{Change}
 use Rattle.changes.specs.declared.change.Change.TheVariants.{Withdraw}
 use Rattle.changes.specs.declared.change.Change.TheVariants as change
-use Rattle.codes.specs.Order.{time_in_force_code}
 use Rattle.codes.specs.declared.order.Book.{Book}
 use Rattle.codes.specs.declared.session.AckResponse.{AckResponse}
 use Rattle.configuration.specs.declared.instrument.Instrument.{Instrument}
@@ -51,17 +50,19 @@ use Rattle.requests.specs.NewOrders as new
 use Rattle.requests.specs.Outcomes.{Outcome as Requested, spare}
 use Rattle.requests.specs.Outcomes.Outcome.{Refused, Done as Did}
 use Rattle.requests.specs.Replaces as replaces
+use Rattle.requests.specs.declared.new_order.Placement.{Placement}
+use Rattle.terms.specs.Lifetime.{is_asked}
 use Rattle.requests.specs.declared.listing.Listing.{Listing}
 use Rattle.requests.specs.declared.naming.Naming.{Naming}
-use Rattle.requests.specs.declared.refusal.Refusal.{Refusal}
-use Rattle.requests.specs.declared.refusal.Refusal.TheVariants.{NotOpen, NoSuchOrder, BookNotServed, NotAboveExecuted, TimeInForceDiffers}
-use Rattle.requests.specs.declared.refusal.Turned.TheVariants.{NoPlace, UnknownInstrument}
+use Rattle.refusals.specs.declared.Refusal.{Refusal}
+use Rattle.refusals.specs.declared.Refusal.TheVariants.{NotOpen, NoSuchOrder, BookNotServed, NotAboveExecuted, TimeInForceDiffers}
+use Rattle.refusals.specs.declared.Turned.TheVariants.{NoPlace, UnknownInstrument}
 use Rattle.requests.specs.declared.replace.Replacement.{Replacement}
 use Rattle.sessions.specs.Sessions.{on}
 use Rattle.sessions.specs.declared.session.Channel.{Channel}
 use Rattle.sessions.specs.declared.session.Channel.TheVariants.{RealTime, Recovery}
-use Rattle.sessions.specs.declared.session.LogonRefusal.{LogonRefusal}
-use Rattle.sessions.specs.declared.session.RequestRefusal.{RequestRefusal}
+use Rattle.refusals.specs.declared.LogonRefusal.{LogonRefusal}
+use Rattle.refusals.specs.declared.RequestRefusal.{RequestRefusal}
 use Rattle.sessions.specs.declared.session.SessionState.{SessionState}
 use Rattle.texts.specs.Bytes.{said}
 use Rattle.texts.specs.Says.{says, kept}
@@ -176,14 +177,14 @@ module _ (s : State) (line : ℕ) (sound : Sound s.venue) where
       behind [] = refl
       behind (x ∷ xs) = behind xs
 
-  accepted_own : (o : Option AcceptRefusal) (a : Ask) (l : Listing) (m : NewOrder) (t : Time) → orderable a.quantity
-      ≡ true → MovesTo Own s.venue.rows (new.accepts o line a l m t s.venue)
-  accepted_own (Some e) a l m t k = still Own s.venue.rows
-  accepted_own None a l m t k =
-      adds Own s.venue.rows (new.terms_of line l.place m) a k
+  accepted_own : (o : Option AcceptRefusal) (p : Placement) (l : Listing) (m : NewOrder) (t : Time)
+      → orderable p.ask.quantity ≡ true → MovesTo Own s.venue.rows (new.accepts o line p l m t s.venue)
+  accepted_own (Some e) p l m t k = still Own s.venue.rows
+  accepted_own None p l m t k =
+      adds Own s.venue.rows (new.terms_of line l.place p.lifetime m) p.ask k
       (subst (FirmOf s line) (sym (past s.venue.rows (length s.venue.rows + 1) (omega arith))) tt)
 
-  ordered_own : (r : Result Ask Refusal) (l : Listing) (m : NewOrder) (t : Time) → new.asked m s.venue ≡ r
+  ordered_own : (r : Result Placement Refusal) (l : Listing) (m : NewOrder) (t : Time) → new.asked m s.venue ≡ r
       → MovesTo Own s.venue.rows (new.ordered r line l m t s.venue)
   ordered_own (Err e) l m t h = still Own s.venue.rows
   ordered_own (Ok a) l m t h = accepted_own (accept_fault s.venue) a l m t (new_served m _ _ a h).0
@@ -213,8 +214,7 @@ module _ (s : State) (line : ℕ) (sound : Sound s.venue) where
   numbered m (Ok b) r h = (
     b,
     refl,
-    timed (eqb (time_in_force_code b.terms.time_in_force)
-        (time_in_force_code m.time_in_force)) h,
+    timed (is_asked m.time_in_force b.terms.lifetime) h,
   )
     where
       more : (c : Bool) (a : Ask) (e : Refusal) → cond c (Err e) (Ok (record { number = b.number; ask = a })) ≡ Ok r

@@ -51,15 +51,16 @@ use Rattle.requests.specs.NewOrders as new
 use Rattle.requests.specs.Outcomes.{Outcome as Requested, spare}
 use Rattle.requests.specs.Outcomes.Outcome.{Refused, Done as Did}
 use Rattle.requests.specs.Replaces as replaces
+use Rattle.requests.specs.declared.new_order.Placement.{Placement}
 use Rattle.requests.specs.declared.listing.Listing.{Listing}
-use Rattle.requests.specs.declared.refusal.Refusal.{Refusal}
-use Rattle.requests.specs.declared.refusal.Turned.TheVariants.{NoPlace, UnknownInstrument}
+use Rattle.refusals.specs.declared.Refusal.{Refusal}
+use Rattle.refusals.specs.declared.Turned.TheVariants.{NoPlace, UnknownInstrument}
 use Rattle.requests.specs.declared.replace.Replacement.{Replacement}
 use Rattle.sessions.specs.Sessions.{on}
 use Rattle.sessions.specs.declared.session.Channel.{Channel}
 use Rattle.sessions.specs.declared.session.Channel.TheVariants.{RealTime, Recovery}
-use Rattle.sessions.specs.declared.session.LogonRefusal.{LogonRefusal}
-use Rattle.sessions.specs.declared.session.RequestRefusal.{RequestRefusal}
+use Rattle.refusals.specs.declared.LogonRefusal.{LogonRefusal}
+use Rattle.refusals.specs.declared.RequestRefusal.{RequestRefusal}
 use Rattle.sessions.specs.declared.session.SessionState.{SessionState}
 use Rattle.texts.specs.Says.{says, kept}
 use Rattle.texts.specs.declared.values.Time.{Time}
@@ -111,12 +112,13 @@ module _ (R : Ledger → Ledger → Type 0) (lines : ℕ) (leads : Leads R lines
   -- ---- requests, of a line
 
   module _ (line : ℕ) (there : line < lines) where
-    accepts_leads : (o : Option AcceptRefusal) (a : Ask) (l : Listing) (m : NewOrder) (t : Time) (v : View)
-        → To v (new.accepts o line a l m t v)
-    accepts_leads (Some e) a l m t v = one_note v _ _ there
-    accepts_leads None a l m t v = leads.add v.instruments t (new.terms_of line l.place m) a (ledger_of v) there
+    accepts_leads : (o : Option AcceptRefusal) (p : Placement) (l : Listing) (m : NewOrder) (t : Time) (v : View)
+        → To v (new.accepts o line p l m t v)
+    accepts_leads (Some e) p l m t v = one_note v _ _ there
+    accepts_leads None p l m t v =
+        leads.add v.instruments t (new.terms_of line l.place p.lifetime m) p.ask (ledger_of v) there
 
-    ordered_leads : (r : Result Ask Refusal) (l : Listing) (m : NewOrder) (t : Time) (v : View)
+    ordered_leads : (r : Result Placement Refusal) (l : Listing) (m : NewOrder) (t : Time) (v : View)
         → To v (new.ordered r line l m t v)
     ordered_leads (Err e) l m t v = one_note v _ _ there
     ordered_leads (Ok a) l m t v = accepts_leads (accept_fault v) a l m t v

@@ -21,8 +21,8 @@ use Rattle.requests.specs.Outcomes.Outcome.{Refused, Done as Did}
 use Rattle.sessions.specs.Sessions.{on, fresh}
 use Rattle.sessions.specs.declared.session.Channel.{Channel}
 use Rattle.sessions.specs.declared.session.Channel.TheVariants.{RealTime, Recovery}
-use Rattle.sessions.specs.declared.session.LogonRefusal.{LogonRefusal}
-use Rattle.sessions.specs.declared.session.RequestRefusal.{RequestRefusal}
+use Rattle.refusals.specs.declared.LogonRefusal.{LogonRefusal}
+use Rattle.refusals.specs.declared.RequestRefusal.{RequestRefusal}
 use Rattle.sessions.specs.declared.session.SessionState.{SessionState}
 use Rattle.texts.specs.declared.values.Time.{Time}
 use Rattle.wire.specs.declared.message.Message.{Message}

@@ -6,40 +6,54 @@ use Rattle.wire.specs.declared.kinds.Channel.TheVariants.{Follower}
 use Rattle.wire.specs.declared.message.Message.{Message}
 use Rattle.wire.specs.declared.message.Message.TheVariants as message
 use Rattle.wire.specs.Messages.{verdict, Reads}
+use Rattle.answers.specs.Numbers.{admission_number}
+use Rattle.answers.specs.declared.answer.Admission.{Admission}
+use Rattle.answers.specs.declared.answer.Admission.TheVariants.{Accepted, Refused}
 use Rattle.answers.specs.declared.answer.Answer.TheVariants as answer
 use Rattle.answers.specs.Bytes.{answer_bytes}
 use Rattle.answers.specs.Sent.{Sent}
 use Rattle.answers.specs.Told.{Answers, AnswerTold}
 use Rattle.link.specs.declared.awaiting.Awaiting.{Awaiting}
+use Rattle.refusals.specs.declared.LogonRefusal.TheVariants.{AlreadyOn, BadCredentials, RecoveryBeforeRealTime}
 use Rattle.link.specs.declared.awaiting.NoReply.{NoReply}
 use Rattle.link.specs.declared.awaiting.NoReply.TheVariants as no_reply
 use Rattle.link.specs.declared.awaiting.NotTrading.{NotTrading}
 use Rattle.link.specs.declared.trading.Trading.{Trading}
 use Rattle.link.specs.Replies.{code_in, ReplyIn, Became, Replied}
 
-code_is : (code : ℤ) (m : Message) → Answers (answer.LogonReply code) m → code_in m ≡ Ok code
-code_is code (message.LogonReply m) h = ap Ok h.0
-code_is code m h = absurd h
+-- the code of an answer to a Logon
+abbrev code : Admission → ℤ
+code a = pos (admission_number a)
 
-reply_is : (code : ℤ) (bs : List ℕ) (c : Result ℤ NoReply) → bs ≡ answer_bytes (answer.LogonReply code)
-    → AnswerTold (answer.LogonReply code) → ReplyIn bs c → c ≡ Ok code
-reply_is code bs c e t h =
+accepts : (a : Admission) → code a ≡ pos 0 → a ≡ Accepted
+accepts Accepted e = refl
+accepts (Refused BadCredentials) e = cc
+accepts (Refused AlreadyOn) e = cc
+accepts (Refused RecoveryBeforeRealTime) e = cc
+
+code_is : (a : Admission) (m : Message) → Answers (answer.LogonReply a) m → code_in m ≡ Ok (code a)
+code_is a (message.LogonReply m) h = ap Ok h.0
+code_is a m h = absurd h
+
+reply_is : (a : Admission) (bs : List ℕ) (c : Result ℤ NoReply) → bs ≡ answer_bytes (answer.LogonReply a)
+    → AnswerTold (answer.LogonReply a) → ReplyIn bs c → c ≡ Ok (code a)
+reply_is a bs c e t h =
     let P : Option Fault → Type 0 = λ o. MatchOption o ((m : Message) × Reads Follower bs m × (c ≡ code_in m))
     (λ x. c ≡ Err (no_reply.Fault x)) in
     let k = subst P (ap (verdict Follower) e ∙ t.taken) h in
     let R : List ℕ → Type 0 = λ x. Reads Follower x k.0 in
-    k.2 ∙ code_is code k.0 (t.read k.0 (subst R e k.1))
+    k.2 ∙ code_is a k.0 (t.read k.0 (subst R e k.1))
 
-became : (a : Awaiting) (code : ℤ) (r : Result Trading NotTrading) → Became a (Ok code) r
-    → IsTrue (is_ok r) ↔ (code ≡ pos 0)
-became a code (Ok t) h = (λ _. h.0, λ _. refl)
-became a code (Err n) h = (λ e. cc, λ e. absurd (h.0 e))
+became : (l : Awaiting) (a : Admission) (r : Result Trading NotTrading) → Became l (Ok (code a)) r
+    → IsTrue (is_ok r) ↔ (a ≡ Accepted)
+became l a (Ok t) h = (λ _. accepts a h.0, λ _. refl)
+became l a (Err n) h = (λ e. cc, λ e. absurd (h.0 (ap code e)))
 
-pub trades : (a : Awaiting) (code : ℤ) (before after : List ℕ) (n : ℕ) (r : Result Trading NotTrading)
-    → AnswerTold (answer.LogonReply code) → Sent (answer_bytes (answer.LogonReply code)) before after n
-    → Replied a (take n after) r → IsTrue (is_ok r) ↔ (code ≡ pos 0)
-trades a code before after n r t s h =
-    let bs = answer_bytes (answer.LogonReply code) in
+pub trades : (l : Awaiting) (a : Admission) (before after : List ℕ) (n : ℕ) (r : Result Trading NotTrading)
+    → AnswerTold (answer.LogonReply a) → Sent (answer_bytes (answer.LogonReply a)) before after n
+    → Replied l (take n after) r → IsTrue (is_ok r) ↔ (a ≡ Accepted)
+trades l a before after n r t s h =
+    let bs = answer_bytes (answer.LogonReply a) in
     let e : take n after ≡ bs = ap (take n) s.2 ∙ take_at bs (drop n before) n (sym s.0) in
-    let B : Result ℤ NoReply → Type 0 = λ c. Became a c r in
-    became a code r (subst B (reply_is code (take n after) h.0 e t h.1) h.2)
+    let B : Result ℤ NoReply → Type 0 = λ c. Became l c r in
+    became l a r (subst B (reply_is a (take n after) h.0 e t h.1) h.2)

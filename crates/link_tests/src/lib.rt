@@ -1,13 +1,13 @@
 // A desk's link at work: it takes a gateway's answer, and writes an order once it may.
 #![tactic(auto)]
 
-ghost use Rattle.std.specs.Prelude.{◌≡◌, ◌↔◌, ◌≤◌, length, pos, Ok, IsTrue, IfSome, IfNone};
+ghost use Rattle.std.specs.Prelude.{◌≡◌, ◌↔◌, ◌≤◌, length, Ok, IsTrue, IfSome, IfNone};
 ghost use Rattle.wire.specs.declared.message.TheConstants.{BUFFER};
 ghost use Rattle.wire.specs.declared.message.Message.TheVariants as message;
 ghost use Rattle.link.specs.Replies.{Accepted};
 ghost use Rattle.link.specs.Requests.{Sent};
 
-use answers::answer::Answer;
+use answers::answer::{Admission, Answer};
 use link::awaiting::Awaiting;
 use link::offline::Offline;
 use order_messages::new_order::NewOrder;
@@ -35,10 +35,10 @@ pub fn first_order(
 
 /// Takes a gateway's answer to a Logon, by its bytes. The link trades exactly where the gateway accepts.
 #[tactic(auto, using(crate::proofs::Both::trades))]
-pub fn answered(link: Awaiting, code: &i32, out: &mut [u8]) -> bool
+pub fn answered(link: Awaiting, admission: Admission, out: &mut [u8]) -> bool
     requires { BUFFER ≤ length out.old }
-    ensures { IsTrue result ↔ (code.now ≡ pos 0) }
+    ensures { IsTrue result ↔ (admission ≡ Admission.Accepted) }
 {
-    let len = Answer::LogonReply(*code).write(out);
+    let len = Answer::LogonReply(admission).write(out);
     link.reply(&out[..len]).is_ok()
 }
