@@ -1,8 +1,9 @@
 -- What a follower hears of what a gateway hands out. Assumes nothing.
-use Rattle.std.proofs.Common.{◌≡◌, ◌⊎◌, inl, inr, ℕ, ℤ, List, [], ◌++◌, map, pos, Some, None, Ok, Err, Option, Result, refl, ap, ◌∙◌, subst, arith}
+use Rattle.std.proofs.Common.{◌≡◌, ◌⊎◌, inl, inr, ℕ, List, [], ◌++◌, map, pos, Some, None, Ok, Err, Option, Result, refl, ap, ◌∙◌, subst, arith}
 use Rattle.answers.specs.Bytes.{answer_bytes, end_bytes}
 use Rattle.report_messages.specs.Telling.{report_bytes}
 use Rattle.answers.specs.Told.{ReportTold}
+use Rattle.answers.specs.declared.answer.Admission.{Admission}
 use Rattle.answers.specs.declared.answer.Answer.TheVariants as answer
 use Rattle.answers.specs.declared.answer.Rejection.{Rejection}
 use Rattle.codes.specs.contracts.session.AckResponseCode.TheImpl.Laws.{sound-law as ack_law}
@@ -88,7 +89,7 @@ pub reject_heard : (r : Rejection) → (heard_in (answer_bytes (answer.Reject r)
     ⊎ ((e : Fault) × (heard_in (answer_bytes (answer.Reject r)) ≡ Err e))
 reject_heard r = one_heard kind.Reject _ heard.Reject (λ vs. refl)
 
-pub logon_heard : (z : ℤ) → (heard_in (answer_bytes (answer.LogonReply z)) ≡ Ok heard.Nothing)
+pub logon_heard : (z : Admission) → (heard_in (answer_bytes (answer.LogonReply z)) ≡ Ok heard.Nothing)
     ⊎ ((e : Fault) × (heard_in (answer_bytes (answer.LogonReply z)) ≡ Err e))
 logon_heard z = one_heard kind.LogonReply _ heard.Nothing (λ vs. refl)
 

@@ -1,8 +1,9 @@
 -- What the line of a follower's CompID allows, told by the log of a run. Assumes nothing.
-use Rattle.std.specs.Prelude.{◌≡◌, ℕ, Bool, true, false, List, [], ◌∷◌, ◌++◌, fold, pos, take, Some, None, Ok, Err, Option, Result, ◌==◌, if◌then◌else◌}
+use Rattle.std.specs.Prelude.{◌≡◌, ℕ, Bool, true, false, List, [], ◌∷◌, ◌++◌, fold, take, Some, None, Ok, Err, Option, Result, ◌==◌, if◌then◌else◌}
 use Rattle.std.specs.List.{list_any}
 use Rattle.std.specs.Str.{bytes_eq}
 use Rattle.answers.specs.Bytes.{answer_bytes}
+use Rattle.answers.specs.declared.answer.Admission.TheVariants.{Accepted}
 use Rattle.answers.specs.declared.answer.Answer.TheVariants.{LogonReply}
 use Rattle.ends.specs.Laws.{is_full}
 use Rattle.ends.specs.declared.allowed.Breach.{Breach}
@@ -52,7 +53,7 @@ next_of m (x ∷ xs) = if bytes_eq x m then Some xs else None
 
 -- an accepted Logon ends what was before, and both sides must have ended it
 abbrev pub accepted : Message
-accepted = answer_bytes (LogonReply (pos 0))
+accepted = answer_bytes (LogonReply Accepted)
 
 abbrev pub after_logon : Bool → Line → Result Line Breach
 after_logon true l = if l.up then Err StillUp else Ok connected

@@ -5,7 +5,7 @@ ghost use Rattle.ends.specs.Allowed.{accepted};
 ghost use Rattle.ends.specs.Laws.{is_full};
 ghost use Rattle.line.specs.Runs.{bytes_of};
 
-use answers::answer::Answer;
+use answers::answer::{Admission, Answer};
 use call::venue_side::Reply;
 use follower::answer::Live;
 use follower::fault::FollowerFault;
@@ -33,7 +33,7 @@ pub(crate) fn is_accepted(reply: &[u8]) -> bool
     ensures { result ≡ bytes_eq reply.now accepted }
 {
     let mut buffer = [0; BUFFER];
-    let count = Answer::LogonReply(0).write(&mut buffer);
+    let count = Answer::LogonReply(Admission::Accepted).write(&mut buffer);
     same(reply, &buffer[..count])
 }
 

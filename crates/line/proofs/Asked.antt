@@ -1,6 +1,6 @@
 -- What the requests make of the orders. Assumes nothing.
 use Rattle.std.specs.Prelude.{nat_lt, nat_le}
-use Rattle.std.proofs.Common.{◌≡◌, ℕ, zero, suc, ℤ, pos, negsuc, Bool, true, false, cond, eqb, List, length, Some, None, Option, Ok, Err, Result, refl, sym, ap, ◌∙◌, subst}
+use Rattle.std.proofs.Common.{◌≡◌, ℕ, zero, suc, ℤ, pos, negsuc, Bool, true, false, cond, List, length, Some, None, Option, Ok, Err, Result, refl, sym, ap, ◌∙◌, subst}
 use Rattle.std.specs.Option.{option_map, ok_or}
 use Rattle.std.specs.Ordering.{int_eq}
 use Rattle.changes.specs.declared.change.Change.TheVariants.{Withdraw}

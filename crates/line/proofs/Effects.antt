@@ -1,6 +1,6 @@
 -- What a call makes of the session of one line. Assumes nothing.
 use Rattle.std.specs.Borrow.{Bor}
-use Rattle.std.specs.Prelude.{◌≢◌, pos, drop, take, is_some, slice_get, slice_index_or, nat_le}
+use Rattle.std.specs.Prelude.{◌≢◌, drop, take, is_some, slice_get, slice_index_or, nat_le}
 use Rattle.std.proofs.Common.{◌≡◌, ◌⊎◌, inl, inr, ℕ, ◌+◌, ◌<◌, Bool, true, false, cond, eqb, List, [], Some, None, Option, Ok, Err, Result, length, refl, sym, ap, ◌∙◌, subst, arith}
 use Rattle.std.proofs.Math.Seq.{take-append_seam}
 use Rattle.std.proofs.lemmas.Bool.{eqb-true, eqb-false, false≢true, leb-false, true≢false}
