@@ -1,10 +1,8 @@
--- The names of the messages and of their fields, as published, without blanks: those of the fields are the code's own
--- lists. Assumes nothing.
-use Rattle.std.specs.Prelude.{ℕ, List, [], map, codes}
+-- The names of the messages and of their fields, as published, without blanks. Assumes nothing.
+use Rattle.std.specs.Prelude.{ℕ, List, [], ◌∷◌, map, codes}
 use Rattle.std.specs.Borrow.{Bor}
 use Rattle.wire.specs.declared.kinds.Kind.{Kind}
 use Rattle.wire.specs.declared.kinds.Kind.TheVariants as kind
-use Rattle.inspector.specs.declared.labels.TheConstants.{LOGON, LOGON_REPLY, LOGOUT, MISSED_MESSAGE_REQUEST, MISSED_MESSAGE_REQUEST_ACK, MISSED_MESSAGE_REPORT, REJECT, NEW_ORDER, ORDER_CANCEL_REQUEST, ORDER_CANCEL_REPLACE_REQUEST, ORDER_MASS_CANCEL_REQUEST, EXECUTION_REPORT, ORDER_CANCEL_REJECT, ORDER_MASS_CANCEL_REPORT}
 
 -- what texts spell
 abbrev pub spelt : List (Bor (List ℕ)) → List (List ℕ)
@@ -29,18 +27,41 @@ title_of kind.OrderMassCancelReport = codes "OrderMassCancelReport"
 
 -- the names of the fields, in the order of the layout; a reserved field has none
 abbrev pub names_of : Kind → List (List ℕ)
-names_of kind.Logon = map (λ n. n.now) LOGON
-names_of kind.LogonReply = map (λ n. n.now) LOGON_REPLY
-names_of kind.Logout = map (λ n. n.now) LOGOUT
+names_of kind.Logon = codes "CompID" ∷ codes "Password" ∷ codes "NewPassword" ∷ codes "MessageVersion" ∷ []
+names_of kind.LogonReply = codes "RejectCode" ∷ codes "PasswordExpiryDayCount" ∷ []
+names_of kind.Logout = codes "LogoutReason" ∷ []
 names_of kind.Heartbeat = []
-names_of kind.MissedMessageRequest = map (λ n. n.now) MISSED_MESSAGE_REQUEST
-names_of kind.MissedMessageRequestAck = map (λ n. n.now) MISSED_MESSAGE_REQUEST_ACK
-names_of kind.MissedMessageReport = map (λ n. n.now) MISSED_MESSAGE_REPORT
-names_of kind.Reject = map (λ n. n.now) REJECT
-names_of kind.NewOrder = map (λ n. n.now) NEW_ORDER
-names_of kind.OrderCancelRequest = map (λ n. n.now) ORDER_CANCEL_REQUEST
-names_of kind.OrderCancelReplaceRequest = map (λ n. n.now) ORDER_CANCEL_REPLACE_REQUEST
-names_of kind.OrderMassCancelRequest = map (λ n. n.now) ORDER_MASS_CANCEL_REQUEST
-names_of kind.ExecutionReport = map (λ n. n.now) EXECUTION_REPORT
-names_of kind.OrderCancelReject = map (λ n. n.now) ORDER_CANCEL_REJECT
-names_of kind.OrderMassCancelReport = map (λ n. n.now) ORDER_MASS_CANCEL_REPORT
+names_of kind.MissedMessageRequest = codes "AppID" ∷ codes "LastMsgSeqNum" ∷ []
+names_of kind.MissedMessageRequestAck = codes "ResponseType" ∷ []
+names_of kind.MissedMessageReport = codes "ResponseType" ∷ []
+names_of kind.Reject =
+    codes "RejectCode" ∷ codes "RejectReason" ∷ codes "RejectedMessageType" ∷ codes "ClientOrderID" ∷ []
+names_of kind.NewOrder =
+    codes "ClientOrderID" ∷ codes "TraderID" ∷ codes "Account" ∷ codes "ClearingAccount" ∷ codes "CommonSymbol"
+    ∷ codes "OrderType" ∷ codes "TIF" ∷ codes "ExpireDateTime" ∷ codes "Side" ∷ codes "OrderQty"
+    ∷ codes "DisplayQty" ∷ codes "LimitPrice" ∷ codes "Capacity" ∷ codes "AutoCancel" ∷ codes "OrderSubType"
+    ∷ [] ∷ codes "TargetBook" ∷ codes "ExecInstruction" ∷ codes "MinQty" ∷ [] ∷ codes "PassiveOnlyOrder" ∷ []
+names_of kind.OrderCancelRequest =
+    codes "ClientOrderID" ∷ codes "OriginalClientOrderID" ∷ codes "OrderID" ∷ codes "CommonSymbol"
+    ∷ codes "Side" ∷ codes "TargetBook" ∷ [] ∷ []
+names_of kind.OrderCancelReplaceRequest =
+    codes "ClientOrderID" ∷ codes "OriginalClientOrderID" ∷ codes "OrderID" ∷ codes "CommonSymbol"
+    ∷ codes "ExpireDateTime" ∷ codes "OrderQty" ∷ codes "DisplayQty" ∷ codes "LimitPrice" ∷ codes "Account"
+    ∷ codes "TIF" ∷ codes "Side" ∷ [] ∷ codes "TargetBook" ∷ codes "ExecInstruction" ∷ codes "MinQty"
+    ∷ codes "PassiveOnlyOrder" ∷ [] ∷ []
+names_of kind.OrderMassCancelRequest =
+    codes "ClientOrderID" ∷ codes "MassCancelType" ∷ codes "CommonSymbol" ∷ codes "Segment" ∷ []
+    ∷ codes "TargetBook" ∷ [] ∷ []
+names_of kind.ExecutionReport =
+    codes "AppID" ∷ codes "SequenceNo" ∷ codes "ExecutionID" ∷ codes "ClientOrderID" ∷ codes "OrderID"
+    ∷ codes "ExecType" ∷ codes "ExecutionReportRefID" ∷ codes "OrderStatus" ∷ codes "OrderRejectCode"
+    ∷ codes "ExecutedPrice" ∷ codes "ExecutedQty" ∷ codes "LeavesQty" ∷ [] ∷ codes "DisplayQty"
+    ∷ codes "CommonSymbol" ∷ codes "Side" ∷ codes "SecondaryOrderID" ∷ codes "Counterparty"
+    ∷ codes "TradeLiquidityIndicator" ∷ codes "TradeMatchID" ∷ codes "TransactTime" ∷ codes "TargetBook"
+    ∷ codes "TypeOfTrade" ∷ codes "Capacity" ∷ codes "PriceDifferential" ∷ [] ∷ []
+names_of kind.OrderCancelReject =
+    codes "AppID" ∷ codes "SequenceNo" ∷ codes "ClientOrderID" ∷ codes "OrderID" ∷ codes "CancelRejectReason"
+    ∷ codes "TransactTime" ∷ [] ∷ []
+names_of kind.OrderMassCancelReport =
+    codes "AppID" ∷ codes "SequenceNo" ∷ codes "ClientOrderID" ∷ codes "MassCancelResponse"
+    ∷ codes "MassCancelRejectReason" ∷ [] ∷ codes "TransactTime" ∷ [] ∷ []

@@ -7,7 +7,6 @@ use Rattle.layout.specs.declared.field.Form.{Form}
 use Rattle.layout.specs.declared.field.Form.TheVariants.{Text, Name, Order, UInt32, UInt64, Sequence, Int8, Int32, Price, Time, Code, Alpha, Reserved}
 use Rattle.layout.specs.declared.field.Field.{Field}
 use Rattle.layout.specs.declared.field.Field.TheVariants.{Always, When}
-use Rattle.layout.specs.declared.sequence.TheConstants.{SEQUENCE_LIMIT}
 use Rattle.layout.specs.Layout.{Content, place, taken, figure_of}
 use Rattle.layout.specs.Layout.Content.{words, order, figure, int8, int32, price, clock, nothing}
 
@@ -22,7 +21,7 @@ HoldsForm (Name w) (words t) = (length t ≤ w) × (all_printable t ≡ true) ×
 HoldsForm Order (order o) = Below o
 HoldsForm UInt32 (figure n) = n < 2 ^ 32
 HoldsForm UInt64 (figure n) = n < 2 ^ 64
-HoldsForm Sequence (figure n) = n < SEQUENCE_LIMIT
+HoldsForm Sequence (figure n) = n < 2 ^ 31
 HoldsForm Int8 (int8 z) = FitsSigned w8 z
 HoldsForm Int32 (int32 z) = FitsSigned w32 z
 HoldsForm Price (price z) = FitsSigned w64 z

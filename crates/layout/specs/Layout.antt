@@ -1,6 +1,6 @@
 -- A message as a table of fields: which bytes are taken, which are refused and where, and what they hold.
 -- Assumes nothing.
-use Rattle.std.specs.Prelude.{◌&&◌, ◌≡◌, ℕ, ◌+◌, max, Bool, true, false, List, [], filter, map, take, drop, ℤ, pos, is_some, Some, None, Option, Result, MatchResult, nat_le, nat_lt, if◌then◌else◌, not, slice_index_or, ◌==◌}
+use Rattle.std.specs.Prelude.{◌&&◌, ◌≡◌, ℕ, ◌+◌, ◌^◌, max, Bool, true, false, List, [], filter, map, take, drop, ℤ, pos, is_some, Some, None, Option, Result, MatchResult, nat_le, nat_lt, if◌then◌else◌, not, slice_index_or, ◌==◌}
 use Rattle.std.proofs.Common.{to_z}
 use Rattle.std.specs.Int.{w8, w32, w64}
 use Rattle.std.specs.List.{AllByRecursion, find, list_all}
@@ -15,7 +15,6 @@ use Rattle.layout.specs.declared.field.Form.{Form}
 use Rattle.layout.specs.declared.field.Form.TheVariants.{Text, Name, Order, UInt32, UInt64, Sequence, Int8, Int32, Price, Time, Code, Alpha, Reserved}
 use Rattle.layout.specs.declared.field.Field.{Field}
 use Rattle.layout.specs.declared.field.Field.TheVariants.{Always, When}
-use Rattle.layout.specs.declared.sequence.TheConstants.{SEQUENCE_LIMIT}
 
 -- a byte that is listed; shut, so that a proof takes it as one test
 unfoldable pub taken : ℕ → List ℕ → Bool
@@ -62,7 +61,7 @@ ok_form (Name w) f = is_text f && named f
 ok_form Order f = is_order f
 ok_form UInt32 f = true
 ok_form UInt64 f = true
-ok_form Sequence f = nat_lt (le f) SEQUENCE_LIMIT
+ok_form Sequence f = nat_lt (le f) (2 ^ 31)
 ok_form Int8 f = true
 ok_form Int32 f = true
 ok_form Price f = true

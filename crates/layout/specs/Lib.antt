@@ -3,3 +3,4 @@ pub mod Holding
 pub mod Layout
 pub mod Writing
 pub mod Shapes
+pub mod Published

@@ -8,7 +8,6 @@ use Rattle.texts.specs.Identifiers.{order_id_text}
 use Rattle.layout.specs.declared.field.Form.{Form}
 use Rattle.layout.specs.declared.field.Form.TheVariants.{Text, Name, Order, UInt32, UInt64, Sequence, Int8, Int32, Price, Time, Code, Alpha}
 use Rattle.layout.specs.declared.field.Field.{Field}
-use Rattle.layout.specs.declared.put.TheConstants.{START}
 use Rattle.layout.specs.Layout.{Content, place, wide, width, form_of}
 use Rattle.layout.specs.Layout.Content.{words, order, figure, int8, int32, price, clock}
 
@@ -41,9 +40,9 @@ encode [] vs = []
 encode (f ∷ fs) [] = []
 encode (f ∷ fs) (v ∷ vs) = field_bytes f v ++ encode fs vs
 
--- a message begins with the start byte, its length from the type on, and the type
+-- a message begins with the start byte 2, its length from the type on, and the type
 abbrev pub header : ℕ → ℕ → List ℕ
-header letter total = START ∷ to_le 2 (total - 3) ++ (letter ∷ [])
+header letter total = 2 ∷ to_le 2 (total - 3) ++ (letter ∷ [])
 
 -- what a buffer holds once bytes are written at a place
 unfoldable pub over : List ℕ → ℕ → List ℕ → List ℕ

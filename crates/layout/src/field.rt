@@ -31,24 +31,6 @@ pub enum Field {
     When(usize, Form, usize, Codes),
 }
 
-impl Form {
-    ghost use Rattle.std.specs.Prelude.{◌≡◌};
-    ghost use Rattle.layout.specs.Layout.{wide};
-
-    /// How many bytes the field has.
-    pub fn width(self) -> usize
-        ensures { result ≡ wide self }
-    {
-        match self {
-            Form::Text(width) | Form::Name(width) | Form::Reserved(width) => width,
-            Form::Order => 12,
-            Form::UInt32 | Form::Sequence | Form::Int32 => 4,
-            Form::UInt64 | Form::Price | Form::Time => 8,
-            Form::Int8 | Form::Code(_) | Form::Alpha => 1,
-        }
-    }
-}
-
 impl Field {
     ghost use Rattle.std.specs.Prelude.{◌≡◌};
     ghost use Rattle.layout.specs.Layout.{place, form_of};

@@ -2,6 +2,7 @@
 ghost use Rattle.std.specs.Prelude.{◌≡◌, ◌≤◌, ℕ, true, List, length};
 ghost use Rattle.layout.specs.Layout.{Content, Body, Checked, AllOk, Says, text_places};
 ghost use Rattle.layout.specs.Shapes.{Laid, Shaped, well_laid, laid};
+ghost use Rattle.layout.specs.Published.{Published, published_of};
 ghost use Rattle.layout.specs.Writing.{Wrote, over_all};
 ghost use Rattle.layout.specs.Holding.{HoldsIn};
 
@@ -35,12 +36,15 @@ impl Shape {
     }
 }
 
-/// The layout of a message's bytes.
+/// How a message's bytes are laid out: as a table that its reader and its writer go by, and as it is published.
 pub trait Layout {
-    // how such messages are laid out
+    // its type byte, its bytes in all, and its table
     ghost shape: { Laid };
 
-    /// How such messages are laid out.
+    // the same as it is published, in literals
+    ghost published: { Published };
+
+    /// The type byte, how many bytes such a message has, and its table.
     fn shape() -> Shape
         ensures { Shaped shape result };
 
@@ -55,6 +59,9 @@ pub trait Layout {
 
     // its fields fill it to the end behind the header, and each stands within it
     ghost fits: { well_laid shape ≡ true };
+
+    // it is laid out as it is published
+    ghost as_published: { published_of shape ≡ published };
 }
 
 /// A message by its layout: what its fields hold, and where its texts stand.

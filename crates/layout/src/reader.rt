@@ -1,5 +1,5 @@
 // A message's fields, read at their places.
-ghost use Rattle.std.specs.Prelude.{◌≡◌, ◌+◌, ◌≤◌, ◌&&◌, true, false, length, take, drop, nat_lt, MatchOption};
+ghost use Rattle.std.specs.Prelude.{◌≡◌, ◌+◌, ◌^◌, ◌≤◌, ◌&&◌, true, false, length, take, drop, nat_lt, MatchOption};
 ghost use Rattle.std.proofs.Common.{to_z, of_z};
 ghost use Rattle.std.specs.Int.{w8, w32, w64};
 ghost use Rattle.std.specs.List.{prefix_len};
@@ -8,7 +8,6 @@ ghost use Rattle.texts.specs.Bytes.{part, le, printable, said, is_text, named};
 ghost use Rattle.texts.specs.Says.{says};
 ghost use Rattle.codes.specs.Lists.{listed};
 ghost use Rattle.layout.specs.Layout.{taken, is_order, order_at};
-ghost use Rattle.layout.specs.declared.sequence.TheConstants.{SEQUENCE_LIMIT};
 
 use crate::sequence::LastSequence;
 use codes::code::Code;
@@ -176,7 +175,7 @@ impl<'a> Reader<'a> {
     /// The sequence number at a place, where one can stand there.
     pub fn sequence(&self, at: usize) -> LastSequence
         requires room { at + 4 ≤ length self.now.src.now }
-        requires good { nat_lt (le (part at 4 self.now.src.now)) SEQUENCE_LIMIT ≡ true }
+        requires good { nat_lt (le (part at 4 self.now.src.now)) (2 ^ 31) ≡ true }
         ensures { result.value ≡ le (part at 4 self.now.src.now) }
     {
         LastSequence {

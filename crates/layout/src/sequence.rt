@@ -1,6 +1,5 @@
 // A sequence number as a Missed Message Request carries it.
-ghost use Rattle.std.specs.Prelude.{◌≡◌, ◌<◌, ◌≤◌, MatchOption};
-ghost use Rattle.layout.specs.declared.sequence.TheConstants.{SEQUENCE_LIMIT};
+ghost use Rattle.std.specs.Prelude.{◌≡◌, ◌^◌, ◌<◌, ◌≤◌, MatchOption};
 
 /// No sequence number reaches this: its field is signed.
 pub const SEQUENCE_LIMIT: u32 = 2_147_483_648;
@@ -9,13 +8,13 @@ pub const SEQUENCE_LIMIT: u32 = 2_147_483_648;
 #[derive(Clone, Copy, Debug)]
 pub struct LastSequence {
     pub value: u32,
-    ghost fits: { value < SEQUENCE_LIMIT },
+    ghost fits: { value < 2 ^ 31 },
 }
 
 impl LastSequence {
     /// The number, where it is below the limit.
     pub fn new(number: u32) -> Option<LastSequence>
-        ensures { MatchOption result (SEQUENCE_LIMIT ≤ number) (λ n. n.value ≡ number) }
+        ensures { MatchOption result (2 ^ 31 ≤ number) (λ n. n.value ≡ number) }
     {
         if number < SEQUENCE_LIMIT {
             Some(LastSequence { value: number })

@@ -1,3 +1,4 @@
 pub mod Reports
 pub mod Requests
 pub mod Terms
+pub mod Published

@@ -2,6 +2,7 @@
 ghost use Rattle.std.specs.Prelude.{◌≡◌, ◌+◌, ◌≤◌, length, refl};
 ghost use Rattle.layout.specs.Shapes.{Shaped, laid};
 ghost use Rattle.order_messages.specs.declared.execution_report.TheConstants.{LETTER, TABLE, TOTAL};
+ghost use Rattle.order_messages.specs.Published.{execution_report_published};
 ghost use Rattle.codes.specs.Report.{exec_type_code};
 ghost use Rattle.layout.specs.Holding.{Holds};
 ghost use Rattle.layout.specs.Layout.{AllOk, Says};
@@ -94,7 +95,11 @@ const TABLE: [Field; 26] = [
 impl Layout for ExecutionReport<'_> {
     ghost shape = { laid LETTER TOTAL TABLE };
 
+    ghost published = { execution_report_published };
+
     ghost fits = { refl };
+
+    ghost as_published = { refl };
 
     fn shape() -> Shape
         ensures { Shaped (laid LETTER TOTAL TABLE) result }

@@ -2,6 +2,7 @@
 ghost use Rattle.std.specs.Prelude.{◌≡◌, ◌+◌, ◌≤◌, length, refl};
 ghost use Rattle.layout.specs.Shapes.{Shaped, laid};
 ghost use Rattle.order_messages.specs.declared.new_order.TheConstants.{LETTER, TABLE, TOTAL};
+ghost use Rattle.order_messages.specs.Published.{new_order_published};
 ghost use Rattle.codes.specs.Order.{order_type_code};
 ghost use Rattle.terms.specs.Pricing.{order_type_of};
 ghost use Rattle.layout.specs.Holding.{Holds};
@@ -80,7 +81,11 @@ const TABLE: [Field; 21] = [
 impl Layout for NewOrder<'_> {
     ghost shape = { laid LETTER TOTAL TABLE };
 
+    ghost published = { new_order_published };
+
     ghost fits = { refl };
+
+    ghost as_published = { refl };
 
     fn shape() -> Shape
         ensures { Shaped (laid LETTER TOTAL TABLE) result }

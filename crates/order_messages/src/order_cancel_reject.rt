@@ -2,6 +2,7 @@
 ghost use Rattle.std.specs.Prelude.{refl};
 ghost use Rattle.layout.specs.Shapes.{Shaped, laid};
 ghost use Rattle.order_messages.specs.declared.order_cancel_reject.TheConstants.{LETTER, TABLE, TOTAL};
+ghost use Rattle.order_messages.specs.Published.{order_cancel_reject_published};
 
 use codes::lists::Codes;
 use codes::session::Partition;
@@ -39,7 +40,11 @@ const TABLE: [Field; 7] = [
 impl Layout for OrderCancelReject<'_> {
     ghost shape = { laid LETTER TOTAL TABLE };
 
+    ghost published = { order_cancel_reject_published };
+
     ghost fits = { refl };
+
+    ghost as_published = { refl };
 
     fn shape() -> Shape
         ensures { Shaped (laid LETTER TOTAL TABLE) result }

@@ -2,6 +2,7 @@
 ghost use Rattle.std.specs.Prelude.{refl};
 ghost use Rattle.layout.specs.Shapes.{Shaped, laid};
 ghost use Rattle.order_messages.specs.declared.order_cancel_replace_request.TheConstants.{LETTER, TABLE, TOTAL};
+ghost use Rattle.order_messages.specs.Published.{order_cancel_replace_request_published};
 
 use crate::target::{put_target, target_at};
 use codes::lists::Codes;
@@ -73,7 +74,11 @@ const TABLE: [Field; 17] = [
 impl Layout for OrderCancelReplaceRequest<'_> {
     ghost shape = { laid LETTER TOTAL TABLE };
 
+    ghost published = { order_cancel_replace_request_published };
+
     ghost fits = { refl };
+
+    ghost as_published = { refl };
 
     fn shape() -> Shape
         ensures { Shaped (laid LETTER TOTAL TABLE) result }

@@ -2,6 +2,7 @@
 ghost use Rattle.std.specs.Prelude.{refl};
 ghost use Rattle.layout.specs.Shapes.{Shaped, laid};
 ghost use Rattle.order_messages.specs.declared.order_mass_cancel_report.TheConstants.{LETTER, TABLE, TOTAL};
+ghost use Rattle.order_messages.specs.Published.{order_mass_cancel_report_published};
 
 use codes::lists::Codes;
 use codes::report::MassResponse;
@@ -41,7 +42,11 @@ const TABLE: [Field; 8] = [
 impl Layout for OrderMassCancelReport<'_> {
     ghost shape = { laid LETTER TOTAL TABLE };
 
+    ghost published = { order_mass_cancel_report_published };
+
     ghost fits = { refl };
+
+    ghost as_published = { refl };
 
     fn shape() -> Shape
         ensures { Shaped (laid LETTER TOTAL TABLE) result }

@@ -2,6 +2,7 @@
 ghost use Rattle.std.specs.Prelude.{◌≡◌, ◌+◌, ◌≤◌, length, refl};
 ghost use Rattle.layout.specs.Shapes.{Shaped, laid};
 ghost use Rattle.order_messages.specs.declared.order_mass_cancel_request.TheConstants.{LETTER, TABLE, TOTAL};
+ghost use Rattle.order_messages.specs.Published.{order_mass_cancel_request_published};
 
 use codes::lists::Codes;
 use codes::order::{Book, MassCancelType};
@@ -51,7 +52,11 @@ const TABLE: [Field; 7] = [
 impl Layout for OrderMassCancelRequest<'_> {
     ghost shape = { laid LETTER TOTAL TABLE };
 
+    ghost published = { order_mass_cancel_request_published };
+
     ghost fits = { refl };
+
+    ghost as_published = { refl };
 
     fn shape() -> Shape
         ensures { Shaped (laid LETTER TOTAL TABLE) result }

@@ -2,6 +2,7 @@
 ghost use Rattle.std.specs.Prelude.{refl};
 ghost use Rattle.layout.specs.Shapes.{laid};
 ghost use Rattle.session_messages.specs.declared.heartbeat.TheConstants.{LETTER, TABLE, TOTAL};
+ghost use Rattle.session_messages.specs.Published.{heartbeat_published};
 
 use layout::{Field, Framed, Layout, Reader, Shape};
 
@@ -18,7 +19,11 @@ const TABLE: [Field; 0] = [];
 impl Layout for Heartbeat {
     ghost shape = { laid LETTER TOTAL TABLE };
 
+    ghost published = { heartbeat_published };
+
     ghost fits = { refl };
+
+    ghost as_published = { refl };
 
     fn shape() -> Shape {
         Shape::new(LETTER, TOTAL, &TABLE)

@@ -2,6 +2,7 @@
 ghost use Rattle.std.specs.Prelude.{refl};
 ghost use Rattle.layout.specs.Shapes.{Shaped, laid};
 ghost use Rattle.session_messages.specs.declared.logon.TheConstants.{LETTER, TABLE, TOTAL};
+ghost use Rattle.session_messages.specs.Published.{logon_published};
 
 use codes::lists::Codes;
 use codes::session::Version;
@@ -32,7 +33,11 @@ const TABLE: [Field; 4] = [
 impl Layout for Logon<'_> {
     ghost shape = { laid LETTER TOTAL TABLE };
 
+    ghost published = { logon_published };
+
     ghost fits = { refl };
+
+    ghost as_published = { refl };
 
     fn shape() -> Shape
         ensures { Shaped (laid LETTER TOTAL TABLE) result }

@@ -2,6 +2,7 @@
 ghost use Rattle.std.specs.Prelude.{refl};
 ghost use Rattle.layout.specs.Shapes.{Shaped, laid};
 ghost use Rattle.session_messages.specs.declared.logon_reply.TheConstants.{LETTER, TABLE, TOTAL};
+ghost use Rattle.session_messages.specs.Published.{logon_reply_published};
 
 use layout::put::{put_i32, put_text};
 use layout::{Field, Form, Framed, Layout, Reader, Shape};
@@ -28,7 +29,11 @@ const TABLE: [Field; 2] = [
 impl Layout for LogonReply<'_> {
     ghost shape = { laid LETTER TOTAL TABLE };
 
+    ghost published = { logon_reply_published };
+
     ghost fits = { refl };
+
+    ghost as_published = { refl };
 
     fn shape() -> Shape
         ensures { Shaped (laid LETTER TOTAL TABLE) result }

@@ -2,6 +2,7 @@
 ghost use Rattle.std.specs.Prelude.{refl};
 ghost use Rattle.layout.specs.Shapes.{Shaped, laid};
 ghost use Rattle.session_messages.specs.declared.logout.TheConstants.{LETTER, TABLE, TOTAL};
+ghost use Rattle.session_messages.specs.Published.{logout_published};
 
 use layout::put::put_text;
 use layout::{Field, Form, Framed, Layout, Reader, Shape};
@@ -22,7 +23,11 @@ const TABLE: [Field; 1] = [Field::Always(4, Form::Text(20))];
 impl Layout for Logout<'_> {
     ghost shape = { laid LETTER TOTAL TABLE };
 
+    ghost published = { logout_published };
+
     ghost fits = { refl };
+
+    ghost as_published = { refl };
 
     fn shape() -> Shape
         ensures { Shaped (laid LETTER TOTAL TABLE) result }

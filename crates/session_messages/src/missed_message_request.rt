@@ -2,6 +2,7 @@
 ghost use Rattle.std.specs.Prelude.{refl};
 ghost use Rattle.layout.specs.Shapes.{laid};
 ghost use Rattle.session_messages.specs.declared.missed_message_request.TheConstants.{LETTER, TABLE, TOTAL};
+ghost use Rattle.session_messages.specs.Published.{missed_message_request_published};
 
 use layout::put::{put_i8, put_sequence};
 use layout::sequence::LastSequence;
@@ -28,7 +29,11 @@ const TABLE: [Field; 2] = [
 impl Layout for MissedMessageRequest {
     ghost shape = { laid LETTER TOTAL TABLE };
 
+    ghost published = { missed_message_request_published };
+
     ghost fits = { refl };
+
+    ghost as_published = { refl };
 
     fn shape() -> Shape {
         Shape::new(LETTER, TOTAL, &TABLE)

@@ -2,6 +2,7 @@
 ghost use Rattle.std.specs.Prelude.{refl};
 ghost use Rattle.layout.specs.Shapes.{laid};
 ghost use Rattle.session_messages.specs.declared.missed_message_request_ack.TheConstants.{LETTER, TABLE, TOTAL};
+ghost use Rattle.session_messages.specs.Published.{missed_message_request_ack_published};
 
 use codes::lists::Codes;
 use codes::session::AckResponse;
@@ -23,7 +24,11 @@ const TABLE: [Field; 1] = [Field::Always(4, Form::Code(Codes::AckResponses))];
 impl Layout for MissedMessageRequestAck {
     ghost shape = { laid LETTER TOTAL TABLE };
 
+    ghost published = { missed_message_request_ack_published };
+
     ghost fits = { refl };
+
+    ghost as_published = { refl };
 
     fn shape() -> Shape {
         Shape::new(LETTER, TOTAL, &TABLE)

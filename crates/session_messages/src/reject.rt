@@ -2,6 +2,7 @@
 ghost use Rattle.std.specs.Prelude.{refl};
 ghost use Rattle.layout.specs.Shapes.{Shaped, laid};
 ghost use Rattle.session_messages.specs.declared.reject.TheConstants.{LETTER, TABLE, TOTAL};
+ghost use Rattle.session_messages.specs.Published.{reject_published};
 
 use layout::put::{put_i32, put_text, put_u8};
 use layout::{Field, Form, Framed, Layout, Reader, Shape};
@@ -32,7 +33,11 @@ const TABLE: [Field; 4] = [
 impl Layout for Reject<'_> {
     ghost shape = { laid LETTER TOTAL TABLE };
 
+    ghost published = { reject_published };
+
     ghost fits = { refl };
+
+    ghost as_published = { refl };
 
     fn shape() -> Shape
         ensures { Shaped (laid LETTER TOTAL TABLE) result }

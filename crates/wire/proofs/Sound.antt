@@ -7,13 +7,12 @@ use Rattle.wire.specs.declared.kinds.Channel.{Channel}
 use Rattle.wire.specs.declared.kinds.Channel.TheVariants.{RealTime, Recovery, Follower}
 use Rattle.wire.specs.declared.kinds.Kind.{Kind}
 use Rattle.wire.specs.declared.kinds.Kind.TheVariants as kind
-use Rattle.wire.specs.declared.kinds.TheConstants.{REAL_TIME, RECOVERY, FOLLOWER}
-use Rattle.wire.specs.Kinds.{letter_of, total_of, table_of, takes}
+use Rattle.wire.specs.Kinds.{kinds_of, letter_of, total_of, table_of, takes}
 use Rattle.wire.proofs.Trips.{looked}
 
 -- the first kind that a type byte names, of all
 abbrev named : ℕ → Option Kind
-named t = find (λ k. eqb (letter_of k) t) (REAL_TIME ++ (RECOVERY ++ FOLLOWER))
+named t = find (λ k. eqb (letter_of k) t) (kinds_of RealTime ++ (kinds_of Recovery ++ kinds_of Follower))
 
 -- some reader that takes the kind
 abbrev pub reader_of : Kind → Channel

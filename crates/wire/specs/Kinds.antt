@@ -1,5 +1,5 @@
 -- The kinds of messages: how each is laid out, and which each reader takes. Assumes nothing.
-use Rattle.std.specs.Prelude.{ℕ, List, Option, ◌==◌}
+use Rattle.std.specs.Prelude.{ℕ, List, [], ◌∷◌, Option, ◌==◌}
 use Rattle.std.specs.List.{find}
 use Rattle.layout.specs.declared.field.Field.{Field}
 use Rattle.layout.specs.Shapes.{Laid}
@@ -9,7 +9,6 @@ use Rattle.wire.specs.declared.kinds.Channel.{Channel}
 use Rattle.wire.specs.declared.kinds.Channel.TheVariants as channel
 use Rattle.wire.specs.declared.kinds.Kind.{Kind}
 use Rattle.wire.specs.declared.kinds.Kind.TheVariants as kind
-use Rattle.wire.specs.declared.kinds.TheConstants.{REAL_TIME, RECOVERY, FOLLOWER}
 
 -- how the messages of a kind are laid out, as its message's own file says
 abbrev pub layout_of : Kind → Laid
@@ -41,11 +40,15 @@ total_of k = (layout_of k).total
 abbrev pub table_of : Kind → List Field
 table_of k = (layout_of k).table
 
--- the kinds that a reader takes
+-- the kinds that a reader takes, what comes most often first
 abbrev pub kinds_of : Channel → List Kind
-kinds_of channel.RealTime = REAL_TIME
-kinds_of channel.Recovery = RECOVERY
-kinds_of channel.Follower = FOLLOWER
+kinds_of channel.RealTime =
+    kind.NewOrder ∷ kind.OrderCancelReplaceRequest ∷ kind.OrderCancelRequest ∷ kind.OrderMassCancelRequest
+    ∷ kind.Heartbeat ∷ kind.Logon ∷ kind.Logout ∷ []
+kinds_of channel.Recovery = kind.MissedMessageRequest ∷ kind.Heartbeat ∷ kind.Logon ∷ kind.Logout ∷ []
+kinds_of channel.Follower =
+    kind.ExecutionReport ∷ kind.OrderCancelReject ∷ kind.OrderMassCancelReport ∷ kind.Reject ∷ kind.Heartbeat
+    ∷ kind.LogonReply ∷ kind.MissedMessageRequestAck ∷ kind.MissedMessageReport ∷ kind.Logout ∷ []
 
 -- the one of them that a type byte names
 abbrev pub takes : Channel → ℕ → Option Kind

@@ -2,3 +2,4 @@ pub mod Blanks
 pub mod Kinds
 pub mod Messages
 pub mod Plain
+pub mod Published

@@ -3,7 +3,6 @@ use Rattle.std.specs.Prelude.{◌≡◌, ℕ, ◌+◌, ◌<◌, ◌≤◌, ◌&&
 use Rattle.texts.specs.Bytes.{le, part}
 use Rattle.layout.specs.declared.fault.Fault.{Fault}
 use Rattle.layout.specs.declared.fault.Fault.TheVariants.{Short, Start, Unknown, Length}
-use Rattle.layout.specs.declared.put.TheConstants.{START}
 use Rattle.layout.specs.Layout.{Content, fault_of, Says, text_places}
 use Rattle.layout.specs.Writing.{header, encode}
 use Rattle.layout.specs.Holding.{HoldsIn}
@@ -79,7 +78,7 @@ sized bs (Some k) = if stated bs == total_of k && stated bs == length bs then Ok
 unfoldable pub opening : Channel → List ℕ → Result Kind Fault
 opening ch bs =
     if nat_lt (length bs) 4 || nat_lt (length bs) (stated bs) then Err Short
-    else if le (part 0 1 bs) == START then sized bs (takes ch (le (part 3 1 bs)))
+    else if le (part 0 1 bs) == 2 then sized bs (takes ch (le (part 3 1 bs)))
     else Err Start
 
 -- and behind them the checks of its fields
