@@ -3,3 +3,4 @@ pub mod Kinds
 pub mod Messages
 pub mod Plain
 pub mod Published
+pub mod Streams
