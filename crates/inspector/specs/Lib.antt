@@ -5,3 +5,4 @@ pub mod Shown
 pub mod Labels
 pub mod Account
 pub mod Answers
+pub mod Captures

@@ -5,11 +5,12 @@ ghost use Rattle.layout.specs.Layout.{Says, within};
 ghost use Rattle.wire.specs.Kinds.{table_of};
 ghost use Rattle.wire.specs.Messages.{kind_of, contents_of, written};
 ghost use Rattle.inspector.specs.Shown.{message_text};
-ghost use Rattle.inspector.specs.Answers.{AnswersRead, Answered};
+ghost use Rattle.inspector.specs.Answers.{AnswersFrom, AnswersRead, Answered, Refuses, Shows};
 
 use crate::account::Outcome;
 use crate::line::{Line, is_text, parse};
 use crate::shown::Shown;
+use layout::fault::Fault;
 use layout::reader::Reader;
 use limits::MESSAGE_BYTES;
 use std::alloc::{AllocError, Global};
@@ -47,24 +48,54 @@ fn is_same_again(message: &Message<'_>, bytes: &[u8]) -> bool
     is_text(&out[..n], bytes)
 }
 
+// What is wrong with the bytes of a message, with an offset.
+pub(crate) fn refusal(heap: Global, fault: Fault, offset: u64) -> Result<Answer, AllocError>
+    ensures { IfOk result (λ a. Refuses fault offset a) }
+{
+    let number = fault.number();
+    Ok(Answer {
+        text: format!(in heap; "refused {number} at {offset}")?,
+        outcome: Outcome::Refused(fault),
+    })
+}
+
+// What a message that was read says, and whether it comes out the same.
+fn reading(heap: Global, message: &Message<'_>, bytes: &[u8]) -> Result<Answer, AllocError>
+    requires inside { within (length bytes.now) (table_of (kind_of message.now)) ≡ true }
+    requires says { Says (contents_of message.now) (table_of (kind_of message.now)) bytes.now }
+    ensures { IfOk result (λ a. Shows message.now bytes.now a) }
+{
+    Ok(Answer {
+        text: render(heap, message, bytes)?,
+        outcome: Outcome::Read(is_same_again(message, bytes)),
+    })
+}
+
 /// What the bytes of a message are answered: the message as text, or the check that refuses it and the offset.
 #[tactic(auto, using(crate::proofs::Buffers::read_inside))]
 pub fn answer_message(heap: Global, channel: Channel, bytes: &[u8]) -> Result<Answer, AllocError>
     ensures { IfOk result (λ a. AnswersRead channel bytes.now a) }
 {
     match read(channel, bytes) {
-        Err(fault) => {
-            let number = fault.number();
-            let offset = fault.offset();
-            Ok(Answer {
-                text: format!(in heap; "refused {number} at {offset}")?,
-                outcome: Outcome::Refused(fault),
-            })
-        }
-        Ok(message) => Ok(Answer {
-            text: render(heap, &message, bytes)?,
-            outcome: Outcome::Read(is_same_again(&message, bytes)),
-        }),
+        Err(fault) => refusal(heap, fault, fault.offset() as u64),
+        Ok(message) => reading(heap, &message, bytes),
+    }
+}
+
+/// The same of a message whose first byte stands at an offset of a stream: what is wrong with it is told by its own
+/// offset there.
+#[tactic(auto, using(crate::proofs::Buffers::read_inside))]
+pub(crate) fn answer_from(
+    heap: Global,
+    channel: Channel,
+    bytes: &[u8],
+    at: u64,
+) -> Result<Answer, AllocError>
+    ensures { IfOk result (λ a. AnswersFrom at channel bytes.now a) }
+{
+    match read(channel, bytes) {
+        Err(fault) => refusal(heap, fault, at.saturating_add(fault.offset() as u64)),
+        Ok(message) => reading(heap, &message, bytes),
     }
 }
 

@@ -1,8 +1,9 @@
-// Reads lines that hold captured messages, shows each message as text, and keeps the account.
+// Reads lines that hold captured messages, or a captured stream; shows each message as text, and keeps the account.
 #![tactic(auto)]
 
 pub mod account;
 pub mod answer;
+pub mod capture;
 mod labels;
 pub mod line;
 mod shown;

@@ -71,7 +71,8 @@ pub(crate) fn is_text(word: &[u8], text: &[u8]) -> bool
     word == text
 }
 
-fn channel(name: &[u8]) -> Option<Channel>
+/// The reader of a name: `real-time`, `recovery` or `follower`.
+pub fn channel(name: &[u8]) -> Option<Channel>
     ensures { result ≡ channel_of name.now }
 {
     if is_text(name, b"real-time") {

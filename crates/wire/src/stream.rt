@@ -212,6 +212,13 @@ impl Splitter {
         }
     }
 
+    /// Who reads the stream.
+    pub fn channel(&self) -> Channel
+        ensures { result ≡ self.now.channel }
+    {
+        self.channel
+    }
+
     /// Takes from the front of a chunk what the next message lacks. A message that was handed out is gone then.
     #[tactic(auto, using(crate::proofs::Cuts::fits))]
     pub fn next(&mut self, chunk: &[u8]) -> Next
@@ -239,7 +246,7 @@ impl Splitter {
         self.held.as_slice()
     }
 
-    /// Where in the stream it begins.
+    /// Where in the stream that begins.
     pub fn offset(&self) -> u64
         ensures { result ≡ self.now.at }
     {
