@@ -1,6 +1,7 @@
 // What the programs here have in common: a command line, inputs that are read a line at a time, and how a run ends.
 #![tactic(auto)]
 
+use clap::builder::ValueParser;
 use clap::{Arg, ArgAction, ArgMatches, Command};
 use std::alloc::Global;
 use std::io::{BufRead, BufReader, Read};
@@ -18,10 +19,27 @@ pub struct About {
     pub words: &'static str,
 }
 
+/// An option by which a program's input is read as it comes, and not by lines.
+#[derive(Clone, Copy)]
+pub struct Choice {
+    pub name: &'static str,
+    /// The words that it may be given.
+    pub words: &'static [&'static str],
+    pub help: &'static str,
+}
+
 /// What a program does with its input.
 pub trait Session {
     /// Answers one line, whose end is cut off; the line may be any bytes.
     fn line<R: Print + AllocGlobal>(&mut self, rt: &R, line: &[u8]) -> io::Result<()>;
+
+    /// Takes the word of the program's option; from then on its input comes in chunks.
+    fn choose(&mut self, _word: &str) {}
+
+    /// Answers some bytes of the input, as many as came at once.
+    fn chunk<R: Print + AllocGlobal>(&mut self, _rt: &R, _bytes: &[u8]) -> io::Result<()> {
+        Ok(())
+    }
 
     /// Says what is to be said behind the last line.
     fn close<R: Print + AllocGlobal>(&mut self, rt: &R) -> io::Result<()>;
@@ -39,24 +57,37 @@ fn bare<'a>(alloc: Global, about: About) -> Command<'a> {
         .after_help(about.words)
 }
 
-fn command<'a>(alloc: Global, about: About) -> Result<Command<'a>, clap::Error> {
+fn command<'a>(
+    alloc: Global,
+    about: About,
+    choice: Option<Choice>,
+) -> Result<Command<'a>, clap::Error> {
     let file = Arg::new(alloc, "FILE").action(ArgAction::Append).help(
         "a file to read, or - for standard input; with none, standard input is read",
     );
-    Ok(
-        Command::new(alloc, about.name)
-            .about(about.summary)
-            .after_help(about.words)
-            .arg(file)?,
-    )
+    let command = bare(alloc, about).arg(file)?;
+    match choice {
+        None => Ok(command),
+        Some(choice) => Ok(command.arg(option(alloc, choice))?),
+    }
+}
+
+fn option<'a>(alloc: Global, choice: Choice) -> Arg<'a> {
+    Arg::new(alloc, choice.name)
+        .long(choice.name)
+        .action(ArgAction::Set)
+        .value_name("READER")
+        .value_parser(ValueParser::Names(choice.words))
+        .help(choice.help)
 }
 
 fn parse<'a>(
     alloc: Global,
     about: About,
+    choice: Option<Choice>,
     words: &'a [String],
 ) -> Result<ArgMatches<'a>, clap::Error> {
-    command(alloc, about)?.try_get_matches_from(words)
+    command(alloc, about, choice)?.try_get_matches_from(words)
 }
 
 /// One input, line by line to its end.
@@ -78,20 +109,53 @@ fn feed<R: Print + AllocGlobal, I: Read + Drop, S: Session>(
     Ok(())
 }
 
+/// One input to its end, in chunks as its bytes come.
+fn pour<R: Print + AllocGlobal, I: Read + Drop, S: Session>(
+    rt: &R,
+    mut input: I,
+    session: &mut S,
+) -> io::Result<()> {
+    let mut chunk = [0; 4096];
+    for _ in 0..u64::MAX {
+        match input.read(&mut chunk) {
+            Ok(0) => break,
+            Ok(len) => session.chunk(rt, &chunk[..len])?,
+            Err(error) if error.kind() == io::ErrorKind::Interrupted => {}
+            Err(error) => return Err(error),
+        }
+    }
+    Ok(())
+}
+
+/// One input, in chunks or by lines.
+fn take<R: Print + AllocGlobal, I: Read + Drop, S: Session>(
+    rt: &R,
+    input: I,
+    in_chunks: bool,
+    session: &mut S,
+) -> io::Result<()> {
+    if in_chunks {
+        pour(rt, input, session)
+    } else {
+        feed(rt, input, session)
+    }
+}
+
 /// Each of the named inputs in turn, as if they were one; the first that cannot be opened is told of and ends it.
 fn feed_all<R: Print + Eprint + Input + Files + AllocGlobal, S: Session>(
     rt: &R,
     about: About,
     names: &[&str],
+    in_chunks: bool,
     session: &mut S,
 ) -> io::Result<ExitCode> {
     for name in names {
         if *name == "-" {
-            feed(rt, rt.reader(), session)?;
+            take(rt, rt.reader(), in_chunks, session)?;
             continue;
         }
         match fs::open(rt, *name) {
-            Ok(file) => feed(rt, file, session)?,
+            Ok(file) => take(rt, file, in_chunks, session)?,
             Err(error) => {
                 let program = about.name;
                 eprintln!(rt; "{program}: cannot read {name}: {error}")?;
@@ -105,20 +169,29 @@ fn feed_all<R: Print + Eprint + Input + Files + AllocGlobal, S: Session>(
 fn play<R: Print + Eprint + Input + Files + Env + AllocGlobal, S: Session>(
     rt: &R,
     about: About,
+    choice: Option<Choice>,
     session: &mut S,
 ) -> io::Result<ExitCode> {
     let words: Vec<String> = env::args(rt)?.collect(rt.alloc())?;
-    let matches = match parse(rt.alloc(), about, &words) {
+    let matches = match parse(rt.alloc(), about, choice, &words) {
         Ok(matches) => matches,
         Err(error) => {
             error.print(rt)?;
             return Ok(ExitCode::from(error.exit_code() as u8));
         }
     };
+    let chosen = match choice {
+        None => None,
+        Some(choice) => matches.get_str(choice.name),
+    };
+    if let Some(word) = chosen {
+        session.choose(word);
+    }
+    let in_chunks = chosen.is_some();
     let code = match matches.get_strs("FILE") {
-        Some(names) => feed_all(rt, about, names, session)?,
+        Some(names) => feed_all(rt, about, names, in_chunks, session)?,
         None => {
-            feed(rt, rt.reader(), session)?;
+            take(rt, rt.reader(), in_chunks, session)?;
             ExitCode::SUCCESS
         }
     };
@@ -160,7 +233,18 @@ pub fn run<R: Print + Eprint + Input + Files + Env + AllocGlobal, S: Session>(
     about: About,
     session: &mut S,
 ) -> ExitCode {
-    let outcome = play(rt, about, session);
+    let outcome = play(rt, about, None, session);
+    ended(rt, about, outcome)
+}
+
+/// The same of a program with an option: where it is given, the session takes its word and then its input in chunks.
+pub fn run_with<R: Print + Eprint + Input + Files + Env + AllocGlobal, S: Session>(
+    rt: &R,
+    about: About,
+    choice: Choice,
+    session: &mut S,
+) -> ExitCode {
+    let outcome = play(rt, about, Some(choice), session);
     ended(rt, about, outcome)
 }
 
