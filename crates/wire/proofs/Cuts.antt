@@ -13,11 +13,11 @@ use Rattle.wire.specs.declared.stream.Next.TheVariants as next
 use Rattle.wire.specs.declared.stream.StreamFault.{StreamFault}
 use Rattle.wire.specs.Kinds.{total_of, takes}
 use Rattle.wire.specs.Messages.{opening, stated, sized}
-use Rattle.wire.specs.Streams.{Front, Splitting, Feeds, IsCut, OneCut, front, begun, sized_as, later, fresh, pending, start, front_with, given, answer_by, fault_in, standing}
+use Rattle.wire.specs.Streams.{Front, Splitting, Feeds, IsCut, OneCut, front, begun, sized_as, later, fresh, pending, start, front_with, given, answer_by, fault_in, reached, standing, IsOpen}
 use Rattle.wire.specs.Streams.Front.{unfinished, message, broken}
 use Rattle.wire.specs.Streams.Feeds.{ends, uses, hands, stops}
 use Rattle.wire.proofs.Sound.{sound}
-use Rattle.wire.proofs.Fronts.{message_is, message_on, message_in, broken_on, message_self}
+use Rattle.wire.proofs.Fronts.{broken_is, message_is, message_on, message_in, broken_on, message_self}
 
 -- a header that says how long its message is
 kept : (b : Bool) (r : Result ℕ Fault) (x : Fault) (n : ℕ) → cond b r (Err x) ≡ Ok n → (b ≡ true) × (r ≡ Ok n)
@@ -163,21 +163,6 @@ answer_broken at k unfinished x e = cc
 answer_broken at k (message m) x e = cc
 answer_broken at k (broken y) x e = (y, refl)
 
--- a message takes no more than the chunk has
-fits_by : (ch : Channel) (h c : List ℕ) (n : ℕ) (f : Front) → front ch (h ++ c) ≡ f → Ok (Some n) ≡ standing (length h) f
-    → n ≤ length c
-fits_by ch h c n unfinished e s = cc
-fits_by ch h c n (message m) e s =
-    let q = message_is ch (h ++ c) m e in
-    let a = length-append h c in
-    let l = q.2 in
-    let k : n ≡ m - length h = cc in
-    omega arith
-fits_by ch h c n (broken x) e s = cc
-
-pub fits : (ch : Channel) (h c : List ℕ) (n : ℕ) → Ok (Some n) ≡ standing (length h) (front ch (h ++ c)) → n ≤ length c
-fits ch h c n s = fits_by ch h c n (front ch (h ++ c)) refl s
-
 -- what it then is, by what stands at the front
 abbrev with_more : Splitting → List ℕ → Splitting
 with_more s c = record { channel = s.channel; at = start s; held = pending s ++ c; handed = false }
@@ -221,6 +206,54 @@ beyond s c m e w =
     let a = length-append (pending s) c in
     let n = q.2 in
     (l, b, omega arith)
+
+-- what a call leaves is open, by what the splitter's bytes stand for
+none_by : (k : ℕ) (f : Front) → Ok None ≡ standing k f → f ≡ unfinished
+none_by k unfinished s = refl
+none_by k (message m) s = cc
+none_by k (broken x) s = cc
+
+some_by : (k n : ℕ) (f : Front) → Ok (Some n) ≡ standing k f → (m : ℕ) × (f ≡ message m) × (n ≡ m - k)
+some_by k n unfinished s = cc
+some_by k n (message m) s = (m, refl, cc)
+some_by k n (broken x) s = cc
+
+err_by : (k : ℕ) (x : Fault) (f : Front) → Err x ≡ standing k f → f ≡ broken x
+err_by k x unfinished s = cc
+err_by k x (message m) s = cc
+err_by k x (broken y) s = cc
+
+pub open_empty : (ch : Channel) (held : List ℕ) → held ≡ [] → IsOpen ch held false
+open_empty ch held e b n m = let q = (message_is ch [] n (ap (front ch) (sym e) ∙ m)).0 in omega arith
+
+pub open_more : (ch : Channel) (h c held : List ℕ) → held ≡ reached ch (h ++ c)
+    → Ok None ≡ standing (length h) (front ch (h ++ c)) → IsOpen ch held false
+open_more ch h c held e s b n m =
+    let all = h ++ c in
+    let u = none_by (length h) (front ch all) s in
+    let w : reached ch all ≡ all = rw u (take_all (length all) all (omega arith)) in
+    let k : front ch all ≡ message n = ap (front ch) (sym w ∙ sym e) ∙ m in
+    cc
+
+pub open_broken : (ch : Channel) (h c held : List ℕ) (x : Fault) → held ≡ reached ch (h ++ c)
+    → Err x ≡ standing (length h) (front ch (h ++ c)) → IsOpen ch held false
+open_broken ch h c held x e s b n m =
+    let all = h ++ c in
+    let u = err_by (length h) x (front ch all) s in
+    let w : reached ch all ≡ take 4 all = rw u refl in
+    let q = (broken_is ch all x u).1 in
+    let p = (message_is ch held n m).1 in
+    let t : take 4 held ≡ take 4 all = ap (take 4) (e ∙ w) ∙ take-take 4 4 all (omega arith) in
+    let g = ap (begun ch) t in
+    cc
+
+pub fits : (ch : Channel) (h c : List ℕ) (n : ℕ) → IsOpen ch h false
+    → Ok (Some n) ≡ standing (length h) (front ch (h ++ c)) → (0 < n) × (n ≤ length c)
+fits ch h c n o s =
+    let a = some_by (length h) n (front ch (h ++ c)) s in
+    let t : Splitting = record { channel = ch; at = 0; held = h; handed = false } in
+    let b = beyond t c a.0 a.1 (o refl) in
+    (omega arith, omega arith)
 
 -- what chunks come to
 abbrev Outcome : Splitting → List (List ℕ) → List (List ℕ) → List ℕ → ℕ → Type 0

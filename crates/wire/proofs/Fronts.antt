@@ -59,7 +59,7 @@ message_is ch bs n e =
     let t = by_total (begun ch (take 4 bs)) (length bs) n q.1 in
     (ltb-false (length bs) 4 q.0, t.0, t.1)
 
-broken_is : (ch : Channel) (bs : List ℕ) (x : Fault) → front ch bs ≡ broken x
+pub broken_is : (ch : Channel) (bs : List ℕ) (x : Fault) → front ch bs ≡ broken x
     → (4 ≤ length bs) × (begun ch (take 4 bs) ≡ Err x)
 unfolding front
 broken_is ch bs x e =

@@ -1,6 +1,6 @@
 -- A stream of bytes as messages, one behind another: what stands at its front, what a splitter makes of a chunk, and
 -- what it is to cut a whole stream. Assumes nothing.
-use Rattle.std.specs.Prelude.{◌≡◌, ◌≢◌, ℕ, ◌+◌, ◌-◌, ◌^◌, ◌≤◌, min, Bool, true, false, if◌then◌else◌, List, [], ◌∷◌, ◌++◌, length, take, drop, Some, None, Ok, Err, Option, Result, is_ok, ◌==◌, nat_lt}
+use Rattle.std.specs.Prelude.{◌≡◌, ◌≢◌, ℕ, ◌+◌, ◌-◌, ◌^◌, ◌<◌, ◌≤◌, min, Bool, true, false, if◌then◌else◌, List, [], ◌∷◌, ◌++◌, length, take, drop, Some, None, Ok, Err, Option, Result, is_ok, ◌==◌, nat_lt}
 use Rattle.std.specs.List.{AllByRecursion, concat}
 use Rattle.texts.specs.Bytes.{le, part}
 use Rattle.layout.specs.declared.fault.Fault.{Fault}
@@ -111,10 +111,14 @@ answer_by at held (broken e) = next.Fault (fault_in at e)
 abbrev pub answer : Splitting → List ℕ → Next
 answer s chunk = answer_by (start s) (length (pending s)) (front_with s chunk)
 
--- a message takes no more than the chunk has
+-- what is held is no whole message, unless it was handed out
+abbrev pub IsOpen : Channel → List ℕ → Bool → Type 0
+IsOpen ch held handed = handed ≡ false → (n : ℕ) → front ch held ≢ message n
+
+-- a message takes some of the chunk, and no more than it has
 abbrev pub Within : ℕ → Next → Type 0
 Within most next.Unfinished = Unit {0}
-Within most (next.Message n) = n ≤ most
+Within most (next.Message n) = (0 < n) × (n ≤ most)
 Within most (next.Fault e) = Unit {0}
 
 -- what is wrong with what is left where a stream ends: what no message begins with, or a message that is cut short

@@ -171,11 +171,13 @@ pub struct Splitter {
 }
 
 impl Model for Splitter {
-    ghost use Rattle.wire.specs.Streams.{Splitting};
+    ghost use Rattle.wire.specs.Streams.{IsOpen, Splitting};
 
     ghost Value = { Splitting };
 
     ghost view = { λ s. record { channel = s.channel; at = s.at; held = s.held; handed = s.handed } };
+
+    ghost invariant = { λ s. IsOpen s.channel s.held s.handed };
 }
 
 impl Splitter {
@@ -220,7 +222,6 @@ impl Splitter {
     }
 
     /// Takes from the front of a chunk what the next message lacks. A message that was handed out is gone then.
-    #[tactic(auto, using(crate::proofs::Cuts::fits))]
     pub fn next(&mut self, chunk: &[u8]) -> Next
         ensures after { self.new ≡ given self.old chunk.now }
         ensures answer { result ≡ answer self.old chunk.now }
