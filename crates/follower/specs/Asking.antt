@@ -18,7 +18,7 @@ use Rattle.wire.specs.declared.message.TheConstants.{BUFFER}
 use Rattle.follower.specs.declared.stage.Stage.{Stage}
 use Rattle.follower.specs.declared.stage.Stage.TheVariants.{Idle, Asked, Running}
 use Rattle.follower.specs.Following.{Following}
-use Rattle.follower.specs.Owing.{owed, owing}
+use Rattle.follower.specs.Owing.{owed}
 
 -- the bytes of the request for a partition's reports above a number
 unfoldable pub request : Partition → ℕ → List ℕ
@@ -58,20 +58,18 @@ asking f t n room =
     else if f.up then asking_of f t (partition_of n)
     else Err fault.NotUp
 
--- what asking answers, and what it leaves of the follower, the buffer and the token
+-- what asking answers, and what it leaves of the follower and the buffer
 pub record Asks : Type 0 where
   pub answer : Result ℕ FollowerFault
   pub after : Following
   pub out : List ℕ
-  pub token : Pending
 
 abbrev pub asks_of : Following → Pending → List ℕ → Result Partition FollowerFault → Asks
-asks_of f t out (Err e) = record { answer = Err e; after = f; out = out; token = t }
+asks_of f t out (Err e) = record { answer = Err e; after = f; out = out }
 asks_of f t out (Ok p) = record {
   answer = Ok (total_of Request);
   after = record f { download = Asked p };
   out = request p (at f.sides p).place ++ drop (total_of Request) out;
-  token = owing p;
 }
 
 abbrev pub asks : Following → Pending → ℕ → List ℕ → Asks

@@ -1,11 +1,6 @@
--- Which download is owed, and what spends its token. Assumes nothing.
-use Rattle.std.specs.Prelude.{◌≡◌, Some, None, Ok, Err, Option, Result}
+-- Which download is owed, and what becomes of its token. Assumes nothing.
+use Rattle.std.specs.Prelude.{◌≡◌, ℕ, ◌+◌, ◌≤◌, ◌⊎◌, Some, None, Option}
 use Rattle.codes.specs.declared.session.Partition.{Partition}
-use Rattle.follower.specs.declared.answer.Live.{Live}
-use Rattle.follower.specs.declared.answer.Recovered.{Recovered}
-use Rattle.follower.specs.declared.answer.Recovered.TheVariants.{Ended}
-use Rattle.follower.specs.declared.fault.FollowerFault.{FollowerFault}
-use Rattle.follower.specs.declared.fault.FollowerFault.TheVariants.{HoldFull}
 use Rattle.follower.specs.declared.pending.Pending.{Pending}
 use Rattle.follower.specs.declared.pending.Pending.TheVariants as pending
 use Rattle.follower.specs.declared.stage.Stage.{Stage}
@@ -21,24 +16,38 @@ owed (pending.Owed d) = Some d.partition
 abbrev pub owing : Partition → Pending
 owing p = pending.Owed (record { partition = p })
 
--- the partition of the download that a follower has asked, or that runs
+-- the partition of the download that is asked, or that runs
 abbrev pub awaited : Stage → Option Partition
 awaited stage.Idle = None
 awaited (stage.Asked p) = Some p
 awaited (stage.Running p) = Some p
 
+-- the token after a call, by what is awaited before it and after it: made where the call began a download, spent where
+-- it ended one, and otherwise given back as it was, whosever it is
+abbrev pub handed : Option Partition → Option Partition → Pending → Pending
+handed None (Some p) t = owing p
+handed (Some p) None t = pending.Idle
+handed None None t = t
+handed (Some p) (Some q) t = t
+
+-- the same, by the follower before the call and after it
+abbrev pub token_after : Following → Following → Pending → Pending
+token_after f g t = handed (awaited f.download) (awaited g.download) t
+
+-- a call that begins no download: what is awaited before it is still awaited, or no more
+abbrev pub BeginsNone : Following → Following → Type 0
+BeginsNone f g = (awaited g.download ≡ awaited f.download) ⊎ (awaited g.download ≡ None)
+
 -- a token is owed exactly where a download is asked or runs, and it is of that partition
 abbrev pub Tied : Pending → Following → Type 0
 Tied t f = owed t ≡ awaited f.download
 
--- live: only a full hold, which acts as a lost line, spends the token
-abbrev pub after_live : Result Live FollowerFault → Pending → Pending
-after_live (Ok a) t = t
-after_live (Err HoldFull) t = pending.Idle
-after_live (Err e) t = t
+-- how many there are of what there is one of or none
+abbrev pub count : Option Partition → ℕ
+count None = 0
+count (Some p) = 1
 
--- recovered: only the end of the download spends it
-abbrev pub after_recovered : Result Recovered FollowerFault → Pending → Pending
-after_recovered (Ok Ended) t = pending.Idle
-after_recovered (Ok a) t = t
-after_recovered (Err e) t = t
+-- from token t and follower f to token u and follower g, what is owed falls by no more than what is awaited does: so no
+-- fewer tokens are owed than downloads are awaited, whosever they are
+abbrev pub Covers : Pending → Following → Pending → Following → Type 0
+Covers t f u g = count (owed t) + count (awaited g.download) ≤ count (owed u) + count (awaited f.download)

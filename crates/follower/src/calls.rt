@@ -1,16 +1,17 @@
-// The five calls of a follower. Each takes the token of the download that is owed, and gives back what is owed
-// after it.
+// The five calls of a follower. Each takes a token of what is owed, and gives back what is owed after it: a call that
+// ends a download of this follower spends it, and any other gives it back, so none is lost by a follower that it is
+// not of.
 ghost use Rattle.std.specs.Prelude.{◌≡◌, true, false, length, IfOk};
-ghost use Rattle.follower.specs.declared.pending.Pending.TheVariants.{Idle};
 ghost use Rattle.follower.specs.Following.{turned, live_step, recovered_step};
 ghost use Rattle.follower.specs.Hearing.{heard_in};
-ghost use Rattle.follower.specs.Owing.{Tied, after_live, after_recovered};
+ghost use Rattle.follower.specs.Owing.{owed, token_after, BeginsNone, Tied, Covers};
+ghost use Rattle.follower.specs.declared.stage.Stage.TheVariants.{Idle};
 ghost use Rattle.follower.specs.Asking.{asks, asking, ReadBack};
 ghost use Rattle.partitions.specs.PerPartition.{at};
 
 use crate::answer::{Live, Recovered};
 use crate::fault::FollowerFault;
-use crate::pending::{Pending, after_live, after_recovered};
+use crate::pending::Pending;
 use crate::reading::hear;
 use crate::request::write_request;
 use crate::stage::Stage;
@@ -22,41 +23,54 @@ use wire::message::BUFFER;
 impl Follower {
     /// The line is up: all partitions are behind, nothing is held, and a download has ended. Places and standings
     /// stay.
+    #[tactic(auto, using(crate::proofs::Ties::begins_none, crate::proofs::Ties::settled_tied, crate::proofs::Ties::settled_covers))]
     pub fn up(&mut self, pending: Pending) -> Pending
         ensures after { self.new ≡ turned true self.old }
-        ensures token { result ≡ Idle }
-        ensures tie { Tied result self.new }
+        ensures token { result ≡ token_after self.old self.new pending }
+        ensures tie { Tied pending self.old → Tied result self.new }
+        ensures covered { Covers pending self.old result self.new }
     {
+        let before = self.stage;
         self.turn(true);
-        pending.end()
+        pending.settle(before, self.stage)
     }
 
     /// The line is lost: the same, but the follower is not up.
+    #[tactic(auto, using(crate::proofs::Ties::begins_none, crate::proofs::Ties::settled_tied, crate::proofs::Ties::settled_covers))]
     pub fn lost(&mut self, pending: Pending) -> Pending
         ensures after { self.new ≡ turned false self.old }
-        ensures token { result ≡ Idle }
-        ensures tie { Tied result self.new }
+        ensures token { result ≡ token_after self.old self.new pending }
+        ensures tie { Tied pending self.old → Tied result self.new }
+        ensures covered { Covers pending self.old result self.new }
     {
+        let before = self.stage;
         self.turn(false);
-        pending.end()
+        pending.settle(before, self.stage)
     }
 
-    /// Takes a message that came on the real-time channel. A refusal changes nothing, but that a full hold (54)
-    /// acts as `lost`.
-    #[tactic(auto, using(crate::proofs::Ties::live_tied))]
+    /// Takes a message that came on the real-time channel. Refused with 1 to 5 where the bytes are no message that a
+    /// follower reads (by the check of the message that fails), with 50 where it is not up, with 53 where the report
+    /// does not fit what is known, with 55 where there is no room for its order: then the follower and the token are
+    /// as they were. Refused with 54 where the hold is full: that acts as `lost`.
+    #[tactic(auto, using(crate::proofs::Ties::begins_none, crate::proofs::Ties::settled_tied, crate::proofs::Ties::settled_covers))]
     pub fn live(&mut self, bytes: &[u8], pending: Pending) -> (Result<Live, FollowerFault>, Pending)
         ensures answer { result.0 ≡ (live_step self.old (heard_in bytes.now)).answer }
         ensures after { self.new ≡ (live_step self.old (heard_in bytes.now)).after }
-        ensures token { result.1 ≡ after_live result.0 pending }
+        ensures token { result.1 ≡ token_after self.old self.new pending }
         ensures tie { Tied pending self.old → Tied result.1 self.new }
+        ensures covered { Covers pending self.old result.1 self.new }
     {
+        let before = self.stage;
         let answer = self.take_live(bytes);
-        let pending = after_live(&answer, pending);
-        (answer, pending)
+        (answer, pending.settle(before, self.stage))
     }
 
-    /// Takes a message that came on the recovery channel. A refusal changes nothing.
-    #[tactic(auto, using(crate::proofs::Ties::recovered_tied))]
+    /// Takes a message that came on the recovery channel. Refused with 1 to 5 where the bytes are no message that a
+    /// follower reads, with 50 where it is not up, with 51 where a report is not of the download's partition, with 52
+    /// where the download does not wait for such a message, with 53 where a report, or one that is held when the
+    /// download completes, does not fit what is known, with 55 where there is no room for its order: then the follower
+    /// and the token are as they were.
+    #[tactic(auto, using(crate::proofs::Ties::begins_none, crate::proofs::Ties::settled_tied, crate::proofs::Ties::settled_covers))]
     pub fn recovered(
         &mut self,
         bytes: &[u8],
@@ -64,17 +78,19 @@ impl Follower {
     ) -> (Result<Recovered, FollowerFault>, Pending)
         ensures answer { result.0 ≡ (recovered_step self.old (heard_in bytes.now)).answer }
         ensures after { self.new ≡ (recovered_step self.old (heard_in bytes.now)).after }
-        ensures token { result.1 ≡ after_recovered result.0 pending }
+        ensures token { result.1 ≡ token_after self.old self.new pending }
         ensures tie { Tied pending self.old → Tied result.1 self.new }
+        ensures covered { Covers pending self.old result.1 self.new }
     {
+        let before = self.stage;
         let answer = self.take_recovered(bytes);
-        let pending = after_recovered(&answer, pending);
-        (answer, pending)
+        (answer, pending.settle(before, self.stage))
     }
 
     /// Writes a request for the reports of a partition above its place, and says how many bytes it has; the bytes
-    /// past it stay. A refusal changes nothing, the buffer neither.
-    #[tactic(auto, using(crate::proofs::Ties::asked_tied))]
+    /// past it stay. Refused with 6 where the buffer has fewer than 512 bytes, with 50 where the follower is not up,
+    /// with 51 where there is no such partition, with 52 where a download is asked or runs already, or the token is
+    /// owed: then the follower, the token and the buffer are as they were.
     pub fn ask(
         &mut self,
         partition: u8,
@@ -84,8 +100,9 @@ impl Follower {
         ensures answer { result.0 ≡ (asks self.old pending partition out.old).answer }
         ensures after { self.new ≡ (asks self.old pending partition out.old).after }
         ensures bytes { out.new ≡ (asks self.old pending partition out.old).out }
-        ensures token { result.1 ≡ (asks self.old pending partition out.old).token }
+        ensures token { result.1 ≡ token_after self.old self.new pending }
         ensures tie { Tied pending self.old → Tied result.1 self.new }
+        ensures covered { Covers pending self.old result.1 self.new }
         ensures read { IfOk
             (asking self.old pending partition (length out.old))
             (λ p. ReadBack p (at self.old.sides p).place) }
@@ -103,6 +120,7 @@ impl Follower {
     fn take_live(&mut self, bytes: &[u8]) -> Result<Live, FollowerFault>
         ensures answer { result ≡ (live_step self.old (heard_in bytes.now)).answer }
         ensures after { self.new ≡ (live_step self.old (heard_in bytes.now)).after }
+        ensures none { BeginsNone self.old self.new }
     {
         let heard = hear(bytes)?;
         if !self.up {
@@ -114,6 +132,7 @@ impl Follower {
     fn take_recovered(&mut self, bytes: &[u8]) -> Result<Recovered, FollowerFault>
         ensures answer { result ≡ (recovered_step self.old (heard_in bytes.now)).answer }
         ensures after { self.new ≡ (recovered_step self.old (heard_in bytes.now)).after }
+        ensures none { BeginsNone self.old self.new }
     {
         let heard = hear(bytes)?;
         if !self.up {
@@ -129,7 +148,8 @@ impl Follower {
         room: usize,
         pending: &Pending,
     ) -> Result<Partition, FollowerFault>
-        ensures { result ≡ asking self.now pending.now partition room }
+        ensures answer { result ≡ asking self.now pending.now partition room }
+        ensures free { IfOk result (λ _. (self.now.download ≡ Idle) × (owed pending.now ≡ None)) }
     {
         if room < BUFFER {
             return Err(FollowerFault::Buffer);

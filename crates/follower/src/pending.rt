@@ -1,10 +1,9 @@
 // The token of a download that was asked: whoever holds it owes that the download comes to its end.
 ghost use Rattle.std.specs.Prelude.{◌≡◌, None};
-ghost use Rattle.follower.specs.Owing.{owed, owing, after_live, after_recovered};
+ghost use Rattle.follower.specs.Owing.{owed, owing, awaited, handed};
 ghost use Rattle.follower.specs.declared.pending.Pending.TheVariants.{Idle};
 
-use crate::answer::{Live, Recovered};
-use crate::fault::FollowerFault;
+use crate::stage::Stage;
 use codes::session::Partition;
 
 /// A download that was asked and has not ended. Only a follower makes one and lets one go.
@@ -53,8 +52,19 @@ impl Pending {
         }
     }
 
-    // The download has ended.
-    pub(crate) fn end(self) -> Pending
+    // What is owed after a call that began no download, by the stage before it and after it: the token is spent
+    // where a download has ended.
+    pub(crate) fn settle(self, before: Stage, after: Stage) -> Pending
+        requires { awaited before ≡ None → awaited after ≡ None }
+        ensures { result ≡ handed (awaited before) (awaited after) self }
+    {
+        match (before.awaited(), after.awaited()) {
+            (Some(_), None) => self.end(),
+            _ => self,
+        }
+    }
+
+    fn end(self) -> Pending
         ensures { result ≡ Idle }
     {
         self.spend();
@@ -66,28 +76,5 @@ impl Pending {
             Pending::Idle => {}
             Pending::Owed(download) => download.spend(),
         }
-    }
-}
-
-/// What is owed after a message that came live: a full hold counts as a lost line, and ends the download.
-pub(crate) fn after_live(answer: &Result<Live, FollowerFault>, pending: Pending) -> Pending
-    ensures { result ≡ after_live answer.now pending }
-{
-    match answer {
-        Err(FollowerFault::HoldFull) => pending.end(),
-        _ => pending,
-    }
-}
-
-/// What is owed after a message of the recovery channel, which may end the download.
-pub(crate) fn after_recovered(
-    answer: &Result<Recovered, FollowerFault>,
-    pending: Pending,
-) -> Pending
-    ensures { result ≡ after_recovered answer.now pending }
-{
-    match answer {
-        Ok(Recovered::Ended) => pending.end(),
-        _ => pending,
     }
 }
