@@ -20,7 +20,7 @@ use Rattle.ends.proofs.Serves.{quietly, real_time, recovery, sends_on, recovers_
 use Rattle.ends.specs.Agreement.{Agrees, AllTaken, SameOrders, Taken, Takes, HeardAs, Took, is_hers, is_unfit, place, refuses_report}
 use Rattle.ends.specs.Allowed.{Allowed, Line, accepted, quiet, behind, after_logon, after_recovery, after_venue, after_up, after_ask, given_live, or_lost, after_call, after_log, onward}
 use Rattle.ends.specs.Laws.{is_full, state_of}
-use Rattle.ends.specs.Runs.{Desk, Does, Runs, Tells, fresh, blank}
+use Rattle.ends.specs.Runs.{Desk, Does, Runs, Tells, moved, fresh, blank}
 use Rattle.ends.specs.declared.allowed.Breach.TheVariants.{NoLogon}
 use Rattle.call.specs.declared.both_ends.Asked.{Asked}
 use Rattle.call.specs.declared.both_ends.Done.{Done}
@@ -29,7 +29,7 @@ use Rattle.follower.proofs.Quiets.{stays_quiet}
 use Rattle.follower.specs.Asking.{request, ReadBack, is_free, asking_of, asking, partition_of, asks_of}
 use Rattle.follower.specs.Following.{Following, turned, live_step, recovered_step}
 use Rattle.follower.specs.Hearing.{heard_in}
-use Rattle.follower.specs.Owing.{owed, after_live, after_recovered}
+use Rattle.follower.specs.Owing.{owed, token_after}
 use Rattle.follower.specs.Quiet.{Quiet}
 use Rattle.follower.specs.declared.fault.FollowerFault.{FollowerFault}
 use Rattle.follower.specs.declared.fault.FollowerFault.TheVariants.{Buffer, NotUp, OutOfTurn}
@@ -337,10 +337,7 @@ module _ (c : ℕ) (s : State) (d : Desk) (x : Line) (t : Taking) (k : Keeps c s
   pub ask_keeps : (n : ℕ) (r : Asked) (e : Desk) → r.answer
       ≡ (asks_of d.follower d.token blank (asking d.follower d.token n (length blank))).answer → r.buffer
       ≡ (asks_of d.follower d.token blank (asking d.follower d.token n (length blank))).out
-      → e ≡ record {
-        follower = (asks_of d.follower d.token blank (asking d.follower d.token n (length blank))).after;
-        token = (asks_of d.follower d.token blank (asking d.follower d.token n (length blank))).token;
-      }
+      → e ≡ moved d (asks_of d.follower d.token blank (asking d.follower d.token n (length blank))).after
       → IfOk (asking d.follower d.token n (length blank)) (λ p. ReadBack p (at d.follower.sides p).place)
       → Keeps c s e (after_ask r.answer r.buffer x) t
   ask_keeps n r e ea eb ee told = by (asking d.follower d.token n (length blank)) refl ea eb ee told
@@ -350,13 +347,11 @@ module _ (c : ℕ) (s : State) (d : Desk) (x : Line) (t : Taking) (k : Keeps c s
 
       by : (o : Result Partition FollowerFault) → asking d.follower d.token n (length blank) ≡ o → r.answer
           ≡ (asks_of d.follower d.token blank o).answer → r.buffer ≡ (asks_of d.follower d.token blank o).out
-          → e ≡ record {
-            follower = (asks_of d.follower d.token blank o).after;
-            token = (asks_of d.follower d.token blank o).token;
-          } → IfOk o (λ p. ReadBack p (at d.follower.sides p).place)
+          → e ≡ moved d (asks_of d.follower d.token blank o).after → IfOk o (λ p. ReadBack p (at d.follower.sides p).place)
           → Keeps c s e (after_ask r.answer r.buffer x) t
       by (Err f) q a b z told = subst (λ y. Keeps c s e (after_ask y r.buffer x) t) (sym a)
-          (subst (λ y. Keeps c s y x t) (sym z) k)
+          (subst (λ y. Keeps c s y x t) (sym z)
+          (keeps_taken c s d x t t (token_after d.follower d.follower d.token) (λ p n i. i) k))
       by (Ok p) q a b z told =
           let m = request p (at d.follower.sides p).place in
           let is : take (total_of Request) (m ++ drop (total_of Request) blank)
@@ -369,7 +364,7 @@ module _ (c : ℕ) (s : State) (d : Desk) (x : Line) (t : Taking) (k : Keeps c s
             asked = x.asked
                 ++ take (total_of Request) (m ++ drop (total_of Request) blank) ∷ [];
           }) t) (sym z)
-          (asked_for n p q told (asks_of d.follower d.token blank (Ok p)).token
+          (asked_for n p q told (token_after d.follower (asks_of d.follower d.token blank (Ok p)).after d.token)
           (take (total_of Request) (m ++ drop (total_of Request) blank)) is)))
 
 -- ---- any call
@@ -425,12 +420,9 @@ call_keeps c s d x t (done.Live m r) w e x' k (h, a, q) told sound few ok =
       ap is_unfit a ∙ g.fits,
       subst (λ y. Keeps c y e x' (λ p n. t p n ⊎ Taken r (HeardAs p n (heard_in m.now)))) (sym h)
           (subst (λ y. Keeps c s y x' (λ p n. t p n ⊎ Taken r (HeardAs p n (heard_in m.now)))) (sym q)
-          (subst (λ y. Keeps c s (record {
-            follower = (live_step d.follower (heard_in m.now)).after;
-            token = after_live
-                r d.token;
-          }) x' (λ p n. t p n ⊎ Taken y (HeardAs p n (heard_in m.now)))) (sym a)
-          (g.keeps (after_live r d.token)))),
+          (subst (λ y. Keeps c s (moved d (live_step d.follower (heard_in m.now)).after) x'
+          (λ p n. t p n ⊎ Taken y (HeardAs p n (heard_in m.now)))) (sym a)
+          (g.keeps (token_after d.follower (live_step d.follower (heard_in m.now)).after d.token)))),
     )
 call_keeps c s d x t (done.Recovered m r) w e x' k (h, a, q) told sound few ok =
     let sound' = subst (λ (y : State). Sound y.venue) h sound in
@@ -439,11 +431,9 @@ call_keeps c s d x t (done.Recovered m r) w e x' k (h, a, q) told sound few ok =
       ap is_unfit a ∙ g.fits,
       subst (λ y. Keeps c y e x' (λ p n. t p n ⊎ Taken r (HeardAs p n (heard_in m.now)))) (sym h)
           (subst (λ y. Keeps c s y x' (λ p n. t p n ⊎ Taken r (HeardAs p n (heard_in m.now)))) (sym q)
-          (subst (λ y. Keeps c s (record {
-            follower = (recovered_step d.follower (heard_in m.now)).after;
-            token = after_recovered r d.token;
-          }) x' (λ p n. t p n ⊎ Taken y (HeardAs p n (heard_in m.now)))) (sym a)
-          (g.keeps (after_recovered r d.token)))),
+          (subst (λ y. Keeps c s (moved d (recovered_step d.follower (heard_in m.now)).after) x'
+          (λ p n. t p n ⊎ Taken y (HeardAs p n (heard_in m.now)))) (sym a)
+          (g.keeps (token_after d.follower (recovered_step d.follower (heard_in m.now)).after d.token)))),
     )
 
 -- ---- any log

@@ -8,7 +8,7 @@ use Rattle.call.specs.declared.both_ends.Done.TheVariants as done
 use Rattle.follower.specs.Asking.{asks, asking, ReadBack}
 use Rattle.follower.specs.Following.{Following, start, turned, live_step, recovered_step}
 use Rattle.follower.specs.Hearing.{heard_in}
-use Rattle.follower.specs.Owing.{Tied, after_live, after_recovered}
+use Rattle.follower.specs.Owing.{Tied, token_after}
 use Rattle.follower.specs.declared.pending.Pending.{Pending}
 use Rattle.follower.specs.declared.pending.Pending.TheVariants.{Idle}
 use Rattle.wire.specs.declared.message.TheConstants.{BUFFER}
@@ -40,21 +40,24 @@ fresh = record { follower = start; token = Idle }
 abbrev pub blank : List ℕ
 blank = replicate BUFFER 0
 
+-- a desk after one of its follower's calls
+abbrev pub moved : Desk → Following → Desk
+moved d f = record { follower = f; token = token_after d.follower f d.token }
+
 -- one call: its end moves as its contract has it, and the other stays
 abbrev pub Does : State → Desk → Done → State → Desk → Type 0
 Does s d (done.Venue v) w e = venue.Does s v w × (e ≡ d)
-Does s d done.Up w e = (w ≡ s) × (e ≡ record { follower = turned true d.follower; token = Idle })
-Does s d done.Lost w e = (w ≡ s) × (e ≡ record { follower = turned false d.follower; token = Idle })
+Does s d done.Up w e = (w ≡ s) × (e ≡ moved d (turned true d.follower))
+Does s d done.Lost w e = (w ≡ s) × (e ≡ moved d (turned false d.follower))
 Does s d (done.Live bs r) w e =
     let step = live_step d.follower (heard_in bs.now) in
-    (w ≡ s) × (r ≡ step.answer) × (e ≡ record { follower = step.after; token = after_live r d.token })
+    (w ≡ s) × (r ≡ step.answer) × (e ≡ moved d step.after)
 Does s d (done.Recovered bs r) w e =
     let step = recovered_step d.follower (heard_in bs.now) in
-    (w ≡ s) × (r ≡ step.answer) × (e ≡ record { follower = step.after; token = after_recovered r d.token })
+    (w ≡ s) × (r ≡ step.answer) × (e ≡ moved d step.after)
 Does s d (done.Ask n r) w e =
     let step = asks d.follower d.token n blank in
-    (w ≡ s) × (r.answer ≡ step.answer) × (r.buffer ≡ step.out)
-    × (e ≡ record { follower = step.after; token = step.token })
+    (w ≡ s) × (r.answer ≡ step.answer) × (r.buffer ≡ step.out) × (e ≡ moved d step.after)
 
 -- what is read at the other end: by a follower from what a gateway's call hands out, and by a gateway from a request
 abbrev pub Tells : State → Desk → Done → Type 0
