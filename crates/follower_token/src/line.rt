@@ -2,6 +2,7 @@
 // cannot be let go.
 ghost use Rattle.std.specs.Prelude.{◌≡◌, false};
 ghost use Rattle.follower.specs.declared.stage.Stage.TheVariants.{Idle};
+ghost use Rattle.follower.specs.Following.{turned};
 ghost use Rattle.follower.specs.Owing.{Tied};
 
 use follower::answer::{Live, Recovered};
@@ -110,11 +111,31 @@ fn take(
     }
 }
 
+// Both desks' lines are lost. The other desk owes nothing, so it gives the token back as it is: only the follower that
+// waits for the download can spend it.
+fn hang_up(follower: &mut Follower, other: &mut Follower, pending: Pending)
+    requires tie { Tied pending follower.old }
+    requires other { other.old.download ≡ Idle }
+    ensures after { follower.new ≡ turned false follower.old }
+    ensures other_after { other.new ≡ turned false other.old }
+{
+    let pending = other.lost(pending);
+    let _idle = follower.lost(pending);
+}
+
 /// Takes what happens on a line, and prints each answer. At the end, and where printing fails, the line is lost, so
-/// that no download is left that was asked.
-pub fn day<R: Print>(rt: &R, follower: &mut Follower, events: &[Event]) -> io::Result<()>
+/// that no download is left that was asked; and so is the line of a desk that asks for none.
+pub fn day<R: Print>(
+    rt: &R,
+    follower: &mut Follower,
+    other: &mut Follower,
+    events: &[Event],
+) -> io::Result<()>
+    requires follower { follower.old.download ≡ Idle }
+    requires other { other.old.download ≡ Idle }
     ensures down { follower.new.up ≡ false }
     ensures none { follower.new.download ≡ Idle }
+    ensures other { other.new ≡ turned false other.old }
 {
     let mut out = [0; BUFFER];
     let mut pending = Pending::Idle;
@@ -127,6 +148,6 @@ pub fn day<R: Print>(rt: &R, follower: &mut Follower, events: &[Event]) -> io::R
             break;
         }
     }
-    let _idle = follower.lost(pending);
+    hang_up(follower, other, pending);
     printed
 }

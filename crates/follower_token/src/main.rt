@@ -1,5 +1,5 @@
 // A day of a desk's follower: reports come live before and after a download, the line is lost, and one message more
-// is held than there is room for.
+// is held than there is room for. A second desk, whose follower is up for nothing, shows whose the token is.
 #![tactic(auto)]
 
 mod line;
@@ -115,8 +115,9 @@ fn show<R: Print>(rt: &R, follower: &Follower) -> io::Result<()> {
 
 fn main(rt: HostRuntime) -> anyhow::Result<()> {
     let mut follower = Follower::new(rt.alloc())?;
+    let mut other = Follower::new(rt.alloc())?;
     let events = events(rt.alloc())?;
-    day(&rt, &mut follower, &events)?;
+    day(&rt, &mut follower, &mut other, &events)?;
     show(&rt, &follower)?;
     Ok(())
 }
