@@ -56,27 +56,39 @@ within-entry n (x ∷ ps) (suc zero) p h e =
     let same : x ≡ p = cc in subst (λ (y : Place). y.start + y.len ≤ n) same (parts n x ps h).0
 within-entry n (x ∷ ps) (suc (suc k)) p h e = within-entry n ps (suc k) p (parts n x ps h).1 e
 
-module _ (d : List ℕ → Report) where
-  -- what was kept stays as the buffer grows
-  pub kept-grown : (b more : List ℕ) (n : ℕ) (ps : List Place) → n ≡ length b → all_within n ps ≡ true
-      → map (entry_in d (b ++ more)) ps ≡ map (entry_in d b) ps
-  kept-grown b more n [] e h = refl
-  kept-grown b more n (p ∷ ps) e h =
+-- what is read at places, each by its owner and its bytes
+module _ {X : Type 0} (g : ℕ → List ℕ → X) where
+  -- it stays as the buffer grows
+  pub read-grown : (b more : List ℕ) (n : ℕ) (ps : List Place) → n ≡ length b → all_within n ps ≡ true
+      → map (λ (p : Place). g p.owner (part (b ++ more) p)) ps ≡ map (λ (p : Place). g p.owner (part b p)) ps
+  read-grown b more n [] e h = refl
+  read-grown b more n (p ∷ ps) e h =
       let q = parts n p ps h in
-      let here : entry_in d (b ++ more) p ≡ entry_in d b p = ap (λ bs. filed p.owner (d bs))
+      let here : g p.owner (part (b ++ more) p) ≡ g p.owner (part b p) = ap (g p.owner)
       (part-grown b more p (omega (arith, q.0))) in
-      let rest = kept-grown b more n ps e q.1 in
+      let rest = read-grown b more n ps e q.1 in
       cc
 
-  -- and the new bytes are the new entry
-  pub kept-pushed : (b bs : List ℕ) (n : ℕ) (ps : List Place) (p : Place) → n ≡ length b → all_within n ps ≡ true
+  -- and at a new place the new bytes are read
+  pub read-pushed : (b bs : List ℕ) (n : ℕ) (ps : List Place) (p : Place) → n ≡ length b → all_within n ps ≡ true
+      → p.start ≡ n → p.len ≡ length bs → map (λ (p : Place). g p.owner (part (b ++ bs) p)) (ps ++ (p ∷ []))
+      ≡ map (λ (p : Place). g p.owner (part b p)) ps ++ (g p.owner bs ∷ [])
+  read-pushed b bs n ps p e h s l =
+      let here : g p.owner (part (b ++ bs) p) ≡ g p.owner bs = ap (g p.owner) (part-new b bs p (s ∙ e) l) in
+      map_push (λ (p : Place). g p.owner (part (b ++ bs) p)) ps p
+      ∙ ap (λ t. t ++ (g p.owner (part (b ++ bs) p) ∷ [])) (read-grown b bs n ps e h)
+      ∙ ap (λ t. map (λ (p : Place). g p.owner (part b p)) ps ++ (t ∷ [])) here
+
+-- the entries there
+module _ (d : List ℕ → Report) where
+  kept-grown : (b more : List ℕ) (n : ℕ) (ps : List Place) → n ≡ length b → all_within n ps ≡ true
+      → map (entry_in d (b ++ more)) ps ≡ map (entry_in d b) ps
+  kept-grown = read-grown (λ o bs. filed o (d bs))
+
+  kept-pushed : (b bs : List ℕ) (n : ℕ) (ps : List Place) (p : Place) → n ≡ length b → all_within n ps ≡ true
       → p.start ≡ n → p.len ≡ length bs → map (entry_in d (b ++ bs)) (ps ++ (p ∷ [])) ≡ map (entry_in d b) ps
       ++ (filed p.owner (d bs) ∷ [])
-  kept-pushed b bs n ps p e h s l =
-      let here : entry_in d (b ++ bs) p ≡ filed p.owner (d bs) = ap (λ x. filed p.owner (d x))
-      (part-new b bs p (s ∙ e) l) in
-      map_push (entry_in d (b ++ bs)) ps p ∙ ap (λ t. t ++ (entry_in d (b ++ bs) p ∷ []))
-      (kept-grown b bs n ps e h) ∙ ap (λ t. map (entry_in d b) ps ++ (t ∷ [])) here
+  kept-pushed = read-pushed (λ o bs. filed o (d bs))
 
 -- the same of all partitions
 same-kept : (a a' b b' c c' : List Entry) → a ≡ a' → b ≡ b' → c ≡ c'

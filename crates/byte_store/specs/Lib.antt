@@ -1,3 +1,4 @@
 pub mod Places
+pub mod Logs
 pub mod Views
 pub mod Room

@@ -1,8 +1,10 @@
 // A store of bytes: one buffer, in which the entries stand as they were appended, and the places of each partition's.
-ghost use Rattle.std.specs.Prelude.{◌≡◌, ℕ, ◌+◌, ◌<◌, ◌≤◌, List, length, IfOk, vec_len, vec_capacity};
+ghost use Rattle.std.specs.Prelude.{◌≡◌, ◌+◌, ◌<◌, ◌≤◌, length, IfOk, MatchOption, Some, None, vec_len, vec_capacity};
+ghost use Rattle.std.specs.Option.{option_map};
 ghost use Rattle.limits.specs.declared.TheConstants.{REPORTS as MOST};
-ghost use Rattle.partitions.specs.Series.{total};
-ghost use Rattle.byte_store.specs.Places.{Within};
+ghost use Rattle.partitions.specs.Series.{total, mapped};
+ghost use Rattle.byte_store.specs.Places.{Within, entry_in};
+ghost use Rattle.byte_store.specs.Logs.{IsLog};
 
 use crate::codec::{Codec, Number};
 use codes::session::Partition;
@@ -29,9 +31,10 @@ impl Owned for Place {
     }
 }
 
-/// A store of so many bytes, reserved at the start.
+/// A store of so many bytes, reserved at the start. The buffer is a log: the messages of what was appended, one behind
+/// another.
 #[derive(Drop)]
-pub struct Buffered<C> {
+pub struct Buffered<C: Codec> {
     codec: C,
     size: usize,
     buffer: Vec<u8>,
@@ -40,6 +43,7 @@ pub struct Buffered<C> {
     ghost held: { vec_len buffer ≤ size },
     ghost few: { total places ≤ MOST },
     ghost inside: { Within (vec_len buffer) places },
+    ghost logged: { ∥ IsLog C.Codec.coded buffer.items places (mapped (entry_in C.Codec.decoded buffer.items) places) ∥₁ },
 }
 
 impl<C: Codec + Drop> Buffered<C> {
@@ -49,7 +53,7 @@ impl<C: Codec + Drop> Buffered<C> {
 
     /// A store with so many bytes. Its one error is want of memory.
     pub fn new(alloc: Global, codec: C, size: usize) -> Result<Buffered<C>, AllocError>
-        ensures { IfOk result (λ s. (kept_in C.Codec.decoded s ≡ empty) × (free_in s ≡ free_places size 0 0)) }
+        ensures { IfOk result (λ s. (kept_in s ≡ empty) × (free_in s ≡ free_places size 0 0)) }
     {
         let buffer = Vec::with_capacity(alloc, size)?;
         let places = Series::for_each(alloc)?;
@@ -63,12 +67,12 @@ impl<C: Codec + Drop> Buffered<C> {
 }
 
 impl<C: Codec> Buffered<C> {
-    ghost use Rattle.reports.specs.declared.report.Report.{Report as Told};
     ghost use Rattle.keyed.specs.Numbers.{under};
     ghost use Rattle.partitions.specs.PerPartition.{at};
     ghost use Rattle.partitions.specs.Series.{grown};
     ghost use Rattle.store.specs.Kept.{next_after};
-    ghost use Rattle.byte_store.specs.Places.{filed, entry_in, free_places};
+    ghost use Rattle.byte_store.specs.Logs.{Messages};
+    ghost use Rattle.byte_store.specs.Places.{part, filed, free_places};
     ghost use Rattle.byte_store.specs.Views.{kept_in, free_in};
 
     fn free_places(&self) -> usize
@@ -79,10 +83,18 @@ impl<C: Codec> Buffered<C> {
     }
 
     fn last_of(&self, partition: Partition) -> u32
-        ensures value { result ≡ length (at (kept_in C.Codec.decoded self.now) partition) }
+        ensures value { result ≡ length (at (kept_in self.now) partition) }
         ensures bound { result ≤ REPORTS }
     {
         self.places.at(partition).last()
+    }
+
+    // The bytes at a place.
+    fn part(&self, place: Place) -> &[u8]
+        requires { place.start + place.len ≤ vec_len self.now.buffer }
+        ensures { result.now ≡ part self.now.buffer.items place }
+    {
+        &self.buffer[place.start..place.start + place.len]
     }
 
     // The entry at a place.
@@ -90,35 +102,53 @@ impl<C: Codec> Buffered<C> {
         requires { place.start + place.len ≤ vec_len self.now.buffer }
         ensures { result ≡ entry_in C.Codec.decoded self.now.buffer.items place }
     {
-        let bytes = &self.buffer[place.start..place.start + place.len];
         Entry {
             owner: place.owner,
-            report: self.codec.decode(bytes),
+            report: self.codec.decode(self.part(place)),
         }
     }
 
     // The entry of a number: one look at its place, and one at its bytes.
     fn entry_of(&self, partition: Partition, number: u32) -> Option<Entry>
-        ensures { result ≡ under (at (kept_in C.Codec.decoded self.now) partition) number }
+        ensures { result ≡ under (at (kept_in self.now) partition) number }
     {
         let place = self.places.at(partition).item(number)?;
         Some(self.entry(place))
     }
 
     fn next_number(&self, partition: Partition, owner: usize, above: u32) -> Option<u32>
-        ensures { result ≡ next_after (at (kept_in C.Codec.decoded self.now) partition) owner above }
+        ensures { result ≡ next_after (at (kept_in self.now) partition) owner above }
     {
         self.places.at(partition).next(owner, above)
     }
 
-    // Puts an entry's bytes behind the others, and its place behind those of its partition.
+    /// The bytes kept of the report of a number, if there is one: those of its message.
+    pub fn message(&self, partition: Partition, number: u32) -> Option<&[u8]>
+        ensures { let entry = under (at (kept_in self.now) partition) number in MatchOption result (entry ≡ None)
+            (λ m. option_map (λ e. C.Codec.coded partition number e.report) entry ≡ Some m.now) }
+    {
+        let place = self.places.at(partition).item(number)?;
+        Some(self.part(place))
+    }
+
+    /// All bytes kept: the messages of all reports, one behind another in the order in which they were appended.
+    pub fn bytes(&self) -> &[u8]
+        ensures { Messages C.Codec.coded (kept_in self.now) result.now }
+    {
+        &self.buffer
+    }
+
+    // Puts the bytes of a report under its partition's next number behind the others, and their place behind those of
+    // its partition.
     fn keep(&mut self, partition: Partition, place: Place, bytes: &[u8])
         requires start { place.start ≡ vec_len self.old.buffer }
         requires len { place.len ≡ length bytes.now }
+        requires coded { let number = length (at (kept_in self.old) partition) + 1 in
+            bytes.now ≡ C.Codec.coded partition number (C.Codec.decoded bytes.now) }
         requires room { vec_len self.old.buffer + length bytes.now ≤ self.old.size }
         requires few { total self.old.places < REPORTS }
-        ensures kept { (d : List ℕ → Told) →
-            kept_in d self.new ≡ grown (kept_in d self.old) partition (filed place.owner (d bytes.now)) }
+        ensures kept { let entry = filed place.owner (C.Codec.decoded bytes.now) in
+            kept_in self.new ≡ grown (kept_in self.old) partition entry }
         ensures free { let used = vec_len self.old.buffer + length bytes.now in
             free_in self.new ≡ free_places self.old.size used (total self.old.places + 1) }
     {
@@ -128,8 +158,9 @@ impl<C: Codec> Buffered<C> {
 
     // Writes a report behind the others, where there is room.
     fn write(&mut self, partition: Partition, number: Number, entry: Entry)
-        requires { 0 < free_in self.old }
-        ensures kept { kept_in C.Codec.decoded self.new ≡ grown (kept_in C.Codec.decoded self.old) partition entry }
+        requires room { 0 < free_in self.old }
+        requires next { number.value ≡ length (at (kept_in self.old) partition) + 1 }
+        ensures kept { kept_in self.new ≡ grown (kept_in self.old) partition entry }
         ensures fewer { free_in self.new ≤ free_in self.old }
         ensures one { free_in self.old ≤ free_in self.new + 1 }
     {
@@ -137,12 +168,13 @@ impl<C: Codec> Buffered<C> {
         let len = self
             .codec
             .encode(partition, number, entry.report, &mut bytes);
+        let bytes = &bytes[..len];
         let place = Place {
             owner: entry.owner,
             start: self.buffer.len(),
-            len,
+            len: bytes.len(),
         };
-        self.keep(partition, place, &bytes[..len]);
+        self.keep(partition, place, bytes);
     }
 }
 
@@ -150,11 +182,11 @@ impl<C: Codec> Store for Buffered<C> {
     ghost use Rattle.byte_store.specs.Views.{kept_in, free_in};
     ghost use Rattle.byte_store.specs.Room.{room_held};
 
-    ghost kept = { λ s. kept_in C.Codec.decoded s };
+    ghost kept = { λ s. kept_in s };
 
     ghost free = { λ s. free_in s };
 
-    ghost room = { λ s. room_held C.Codec.decoded s };
+    ghost room = { λ s. room_held s };
 
     fn places(&self) -> usize {
         self.free_places()
