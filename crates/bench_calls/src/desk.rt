@@ -1,5 +1,7 @@
 // A desk's follower, with the download that it owes: its five calls, each made and its answer printed.
 ghost use Rattle.std.specs.Prelude.{◌≡◌, is_some};
+ghost use Rattle.std.proofs.Props.{props};
+ghost use Rattle.follower.specs.Owing.{Tied};
 
 use crate::state::{Carried, State, front};
 use bench_account::answer::Answer;
@@ -25,6 +27,8 @@ pub struct Desk {
     pub line: usize,
     follower: Follower,
     pending: Pending,
+    // the token is this follower's, so that it can be let go when the line is lost for good
+    ghost tied: { Tied pending follower } by { Prim.hlevel props },
 }
 
 // A call that was refused.

@@ -1,5 +1,5 @@
 -- A call that takes a message begins no download, and what each call leaves of a token. Assumes nothing.
-use Rattle.std.proofs.Common.{◌≡◌, ℕ, ◌+◌, ◌≤◌, ◌⊎◌, inl, inr, Bool, true, false, cond, Some, None, Option, Ok, Err, Result, refl, sym, ap, ◌∙◌, subst, arith, length, nat_lt, nat_le}
+use Rattle.std.proofs.Common.{◌≡◌, ℕ, ◌+◌, ◌≤◌, inl, inr, Bool, true, false, cond, Some, None, Option, Ok, Err, Result, refl, sym, ap, ◌∙◌, subst, arith, length, nat_lt, nat_le}
 use Rattle.codes.specs.declared.session.Partition.{Partition}
 use Rattle.codes.specs.declared.session.AckResponse.{AckResponse}
 use Rattle.codes.specs.declared.session.AckResponse.TheVariants.{Successful, LimitReached, InvalidAppId, ServiceUnavailable}
@@ -9,11 +9,8 @@ use Rattle.codes.specs.Session.{same_partition}
 use Rattle.partitions.specs.PerPartition.{at}
 use Rattle.reports.specs.Fold.{Knowledge, fold}
 use Rattle.reports.specs.declared.standings.FoldRefusal.{FoldRefusal}
-use Rattle.follower.specs.declared.answer.Live.{Live}
 use Rattle.follower.specs.declared.answer.Live.TheVariants as live
-use Rattle.follower.specs.declared.answer.Recovered.{Recovered}
 use Rattle.follower.specs.declared.answer.Recovered.TheVariants as recovered
-use Rattle.follower.specs.declared.fault.FollowerFault.{FollowerFault}
 use Rattle.follower.specs.declared.fault.FollowerFault.TheVariants as fault
 use Rattle.follower.specs.declared.heard.Held.{Held}
 use Rattle.follower.specs.declared.heard.Heard.{Heard}
@@ -27,7 +24,7 @@ use Rattle.follower.specs.declared.stage.Stage.TheVariants.{Idle, Asked, Running
 use Rattle.follower.specs.Numbers.{number_of}
 use Rattle.follower.specs.Folding.{Reached, reached, caught_up}
 use Rattle.follower.specs.Following.{Following, Step, answered, refused, folded, folded_to, held, overrun, live_by, lived, acked_of, acked, recovered_of, reported, levelled, ended_of, ended, rejected, recovering}
-use Rattle.follower.specs.Owing.{owed, awaited, owing, handed, token_after, BeginsNone, Tied, count, Covers}
+use Rattle.follower.specs.Owing.{owed, awaited, handed, token_after, BeginsNone, Tied, count, Covers}
 
 -- ---- a message begins no download
 
@@ -159,3 +156,6 @@ settled_covers f g t u b k =
     by (inr e) = subst
         (λ b. count (owed t) + count b ≤ count (owed (handed (awaited f.download) b t)) + count (awaited f.download))
         (sym e) (ended_covers (awaited f.download) t)
+
+-- what a call that begins none leaves
+pub ruleset settled = (begins_none, settled_tied, settled_covers)

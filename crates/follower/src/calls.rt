@@ -23,7 +23,7 @@ use wire::message::BUFFER;
 impl Follower {
     /// The line is up: all partitions are behind, nothing is held, and a download has ended. Places and standings
     /// stay.
-    #[tactic(auto, using(crate::proofs::Ties::begins_none, crate::proofs::Ties::settled_tied, crate::proofs::Ties::settled_covers))]
+    #[tactic(auto, using(crate::proofs::Ties::settled))]
     pub fn up(&mut self, pending: Pending) -> Pending
         ensures after { self.new ≡ turned true self.old }
         ensures token { result ≡ token_after self.old self.new pending }
@@ -36,7 +36,7 @@ impl Follower {
     }
 
     /// The line is lost: the same, but the follower is not up.
-    #[tactic(auto, using(crate::proofs::Ties::begins_none, crate::proofs::Ties::settled_tied, crate::proofs::Ties::settled_covers))]
+    #[tactic(auto, using(crate::proofs::Ties::settled))]
     pub fn lost(&mut self, pending: Pending) -> Pending
         ensures after { self.new ≡ turned false self.old }
         ensures token { result ≡ token_after self.old self.new pending }
@@ -52,7 +52,7 @@ impl Follower {
     /// follower reads (by the check of the message that fails), with 50 where it is not up, with 53 where the report
     /// does not fit what is known, with 55 where there is no room for its order: then the follower and the token are
     /// as they were. Refused with 54 where the hold is full: that acts as `lost`.
-    #[tactic(auto, using(crate::proofs::Ties::begins_none, crate::proofs::Ties::settled_tied, crate::proofs::Ties::settled_covers))]
+    #[tactic(auto, using(crate::proofs::Ties::settled))]
     pub fn live(&mut self, bytes: &[u8], pending: Pending) -> (Result<Live, FollowerFault>, Pending)
         ensures answer { result.0 ≡ (live_step self.old (heard_in bytes.now)).answer }
         ensures after { self.new ≡ (live_step self.old (heard_in bytes.now)).after }
@@ -70,7 +70,7 @@ impl Follower {
     /// where the download does not wait for such a message, with 53 where a report, or one that is held when the
     /// download completes, does not fit what is known, with 55 where there is no room for its order: then the follower
     /// and the token are as they were.
-    #[tactic(auto, using(crate::proofs::Ties::begins_none, crate::proofs::Ties::settled_tied, crate::proofs::Ties::settled_covers))]
+    #[tactic(auto, using(crate::proofs::Ties::settled))]
     pub fn recovered(
         &mut self,
         bytes: &[u8],
