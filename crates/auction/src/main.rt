@@ -25,7 +25,7 @@ const ABOUT: About = About {
   book             shows the orders at rest, and how many wait
   # ...            a comment; blank lines are passed over too
 
-All numbers are whole.",
+All numbers are whole but PRICE, a decimal number with up to eight places, such as 101 or 100.5.",
 };
 
 fn answer<R: Print>(

@@ -1,7 +1,6 @@
 -- What a single word of a script says, or that it says nothing that is understood. Assumes nothing.
-use Rattle.std.specs.Prelude.{◌≡◌, ◌≢◌, ℕ, ◌^◌, ◌<◌, ◌⊎◌, List, Ok, Err, codes, FitsSigned, Result}
-use Rattle.std.specs.Int.{w64}
-use Rattle.std.specs.Str.Parse.{IsNumeral, without_leading_plus, without_leading_sign, signed_digits_value, digits_value}
+use Rattle.std.specs.Prelude.{◌≡◌, ◌≢◌, ℕ, ◌^◌, ◌<◌, ◌⊎◌, List, Ok, Err, IsOk, codes, Result}
+use Rattle.std.specs.Str.Parse.{IsNumeral, without_leading_plus, digits_value}
 use Rattle.codes.specs.declared.order.OrderType.{OrderType}
 use Rattle.codes.specs.declared.order.OrderType.TheVariants.{Market, Limit}
 use Rattle.codes.specs.declared.order.Side.{Side}
@@ -9,6 +8,7 @@ use Rattle.codes.specs.declared.order.Side.TheVariants.{Buy, Sell}
 use Rattle.terms.specs.declared.lifetime.Lifetime.{Lifetime}
 use Rattle.terms.specs.declared.lifetime.Lifetime.TheVariants.{Day, ImmediateOrCancel}
 use Rattle.texts.specs.declared.values.Price.{Price}
+use Rattle.script_words.specs.Words.{price_of}
 use Rattle.auction_script.specs.declared.command.Misread.{Misread}
 use Rattle.auction_script.specs.declared.command.Misread.TheVariants as misread
 
@@ -42,10 +42,10 @@ abbrev pub NumberRead : ℕ → Misread → List ℕ → Result ℕ Misread → 
 NumberRead k wrong w (Ok n) = IsNumber k w × (n ≡ digits_value 10 (without_leading_plus w))
 NumberRead k wrong w (Err e) = (e ≡ wrong) × (IsNumber k w → ⊥)
 
--- a price of 64 bits with a sign or none
+-- a price, as every script says it
 abbrev pub IsPrice : List ℕ → Type 0
-IsPrice w = IsNumeral 10 (without_leading_sign w) × FitsSigned w64 (signed_digits_value 10 w)
+IsPrice w = IsOk (price_of w)
 
 abbrev pub PriceRead : List ℕ → Result Price Misread → Type 0
-PriceRead w (Ok p) = IsPrice w × (p.raw ≡ signed_digits_value 10 w)
+PriceRead w (Ok p) = price_of w ≡ Ok p
 PriceRead w (Err e) = (e ≡ misread.Price) × (IsPrice w → ⊥)

@@ -67,8 +67,8 @@ pub(crate) fn instrument(word: &str) -> Result<u8, Misread>
 pub(crate) fn price(word: &str) -> Result<Price, Misread>
     ensures { PriceRead word.now result }
 {
-    match word.parse() {
-        Ok(raw) => Ok(Price { raw }),
+    match script_words::words::price(word) {
+        Ok(price) => Ok(price),
         Err(_) => Err(Misread::Price),
     }
 }

@@ -55,8 +55,8 @@ is under way to the desk until it is delivered:
   reconnect        logs on both channels, and the follower is up
   catch up         asks for each partition and downloads it until it is level
 
-Messages that are built from words and taken in on a line at the time of the clock. QTY and PRICE are whole numbers, a price in
-hundred-millionths; orders are day orders for the lit book, as principal on the house's account:
+Messages that are built from words and taken in on a line at the time of the clock. QTY is a whole number, PRICE a decimal number
+with up to eight places, such as 101 or 100.5; orders are day orders for the lit book, as principal on the house's account:
 
   time TIME        sets the clock
   logon LINE       with the CompID and the password of the line

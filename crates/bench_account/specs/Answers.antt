@@ -1,8 +1,9 @@
 -- How answers are written. Assumes nothing.
 use Rattle.std.specs.Prelude.{ℕ, ◌/◌, ◌%◌, false, List, ◌++◌, codes, decimal}
-use Rattle.std.specs.Fmt.{digits, signed_decimal}
+use Rattle.std.specs.Fmt.{digits}
 use Rattle.std.specs.List.{flat_map}
 use Rattle.texts.specs.Parties.{party_text}
+use Rattle.texts.specs.Prices.{price_text}
 use Rattle.bench_account.specs.declared.answer.Answer.{Answer}
 use Rattle.bench_account.specs.declared.answer.Answer.TheVariants as answer
 use Rattle.bench_account.specs.declared.answer.Payload.{Payload}
@@ -24,7 +25,7 @@ abbrev pub trade_text : Trade → List ℕ
 trade_text t =
     (codes "trade " ++ (decimal t.number ++ (codes " passive " ++ (party_text t.passive ++ codes " "))))
     ++ (codes "aggressive " ++ (party_text t.aggressive
-    ++ (codes " " ++ (decimal t.quantity ++ (codes " at " ++ signed_decimal t.price.raw)))))
+    ++ (codes " " ++ (decimal t.quantity ++ (codes " at " ++ price_text t.price.raw)))))
 
 abbrev pub answer_text : Answer → List ℕ
 answer_text answer.Started = codes "started"

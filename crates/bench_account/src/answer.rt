@@ -60,7 +60,7 @@ impl fmt::Display for Trade {
     fn fmt<W: fmt::Write>(&self, f: &mut fmt::Formatter<W>) -> fmt::Result {
         let passive = Party(self.passive);
         let aggressive = Party(self.aggressive);
-        let price = self.price.raw;
+        let price = self.price;
         write!(f, "trade {} passive {passive} ", self.number)?;
         write!(f, "aggressive {aggressive} {} at {price}", self.quantity)
     }

@@ -3,6 +3,7 @@ use Rattle.std.specs.Prelude.{ℕ, suc, ◌+◌, ◌*◌, ◌/◌, ◌%◌, Bool
 use Rattle.std.specs.Fmt.{digits, signed_decimal}
 use Rattle.std.specs.Option.{option_map_or}
 use Rattle.texts.specs.Identifiers.{order_id_text}
+use Rattle.texts.specs.Prices.{price_text}
 use Rattle.codes.specs.Lists.{alpha}
 use Rattle.layout.specs.declared.field.Form.{Form}
 use Rattle.layout.specs.declared.field.Form.TheVariants as form
@@ -21,18 +22,6 @@ quoted t = 34 ∷ (t ++ (34 ∷ []))
 -- an order's identifier, or nothing, in double quotes
 abbrev pub order_text : Option ℕ → List ℕ
 order_text o = option_map_or (λ n. quoted (order_id_text n)) o (quoted [])
-
--- the last four decimal digits of a number
-abbrev pub four : ℕ → List ℕ
-four n = decimal (n / 1000 % 10) ++ (decimal (n / 100 % 10) ++ (decimal (n / 10 % 10) ++ decimal (n % 10)))
-
--- a number of hundred-millionths: the whole part, a point, and eight decimals
-abbrev pub amount : ℕ → List ℕ
-amount n = decimal (n / 100000000) ++ (46 ∷ (four (n % 100000000 / 10000) ++ four (n % 10000)))
-
-abbrev pub price_text : ℤ → List ℕ
-price_text (pos n) = amount n
-price_text (negsuc n) = 45 ∷ amount (suc n)
 
 -- a byte that is a character: itself where it is printable and no space, null, or 0x and two hex digits
 abbrev pub alpha_text : ℕ → List ℕ

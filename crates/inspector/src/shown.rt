@@ -5,7 +5,7 @@ ghost use Rattle.texts.specs.Bytes.{all_printable, part, said};
 ghost use Rattle.layout.specs.Layout.{span, form_of, got, within};
 ghost use Rattle.wire.specs.Kinds.{table_of};
 ghost use Rattle.inspector.specs.Labels.{spelt};
-ghost use Rattle.inspector.specs.Shown.{quoted, four, amount, price_text, alpha_text, order_text, content_text, field_text, bytes_text, shown_text};
+ghost use Rattle.inspector.specs.Shown.{quoted, alpha_text, order_text, content_text, field_text, bytes_text, shown_text};
 
 use crate::labels::{names, title};
 use layout::field::{Field, Form};
@@ -13,7 +13,7 @@ use layout::reader::Reader;
 use std::fmt;
 use texts::fixed::FixedText;
 use texts::identifiers::OrderId;
-use texts::values::{Price, Time};
+use texts::values::Time;
 use wire::kinds::Kind;
 
 /// A text in double quotes.
@@ -57,62 +57,6 @@ impl fmt::Display for Identifier {
                 let text = id.text();
                 write!(f, "{}", in_quotes(&text))
             }
-        }
-    }
-}
-
-/// The last four decimal digits of a number.
-#[derive(Clone, Copy)]
-struct Four(u64);
-
-impl fmt::Display for Four {
-    ghost output = { λ n. Some (four n.0) };
-
-    fn fmt<W: fmt::Write>(&self, f: &mut fmt::Formatter<W>) -> fmt::Result {
-        let n = self.0;
-        write!(
-            f,
-            "{}{}{}{}",
-            n / 1000 % 10,
-            n / 100 % 10,
-            n / 10 % 10,
-            n % 10
-        )
-    }
-}
-
-/// A number of hundred-millionths, with its eight decimals.
-#[derive(Clone, Copy)]
-struct Amount(u64);
-
-impl fmt::Display for Amount {
-    ghost output = { λ n. Some (amount n.0) };
-
-    fn fmt<W: fmt::Write>(&self, f: &mut fmt::Formatter<W>) -> fmt::Result {
-        let n = self.0;
-        write!(
-            f,
-            "{}.{}{}",
-            n / 100_000_000,
-            Four(n % 100_000_000 / 10_000),
-            Four(n % 10_000)
-        )
-    }
-}
-
-/// A price as a decimal number.
-#[derive(Clone, Copy)]
-struct Decimal(Price);
-
-impl fmt::Display for Decimal {
-    ghost output = { λ price. Some (price_text price.0.raw) };
-
-    fn fmt<W: fmt::Write>(&self, f: &mut fmt::Formatter<W>) -> fmt::Result {
-        let n = Amount(self.0.raw.unsigned_abs());
-        if self.0.raw < 0 {
-            write!(f, "-{n}")
-        } else {
-            write!(f, "{n}")
         }
     }
 }
@@ -164,7 +108,7 @@ impl fmt::Display for Held<'_> {
             Form::UInt64 => write!(f, "{}", r.u64(at)),
             Form::Int8 => write!(f, "{}", r.i8(at)),
             Form::Int32 => write!(f, "{}", r.i32(at)),
-            Form::Price => write!(f, "{}", Decimal(r.price(at))),
+            Form::Price => write!(f, "{}", r.price(at)),
             Form::Time => write!(f, "{}", stamp(r.time(at))),
             Form::Code(codes) if codes.is_alpha() => write!(f, "{}", Alpha(r.u8(at))),
             Form::Code(_) => write!(f, "{}", r.u8(at)),

@@ -1,14 +1,14 @@
 -- How an order of the book is written. Assumes nothing.
 use Rattle.std.specs.Prelude.{ℕ, List, ◌++◌, codes, decimal}
-use Rattle.std.specs.Fmt.{signed_decimal}
 use Rattle.codes.specs.Order.{side_text}
+use Rattle.texts.specs.Prices.{price_text}
 use Rattle.terms.specs.declared.pricing.Pricing.{Pricing}
 use Rattle.terms.specs.declared.pricing.Pricing.TheVariants.{Market, Limit}
 use Rattle.lit_book.specs.declared.order.Order.{Order}
 
 abbrev pub pricing_text : Pricing → List ℕ
 pricing_text Market = codes "market"
-pricing_text (Limit p) = signed_decimal p.raw
+pricing_text (Limit p) = price_text p.raw
 
 abbrev pub order_text : Order → List ℕ
 order_text o =

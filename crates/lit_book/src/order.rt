@@ -57,10 +57,7 @@ impl fmt::Display for Asked {
     fn fmt<W: fmt::Write>(&self, f: &mut fmt::Formatter<W>) -> fmt::Result {
         match self.0 {
             Pricing::Market => f.write_str("market"),
-            Pricing::Limit(price) => {
-                let price = price.raw;
-                write!(f, "{price}")
-            }
+            Pricing::Limit(price) => write!(f, "{price}"),
         }
     }
 }

@@ -1,8 +1,8 @@
 -- How the refusals and the events of an engine are written. Assumes nothing.
 use Rattle.std.specs.Prelude.{ℕ, List, ◌++◌, codes, decimal}
-use Rattle.std.specs.Fmt.{signed_decimal}
 use Rattle.texts.specs.declared.values.Price.{Price}
 use Rattle.texts.specs.Parties.{party_text}
+use Rattle.texts.specs.Prices.{price_text}
 use Rattle.matching.specs.declared.event.Event.{Event}
 use Rattle.matching.specs.declared.event.Event.TheVariants.{Nothing, Expired, Trade}
 use Rattle.matching.specs.declared.matcher.Refusal.{Refusal}
@@ -17,7 +17,7 @@ refusal_text NotOpen = codes "not open"
 abbrev pub trade_text : List ℕ → List ℕ → ℕ → Price → List ℕ
 trade_text maker taker q price =
     codes "trade " ++ (decimal q ++ (codes " at "
-    ++ (signed_decimal price.raw ++ (codes ": " ++ (taker ++ (codes " with " ++ maker))))))
+    ++ (price_text price.raw ++ (codes ": " ++ (taker ++ (codes " with " ++ maker))))))
 
 abbrev pub event_text : Event → List ℕ
 event_text Nothing = codes "nothing"

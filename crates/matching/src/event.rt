@@ -40,7 +40,6 @@ impl fmt::Display for Event {
             } => {
                 let maker = Party(*passive);
                 let taker = Party(*aggressive);
-                let price = price.raw;
                 write!(f, "trade {quantity} at {price}: {taker} with {maker}")
             }
         }

@@ -1,7 +1,7 @@
 -- What parse reads as a whole number. Assumes nothing.
-use Rattle.std.proofs.Common.{◌≡◌, ◌≢◌, ℕ, ◌^◌, ◌<◌, ◌≤◌, Bool, true, ◌&&◌, List, length, drop, Ok, Err, Some, None, Option, Result, arith, ap, sym, ◌∙◌, cond, inl, inr, ltb-true, leb-true, slice_index}
+use Rattle.std.proofs.Common.{◌≡◌, ◌≢◌, ℕ, ◌^◌, ◌<◌, ◌≤◌, Bool, true, false, ◌&&◌, List, length, drop, Ok, Err, Some, None, Option, Result, arith, ap, refl, sym, ◌∙◌, cond, inl, inr, ltb-true, leb-true, slice_index}
 use Rattle.std.specs.Prelude.{ℤ, nat_lt, nat_le}
-use Rattle.std.specs.Int.{w8, w32, w64}
+use Rattle.std.specs.Int.{w8, w32}
 use mir.Syntax.{Width}
 use mir.Val.{hbits}
 use Rattle.std.specs.Result.{OkIff, result_ok}
@@ -10,7 +10,8 @@ use Rattle.std.specs.Str.Parse.{ParsesUnsigned, ParsesSigned, digits_value, with
 use Rattle.std.proofs.lemmas.Bool.{and_parts, cases_Bool}
 use Rattle.std.proofs.lemmas.Bool.Decides.{eqb_tells, nat_tests}
 use Rattle.std.proofs.lemmas.Str.Parse.{IsNumeralModel, numerals_by_value, tells_all_ascii_digits, parse_signed_minus, parse_signed_plain, parse_signed_plus, without_leading_plus_none, without_leading_plus_plus}
-use Rattle.script_words.specs.Words.{is_numeral, negative_of, positive_of, signed_of, whole_of}
+use Rattle.script_words.specs.Prices.{digits_of, is_numeral}
+use Rattle.script_words.specs.Words.{negative_of, positive_of, signed_of, whole_of}
 
 own : IsNumeralModel (λ ds. all_ascii_digits ds ≡ true) (digits_value 10)
 own = numerals_by_value _ tells_all_ascii_digits
@@ -21,6 +22,10 @@ by_test : {A E : Type 0} (r : Result A E) (P : Type 0) (t : Bool) (v : A) → Ok
 by_test (Ok x) P t v h to from = ap Some h.1 ∙ sym (ap (λ b. cond b (Some v) None) (to h.0))
 by_test (Err e) P t v h to from =
     elim (cases_Bool t) [ inl y ↦ absurd (h (from y)) | inr n ↦ sym (ap (λ b. cond b (Some v) None) n) ]
+
+nested : (a b : Bool) (v : Option ℕ) → cond (a && b) v None ≡ cond a (cond b v None) None
+nested true b v = refl
+nested false b v = refl
 
 below : (ds : List ℕ) (m : ℕ) → (0 < length ds) → all_ascii_digits ds ≡ true → digits_value 10 ds < m
     → (is_numeral ds && nat_lt (digits_value 10 ds) m) ≡ true
@@ -52,6 +57,15 @@ read_whole k bs r h =
     by_test r _ _ _ h
     (λ p. below ds (2 ^ k) p.0.0 (own.from ds p.0.1) p.1)
     (λ t. let q = is_below ds (2 ^ k) t in ((q.1, own.to ds q.0), q.2))
+
+-- with no plus in front
+pub read_digits : {E : Type 0} (bs : List ℕ) (r : Result ℕ E) → ParsesUnsigned 64 10 bs r → slice_index bs 0 ≢ 43
+    → result_ok r ≡ digits_of bs
+unfolding digits_of
+read_digits bs r h n =
+    let alone : List ℕ → Option ℕ = λ ds. cond (is_numeral ds && nat_lt (digits_value 10 ds) (2 ^ 64))
+    (Some (digits_value 10 ds)) None in
+    read_whole 64 bs r h ∙ ap alone (without_leading_plus_none bs n) ∙ nested (is_numeral bs) _ _
 
 -- behind a minus
 below_zero : {E : Type 0} (w : Width) (bs : List ℕ) (r : Result ℤ E) → ParsesSigned w 10 bs r → slice_index bs 0 ≡ 45
@@ -87,10 +101,6 @@ read_width w bs r h =
       | inl y ↦ below_zero w bs r h y.1 ∙ sym (ap choice y.0)
       | inr n ↦ not_below_zero w bs r h n.1 ∙ sym (ap choice n.0)
     ]
-
-pub read_signed_64 : {E : Type 0} (bs : List ℕ) (r : Result ℤ E) → ParsesSigned w64 10 bs r → result_ok r
-    ≡ signed_of 63 bs
-read_signed_64 bs r h = read_width w64 bs r h
 
 pub read_signed_32 : {E : Type 0} (bs : List ℕ) (r : Result ℤ E) → ParsesSigned w32 10 bs r → result_ok r
     ≡ signed_of 31 bs

@@ -4,3 +4,4 @@ pub mod Bytes
 pub mod Tapes
 pub mod Lines
 pub mod Mistakes
+pub mod Prices

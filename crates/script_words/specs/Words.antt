@@ -1,7 +1,7 @@
 -- What a single word of a script says. Assumes nothing.
-use Rattle.std.specs.Prelude.{ℕ, ◌^◌, Bool, true, false, ◌&&◌, if◌then◌else◌, List, length, drop, ℤ, pos, neg_ℤ, Some, None, Ok, Err, Option, Result, codes, nat_le, nat_lt, ◌==◌}
+use Rattle.std.specs.Prelude.{ℕ, ◌^◌, Bool, true, false, ◌&&◌, if◌then◌else◌, List, drop, ℤ, pos, neg_ℤ, Some, None, Ok, Err, Option, Result, codes, nat_le, nat_lt, ◌==◌}
 use Rattle.std.specs.List.{after_first, before_first, list_any}
-use Rattle.std.specs.Str.{all_ascii_digits, bytes_eq}
+use Rattle.std.specs.Str.{bytes_eq}
 use Rattle.std.specs.Str.Parse.{digits_value, starts_with_minus, without_leading_plus}
 use Rattle.std.specs.Option.{ok_or}
 use Rattle.codes.specs.declared.order.Side.{Side}
@@ -11,16 +11,13 @@ use Rattle.terms.specs.declared.pricing.Pricing.{Pricing}
 use Rattle.terms.specs.declared.pricing.Pricing.TheVariants.{Market, Limit}
 use Rattle.texts.specs.declared.values.Price.{Price}
 use Rattle.texts.specs.declared.values.Time.{Time}
+use Rattle.script_words.specs.Prices.{is_numeral, is_point, raw_of}
 use Rattle.script_words.specs.declared.misread.Misread.{Misread}
 use Rattle.script_words.specs.declared.misread.Misread.TheVariants as why
 
 -- a value, or why there is none
 
 -- ---- numbers
-
--- one decimal digit or more, and nothing else
-abbrev pub is_numeral : List ℕ → Bool
-is_numeral ds = nat_lt 0 (length ds) && all_ascii_digits ds
 
 -- a whole number of k bits in decimal digits, perhaps behind a plus
 abbrev pub whole_of : ℕ → List ℕ → Option ℕ
@@ -60,12 +57,13 @@ shares_of w = ok_or (signed_of 31 w) why.Quantity
 
 -- ---- prices, sides, times
 
+-- a price in hundred-millionths, read as a decimal number
 abbrev pub priced : Option ℤ → Result Price Misread
 priced None = Err why.Price
 priced (Some z) = Ok (record { raw = z })
 
 abbrev pub price_of : List ℕ → Result Price Misread
-price_of w = priced (signed_of 63 w)
+price_of w = priced (raw_of w)
 
 abbrev pub limited : Result Price Misread → Result Pricing Misread
 limited (Err e) = Err e
@@ -79,9 +77,6 @@ yes_of w = if bytes_eq w (codes "yes") then Ok true else if bytes_eq w (codes "n
 
 abbrev pub side_of : List ℕ → Result Side Misread
 side_of w = if bytes_eq w (codes "buy") then Ok Buy else if bytes_eq w (codes "sell") then Ok Sell else Err why.Side
-
-abbrev pub is_point : ℕ → Bool
-is_point b = b == 46
 
 abbrev pub is_comma : ℕ → Bool
 is_comma b = b == 44

@@ -6,5 +6,6 @@ pub mod bytes;
 pub mod line;
 pub mod misread;
 pub mod mistake;
+mod prices;
 pub mod tape;
 pub mod words;

@@ -53,7 +53,8 @@ impl Misread {
             Misread::Number => "not understood: a number is not whole, or is too large",
             Misread::YesOrNo => "not understood: neither yes nor no",
             Misread::Side => "not understood: the side is neither buy nor sell",
-            Misread::Price => "not understood: the price is neither a whole number nor market",
+            Misread::Price =>
+                "not understood: the price is neither market nor a decimal number of up to 8 places",
             Misread::Quantity => "not understood: the quantity is not whole, or is too large",
             Misread::Matcher => "not understood: the matcher is neither lit nor tape",
             Misread::Store =>

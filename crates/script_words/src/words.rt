@@ -3,6 +3,7 @@ ghost use Rattle.std.specs.Prelude.{◌≡◌};
 ghost use Rattle.script_words.specs.Words.{app_of, line_of, number_of, part_of, price_of, pricing_of, shares_of, side_of, shares_at, signed_of, small_of, time_of, time_said, tape_line_of, whole_of, yes_of};
 
 use crate::misread::Misread;
+use crate::prices::hundred_millionths;
 use codes::order::Side;
 use matching::tape::Line;
 use terms::pricing::Pricing;
@@ -25,13 +26,6 @@ fn small(word: &str) -> Option<u32>
 #[tactic(auto, using(crate::proofs::Numerals::read_whole))]
 fn byte(word: &str) -> Option<u8>
     ensures { result ≡ whole_of 8 word.now }
-{
-    word.parse().ok()
-}
-
-#[tactic(auto, using(crate::proofs::Numerals::read_signed_64))]
-fn signed(word: &str) -> Option<i64>
-    ensures { result ≡ signed_of 63 word.now }
 {
     word.parse().ok()
 }
@@ -120,11 +114,12 @@ pub fn shares(word: &str) -> Result<i32, Misread>
     }
 }
 
-/// A price as the raw whole number that messages carry.
+/// A price: a decimal number with up to eight places. What has more, or another form, or does not fit 64 bits of
+/// hundred-millionths, is not understood ([`Misread::Price`]).
 pub fn price(word: &str) -> Result<Price, Misread>
     ensures { result ≡ price_of word.now }
 {
-    match signed(word) {
+    match hundred_millionths(word) {
         Some(raw) => Ok(Price { raw }),
         None => Err(Misread::Price),
     }

@@ -6,5 +6,6 @@ pub mod fixed;
 pub mod identifiers;
 pub mod names;
 pub mod party;
+pub mod prices;
 pub mod text;
 pub mod values;

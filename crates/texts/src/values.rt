@@ -1,8 +1,9 @@
 // Values that are more than a number.
 
-/// A price, with eight implied decimals.
+/// A price, in hundred-millionths. It is printed as a decimal number with eight places.
 #[derive(Clone, Copy, Debug, PartialEq)]
 pub struct Price {
+    /// How many hundred-millionths.
     pub raw: i64,
 }
 
