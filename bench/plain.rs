@@ -1,5 +1,5 @@
 // What wire_bench does, in plain Rust: a New Order of 97 bytes, written and read as often as each line says.
-// Built by `rustc -C opt-level=2 plain.rs`; docs/SPEED.md has what came of it.
+// Built by `rustc --edition 2024 -C opt-level=3 plain.rs`; docs/SPEED.md has what came of it.
 use std::io::BufRead;
 
 #[derive(Clone, Copy)]
