@@ -9,7 +9,11 @@ use Rattle.std.proofs.lemmas.Grind.{common_steps}
 -- what is at no place of a list is nowhere in it
 pub at_no_place : (p : ℕ → Bool) (w : List ℕ) → position_or_len p w ≡ length w → list_any p w ≡ false
 at_no_place p [] h = refl
-at_no_place p (b ∷ bs) h = elim (cases_Bool (p b)) [ inl y ↦ grind (arith, common_steps) | inr n ↦ grind (arith, common_steps, at_no_place p bs) ]
+at_no_place p (b ∷ bs) h =
+    elim (cases_Bool (p b)) [
+      | inl y ↦ grind (arith, common_steps)
+      | inr n ↦ grind (arith, common_steps, at_no_place p bs)
+    ]
 
 pub no_minus : (w : List ℕ) → ((rest : List ℕ) → w ≡ 45 ∷ rest → ⊥) → starts_with_minus w ≡ false
 no_minus [] h = refl

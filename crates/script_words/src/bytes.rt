@@ -32,7 +32,7 @@ fn is_bytes(word: &str) -> bool
 }
 
 impl<'a> Bytes<'a> {
-    /// The bytes of a word, if it is pairs of hex digits, or `-`.
+    /// The bytes of a word; none where it is neither pairs of hex digits nor `-`.
     pub fn read(word: &'a str) -> Option<Bytes<'a>>
         ensures { result ≡ (if is_bytes word.entry.now then Some (record { word = word.entry }) else None) }
     {

@@ -23,7 +23,8 @@ pub fn is_skipped(words: &[&str]) -> bool
     }
 }
 
-/// The words of a line, which is given without the bytes that end it; none where it is no text.
+/// The words of a line, which is given without the bytes that end it; none where it is no text. Its one error is want
+/// of memory.
 pub fn parted<'a>(heap: Global, line: &'a [u8]) -> Result<Option<Vec<&'a str>>, AllocError>
     ensures { IfOk result (Parted line.now) }
 {

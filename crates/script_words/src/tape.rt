@@ -19,7 +19,7 @@ fn is_tape(words: &[&str]) -> bool
 }
 
 impl<'a> Tape<'a> {
-    /// The tape of a line's words, if each behind the second is a trade.
+    /// The tape of a line's words; none where a word behind the second is no trade.
     pub fn read(words: &'a [&'a str]) -> Option<Tape<'a>>
         ensures { result ≡ (if is_tape words.entry.now then Some (record { words = words.entry }) else None) }
     {

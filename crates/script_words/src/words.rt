@@ -1,4 +1,5 @@
-// Single words of a script: what each says, or that it is not understood.
+// Single words of a script: what each says, or that it is not understood. A whole number is decimal digits, perhaps
+// behind a `+`, and, where it may be below 0, behind a `-`.
 ghost use Rattle.std.specs.Prelude.{◌≡◌};
 ghost use Rattle.script_words.specs.Words.{app_of, line_of, number_of, part_of, price_of, pricing_of, shares_of, side_of, shares_at, signed_of, small_of, time_of, time_said, tape_line_of, whole_of, yes_of};
 
@@ -37,7 +38,7 @@ fn signed_small(word: &str) -> Option<i32>
     word.parse().ok()
 }
 
-/// A line, from 0.
+/// A line, from 0. What is no whole number of 64 bits is not understood ([`Misread::Line`]).
 pub fn line(word: &str) -> Result<usize, Misread>
     ensures { result ≡ line_of word.now }
 {
@@ -47,7 +48,7 @@ pub fn line(word: &str) -> Result<usize, Misread>
     }
 }
 
-/// A number of 64 bits.
+/// A number. What is no whole number of 64 bits is not understood ([`Misread::Number`]).
 pub fn number(word: &str) -> Result<u64, Misread>
     ensures { result ≡ number_of word.now }
 {
@@ -57,7 +58,7 @@ pub fn number(word: &str) -> Result<u64, Misread>
     }
 }
 
-/// A number of things.
+/// A number of things, as `number` reads it.
 pub fn count(word: &str) -> Result<usize, Misread>
     ensures { result ≡ number_of word.now }
 {
@@ -67,7 +68,7 @@ pub fn count(word: &str) -> Result<usize, Misread>
     }
 }
 
-/// A number of 32 bits.
+/// A number. What is no whole number of 32 bits is not understood ([`Misread::Number`]).
 pub fn small_number(word: &str) -> Result<u32, Misread>
     ensures { result ≡ small_of word.now }
 {
@@ -77,7 +78,8 @@ pub fn small_number(word: &str) -> Result<u32, Misread>
     }
 }
 
-/// A partition, of which there may be none of this number.
+/// A partition, of which there may be none of this number. What is no whole number of 8 bits is not understood
+/// ([`Misread::Number`]).
 pub fn partition(word: &str) -> Result<u8, Misread>
     ensures { result ≡ part_of word.now }
 {
@@ -94,7 +96,7 @@ fn signed_byte(word: &str) -> Option<i8>
     word.parse().ok()
 }
 
-/// A partition as a request names it: any number of 8 bits.
+/// A partition as a request names it, from -128 to 127. What is none of these is not understood ([`Misread::Number`]).
 pub fn app_id(word: &str) -> Result<i8, Misread>
     ensures { result ≡ app_of word.now }
 {
@@ -104,7 +106,8 @@ pub fn app_id(word: &str) -> Result<i8, Misread>
     }
 }
 
-/// In shares.
+/// A quantity in shares, which may be below 0. What is no whole number of a signed 32 bits is not understood
+/// ([`Misread::Quantity`]).
 pub fn shares(word: &str) -> Result<i32, Misread>
     ensures { result ≡ shares_of word.now }
 {
@@ -125,7 +128,7 @@ pub fn price(word: &str) -> Result<Price, Misread>
     }
 }
 
-/// `market`, or a limit.
+/// `market`, or a limit, as `price` reads it.
 pub fn pricing(word: &str) -> Result<Pricing, Misread>
     ensures { result ≡ pricing_of word.now }
 {
@@ -135,7 +138,7 @@ pub fn pricing(word: &str) -> Result<Pricing, Misread>
     Ok(Pricing::Limit(price(word)?))
 }
 
-/// `yes` or `no`.
+/// `yes` or `no`. Any other word is not understood ([`Misread::YesOrNo`]).
 pub fn yes_or_no(word: &str) -> Result<bool, Misread>
     ensures { result ≡ yes_of word.now }
 {
@@ -146,7 +149,7 @@ pub fn yes_or_no(word: &str) -> Result<bool, Misread>
     }
 }
 
-/// `buy` or `sell`.
+/// `buy` or `sell`. Any other word is not understood ([`Misread::Side`]).
 pub fn side(word: &str) -> Result<Side, Misread>
     ensures { result ≡ side_of word.now }
 {
@@ -169,7 +172,8 @@ fn parts_of_time(word: &str) -> Option<Time>
     })
 }
 
-/// A time: seconds and microseconds, two whole numbers round a point.
+/// A time: seconds and microseconds, two whole numbers of 32 bits round a point. Any other word is not understood
+/// ([`Misread::Time`]).
 pub fn time(word: &str) -> Result<Time, Misread>
     ensures { result ≡ time_of word.now }
 {
@@ -190,7 +194,8 @@ fn quantity_and_price(word: &str) -> Option<(u32, Price)>
     }
 }
 
-/// One trade of a tape: the order's number, the quantity and the price, with commas between.
+/// One trade of a tape: the order's number, the quantity and the price, with commas between; none where the word has
+/// another form. The price is one as `price` reads it.
 pub fn tape_line(word: &str) -> Option<Line>
     ensures { result ≡ tape_line_of word.now }
 {
