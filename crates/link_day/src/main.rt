@@ -3,10 +3,10 @@
 #![tactic(auto)]
 
 mod desk;
-mod venue;
+mod host;
 
 use crate::desk::{Desk, MARKET};
-use crate::venue::{CLOCK, LINE, Venue, open};
+use crate::host::{CLOCK, LINE, Venue, open};
 use anyhow::{Context, bail};
 use inspector::answer::answer_message;
 use link::awaiting::NotTrading;
