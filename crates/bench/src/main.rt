@@ -56,17 +56,20 @@ is under way to the desk until it is delivered:
   catch up         asks for each partition and downloads it until it is level
 
 Messages that are built from words and taken in on a line at the time of the clock. QTY is a whole number, PRICE a decimal number
-with up to eight places, such as 101 or 100.5; orders are day orders for the lit book, as principal on the house's account:
+with up to eight places, such as 101 or 100.5; orders are for the lit book, as principal on the house's account, and day orders
+where no word says ioc:
 
   time TIME        sets the clock
   logon LINE       with the CompID and the password of the line
   recover LINE     the same on the recovery channel
   logout LINE
-  buy LINE SYMBOL QTY PRICE|market CLIENTID [marked]
-  sell LINE SYMBOL QTY PRICE|market CLIENTID [marked]
-                   marked: ends with the line, where the CompID is so configured
+  buy LINE SYMBOL QTY PRICE|market CLIENTID [ioc] [marked]
+  sell LINE SYMBOL QTY PRICE|market CLIENTID [ioc] [marked]
+                   ioc: immediate or cancel, what does not trade at once expires; marked: ends with the line, where the
+                   CompID is so configured
   cancel LINE SYMBOL buy|sell CLIENTID ORIGINAL
-  replace LINE SYMBOL buy|sell QTY PRICE CLIENTID ORIGINAL
+  replace LINE SYMBOL buy|sell QTY PRICE CLIENTID ORIGINAL [ioc]
+                   ioc: the order is immediate or cancel
   mass-cancel LINE CLIENTID own|firm [instrument SYMBOL | segment SEGMENT]
   missed LINE PARTITION LAST
                    asks for a download of the reports of a partition behind number LAST

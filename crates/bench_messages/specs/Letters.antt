@@ -1,8 +1,9 @@
 -- What the fields of a request's message hold, by the words that a person wrote. Assumes nothing.
 use Rattle.std.specs.Prelude.{ℕ, Bool, List, [], ◌∷◌, ℤ, pos, None, Option}
 use Rattle.std.specs.Option.{option_or}
-use Rattle.codes.specs.Order.{auto_cancel_code, order_type_code, side_code}
+use Rattle.codes.specs.Order.{auto_cancel_code, order_type_code, side_code, time_in_force_code}
 use Rattle.codes.specs.declared.order.Side.{Side}
+use Rattle.terms.specs.declared.lifetime.Lifetime.{Lifetime}
 use Rattle.terms.specs.declared.pricing.Pricing.{Pricing}
 use Rattle.terms.specs.Pricing.{order_type_of}
 use Rattle.texts.specs.Bytes.{said}
@@ -12,21 +13,21 @@ use Rattle.layout.specs.Layout.Content.{words, order, figure, int32, price, noth
 use Rattle.order_messages.specs.Terms.{pricing_price}
 use Rattle.script_words.specs.declared.misread.Misread.{Misread}
 use Rattle.bench_messages.specs.Fitting.{client_wrong, original_wrong, symbol_wrong}
-use Rattle.bench_messages.specs.Marks.{auto_cancel_of}
+use Rattle.bench_messages.specs.Marks.{auto_cancel_of, time_in_force_of}
 use Rattle.bench_messages.specs.declared.trading.Cancel.{Cancel}
 use Rattle.bench_messages.specs.declared.trading.Order.{Order}
 use Rattle.bench_messages.specs.declared.trading.Replace.{Replace}
 
--- a day order of a house account, as principal, for the integrated book, that shows all its shares
-abbrev pub order_asked : Side → List ℕ → ℤ → Pricing → List ℕ → Bool → List Content
-order_asked side symbol shares pricing client marked =
+-- an order of a house account, as principal, for the integrated book, that shows all its shares
+abbrev pub order_asked : Side → List ℕ → ℤ → Pricing → List ℕ → Lifetime → Bool → List Content
+order_asked side symbol shares pricing client lifetime marked =
     words client
     ∷ words []
     ∷ words []
     ∷ figure 3
     ∷ words symbol
     ∷ figure (order_type_code (order_type_of pricing))
-    ∷ figure 0
+    ∷ figure (time_in_force_code (time_in_force_of lifetime))
     ∷ figure 0
     ∷ figure (side_code side)
     ∷ int32 shares
@@ -44,7 +45,8 @@ order_asked side symbol shares pricing client marked =
     ∷ []
 
 abbrev pub order_contents : Order → List Content
-order_contents o = order_asked o.side (said o.symbol.bytes) o.shares o.pricing (said o.client.id.bytes) o.marked
+order_contents o =
+    order_asked o.side (said o.symbol.bytes) o.shares o.pricing (said o.client.id.bytes) o.lifetime o.marked
 
 abbrev pub order_wrong : List ℕ → List ℕ → Option Misread
 order_wrong symbol client = option_or (symbol_wrong symbol) (client_wrong client)
@@ -69,8 +71,8 @@ cancel_wrong symbol client original =
     option_or (symbol_wrong symbol) (option_or (client_wrong client) (original_wrong original))
 
 -- a replacement of the quantity and the price of the order that goes by a Client Order ID
-abbrev pub replace_asked : List ℕ → Side → ℤ → Price → List ℕ → List ℕ → List Content
-replace_asked symbol side shares limit client original =
+abbrev pub replace_asked : List ℕ → Side → ℤ → Price → List ℕ → List ℕ → Lifetime → List Content
+replace_asked symbol side shares limit client original lifetime =
     words client
     ∷ words original
     ∷ order None
@@ -80,7 +82,7 @@ replace_asked symbol side shares limit client original =
     ∷ int32 shares
     ∷ price limit.raw
     ∷ words []
-    ∷ figure 0
+    ∷ figure (time_in_force_code (time_in_force_of lifetime))
     ∷ figure (side_code side)
     ∷ nothing
     ∷ figure 1
@@ -93,3 +95,4 @@ replace_asked symbol side shares limit client original =
 abbrev pub replace_contents : Replace → List Content
 replace_contents r =
     replace_asked (said r.symbol.bytes) r.side r.shares r.price (said r.client.id.bytes) (said r.original.bytes)
+    r.lifetime

@@ -56,8 +56,11 @@ impl Letter {
                 shares,
                 pricing,
                 client,
+                lifetime,
                 marked,
-            } => Ok(Letter::Order(Order::new(side, symbol, shares, pricing, client, marked)?)),
+            } => Ok(Letter::Order(Order::new(
+                side, symbol, shares, pricing, client, lifetime, marked,
+            )?)),
             Request::Cancel {
                 symbol,
                 side,
@@ -71,7 +74,10 @@ impl Letter {
                 price,
                 client,
                 original,
-            } => Ok(Letter::Replace(Replace::new(symbol, side, shares, price, client, original)?)),
+                lifetime,
+            } => Ok(Letter::Replace(Replace::new(
+                symbol, side, shares, price, client, original, lifetime,
+            )?)),
             Request::MassCancel {
                 client,
                 firm,

@@ -2,7 +2,7 @@
 ghost use Rattle.std.specs.Prelude.{◌≡◌, [], IfOk};
 ghost use Rattle.std.specs.Result.{result_err};
 ghost use Rattle.texts.specs.Bytes.{said};
-ghost use Rattle.bench_messages.specs.Marks.{auto_cancel_of};
+ghost use Rattle.bench_messages.specs.Marks.{auto_cancel_of, time_in_force_of};
 
 use crate::words;
 use codes::order::{
@@ -12,13 +12,14 @@ use order_messages::new_order::NewOrder;
 use order_messages::order_cancel_replace_request::OrderCancelReplaceRequest;
 use order_messages::order_cancel_request::OrderCancelRequest;
 use script_words::misread::Misread;
+use terms::lifetime::Lifetime;
 use terms::pricing::Pricing;
 use terms::target::Target;
 use texts::fixed::{FixedText, RequestId};
 use texts::names::{Account, ClientOrderId, Symbol, TraderId};
 use texts::values::Price;
 
-/// A day order of a house account, as principal, for the integrated book.
+/// An order of a house account, as principal, for the integrated book.
 #[derive(Clone, Copy)]
 pub struct Order {
     client: RequestId,
@@ -26,6 +27,7 @@ pub struct Order {
     side: Side,
     shares: i32,
     pricing: Pricing,
+    lifetime: Lifetime,
     marked: bool,
     trader: TraderId,
     account: Account,
@@ -43,6 +45,15 @@ fn auto_cancel(marked: bool) -> AutoCancel
     }
 }
 
+fn time_in_force(lifetime: Lifetime) -> TimeInForce
+    ensures { result ≡ time_in_force_of lifetime }
+{
+    match lifetime {
+        Lifetime::Day => TimeInForce::Day,
+        Lifetime::ImmediateOrCancel => TimeInForce::ImmediateOrCancel,
+    }
+}
+
 impl Order {
     ghost use Rattle.order_messages.specs.Requests.{new_order_contents};
     ghost use Rattle.bench_messages.specs.Letters.{order_contents, order_wrong, order_asked};
@@ -54,11 +65,12 @@ impl Order {
         shares: i32,
         pricing: Pricing,
         client: &str,
+        lifetime: Lifetime,
         marked: bool,
     ) -> Result<Order, Misread>
         ensures wrong { result_err result ≡ order_wrong symbol.now client.now }
         ensures asked { IfOk result (λ o. order_contents o
-            ≡ order_asked side symbol.now shares pricing client.now marked) }
+            ≡ order_asked side symbol.now shares pricing client.now lifetime marked) }
     {
         let symbol = words::symbol(symbol)?;
         let client = words::client(client)?;
@@ -68,6 +80,7 @@ impl Order {
             side,
             shares,
             pricing,
+            lifetime,
             marked,
             trader: FixedText::empty(),
             account: FixedText::empty(),
@@ -85,7 +98,7 @@ impl Order {
             clearing_account: ClearingAccount::House,
             symbol: self.symbol.as_text(),
             pricing: self.pricing,
-            time_in_force: TimeInForce::Day,
+            time_in_force: time_in_force(self.lifetime),
             expire_time: 0,
             side: self.side,
             quantity: self.shares,
@@ -153,6 +166,7 @@ pub struct Replace {
     side: Side,
     shares: i32,
     price: Price,
+    lifetime: Lifetime,
     account: Account,
     ghost none: { said account.bytes ≡ [] },
 }
@@ -169,10 +183,11 @@ impl Replace {
         price: Price,
         client: &str,
         original: &str,
+        lifetime: Lifetime,
     ) -> Result<Replace, Misread>
         ensures wrong { result_err result ≡ cancel_wrong symbol.now client.now original.now }
         ensures asked { IfOk result (λ r. replace_contents r
-            ≡ replace_asked symbol.now side shares price client.now original.now) }
+            ≡ replace_asked symbol.now side shares price client.now original.now lifetime) }
     {
         let symbol = words::symbol(symbol)?;
         let client = words::client(client)?;
@@ -184,6 +199,7 @@ impl Replace {
             side,
             shares,
             price,
+            lifetime,
             account: FixedText::empty(),
         })
     }
@@ -202,7 +218,7 @@ impl Replace {
             display_quantity: self.shares,
             limit_price: self.price,
             account: self.account.as_text(),
-            time_in_force: TimeInForce::Day,
+            time_in_force: time_in_force(self.lifetime),
             side: self.side,
             target: Target::Integrated,
             min_quantity: 0,

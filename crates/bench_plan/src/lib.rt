@@ -10,6 +10,7 @@ use configuration::instrument::Instrument;
 use configuration::participant::Participant;
 use limits::{MESSAGE_BYTES, ORDERS};
 use std::alloc::{AllocError, Global};
+use terms::lifetime::Lifetime;
 use terms::pricing::Pricing;
 use texts::fixed::FixedText;
 use texts::values::Price;
@@ -117,6 +118,7 @@ fn new_order(heap: Global, order: usize) -> Result<Asked, AllocError> {
         shares: shares(order),
         pricing: Pricing::Limit(price(order)),
         client: client.as_str(),
+        lifetime: Lifetime::Day,
         marked: order % 8 == 0,
     };
     built(heap, order % LINES, &request)
@@ -132,6 +134,7 @@ fn replace(heap: Global, order: usize) -> Result<Asked, AllocError> {
         price: price(order),
         client: client.as_str(),
         original: original.as_str(),
+        lifetime: Lifetime::Day,
     };
     built(heap, order % LINES, &request)
 }

@@ -4,6 +4,8 @@ use Rattle.std.specs.Borrow.{Bor}
 use Rattle.std.specs.Str.{bytes_eq}
 use Rattle.codes.specs.declared.order.Side.{Side}
 use Rattle.codes.specs.declared.order.Side.TheVariants as side
+use Rattle.terms.specs.declared.lifetime.Lifetime.{Lifetime}
+use Rattle.terms.specs.declared.lifetime.Lifetime.TheVariants.{Day, ImmediateOrCancel}
 use Rattle.texts.specs.declared.values.Time.{Time}
 use Rattle.script_words.specs.declared.bytes.Bytes.{Bytes}
 use Rattle.bench_script.specs.declared.command.Cable.TheVariants as cable
@@ -165,19 +167,34 @@ line_lost_of ws =
 
 -- ---- the messages that a person asks for, each with its line
 
+-- [marked]
 abbrev pub marked_of : Words → Result Bool Misread
 marked_of ws =
     if length ws == 0 then Ok false
     else if (length ws == 1) && bytes_eq (text ws 0) (codes "marked") then Ok true
     else Err why.Count
 
--- buy|sell LINE SYMBOL QTY PRICE|market CLIENTID [marked]
+-- [ioc] [marked]
+unfoldable pub behind_of : Words → Result (Lifetime × Bool) Misread
+behind_of ws =
+    if nat_le 1 (length ws) && bytes_eq (text ws 0) (codes "ioc")
+    then (marked_of (drop 1 ws) then λ marked. Ok (ImmediateOrCancel, marked))
+    else (marked_of ws then λ marked. Ok (Day, marked))
+
+-- [ioc]
+unfoldable pub lifetime_of : Words → Result Lifetime Misread
+lifetime_of ws =
+    if length ws == 0 then Ok Day
+    else if (length ws == 1) && bytes_eq (text ws 0) (codes "ioc") then Ok ImmediateOrCancel
+    else Err why.Count
+
+-- buy|sell LINE SYMBOL QTY PRICE|market CLIENTID [ioc] [marked]
 abbrev pub order_of : Side → Words → Result Command Misread
 order_of s ws =
     of_least 6 ws (
     line_of (text ws 1) then λ line. shares_of (text ws 3) then λ shares. pricing_of (text ws 4) then λ pricing.
-    marked_of (drop 6 ws) then λ marked. Ok (command.Request line
-    (request.Order s (word ws 2) shares pricing (word ws 5) marked)))
+    behind_of (drop 6 ws) then λ b. Ok (command.Request line
+    (request.Order s (word ws 2) shares pricing (word ws 5) b.0 b.1)))
 
 -- cancel LINE SYMBOL SIDE CLIENTID ORIGINAL
 abbrev pub cancel_of : Words → Result Command Misread
@@ -185,13 +202,13 @@ cancel_of ws =
     of_count 6 ws (line_of (text ws 1) then λ line. side_of (text ws 3)
     then λ s. Ok (command.Request line (request.Cancel (word ws 2) s (word ws 4) (word ws 5))))
 
--- replace LINE SYMBOL SIDE QTY PRICE CLIENTID ORIGINAL
+-- replace LINE SYMBOL SIDE QTY PRICE CLIENTID ORIGINAL [ioc]
 abbrev pub replace_of : Words → Result Command Misread
 replace_of ws =
-    of_count 8 ws (
+    of_least 8 ws (lifetime_of (drop 8 ws) then λ lifetime.
     line_of (text ws 1) then λ line. side_of (text ws 3) then λ s. shares_of (text ws 4) then λ shares.
     price_of (text ws 5) then λ price. Ok (command.Request line
-    (request.Replace (word ws 2) s shares price (word ws 6) (word ws 7))))
+    (request.Replace (word ws 2) s shares price (word ws 6) (word ws 7) lifetime)))
 
 abbrev pub firm_of : List ℕ → Result Bool Misread
 firm_of w = if bytes_eq w (codes "own") then Ok false else if bytes_eq w (codes "firm") then Ok true else Err why.Scope

@@ -1,6 +1,6 @@
 // What a line of a script asks for, read from its words.
 ghost use Rattle.std.specs.Prelude.{◌≡◌};
-ghost use Rattle.bench_script.specs.Commands.{alone_of, ask_of, at_time, by_verb, bytes_said, catch_of, command_of, cancel_of, cancel_trade_of, comp_id_of, deliver_of, firm_of, instrument_of, is_call, is_lit, is_played, line_lost_of, live_of, lone_of, marked_of, mass_cancel_of, matcher_of, message_of, missed_of, on_line, order_of, real_time_of, recovered_of, recovery_of, repeat_of, replace_of, scope_of, show_of, store_of, style_of, tape_said};
+ghost use Rattle.bench_script.specs.Commands.{alone_of, ask_of, at_time, behind_of, by_verb, bytes_said, catch_of, command_of, cancel_of, cancel_trade_of, comp_id_of, deliver_of, firm_of, instrument_of, is_call, is_lit, is_played, lifetime_of, line_lost_of, live_of, lone_of, marked_of, mass_cancel_of, matcher_of, message_of, missed_of, on_line, order_of, real_time_of, recovered_of, recovery_of, repeat_of, replace_of, scope_of, show_of, store_of, style_of, tape_said};
 
 use crate::verb::Verb;
 use codes::order::Side;
@@ -8,6 +8,7 @@ use script_words::bytes::Bytes;
 use script_words::misread::Misread;
 use script_words::tape::Tape;
 use script_words::words;
+use terms::lifetime::Lifetime;
 use terms::pricing::Pricing;
 use texts::values::{Price, Time};
 
@@ -101,6 +102,7 @@ pub enum Request<'a> {
         shares: i32,
         pricing: Pricing,
         client: &'a str,
+        lifetime: Lifetime,
         /// Whether it ends with the line, where the CompID is so configured.
         marked: bool,
     },
@@ -117,6 +119,8 @@ pub enum Request<'a> {
         price: Price,
         client: &'a str,
         original: &'a str,
+        /// The one that the order has, which no replacement changes.
+        lifetime: Lifetime,
     },
     MassCancel {
         client: &'a str,
@@ -404,13 +408,34 @@ fn styled<'a>(words: &[&'a str]) -> Result<Command<'a>, Misread>
     }
 }
 
-// The words behind an order: none, or that it is marked.
+// The words behind an order's lifetime: none, or that it is marked.
 fn is_marked(words: &[&str]) -> Result<bool, Misread>
     ensures { result ≡ marked_of words.now }
 {
     match *words {
         [] => Ok(false),
         ["marked"] => Ok(true),
+        _ => Err(Misread::Count),
+    }
+}
+
+// The words behind an order: how long it waits, and whether it is marked.
+fn behind(words: &[&str]) -> Result<(Lifetime, bool), Misread>
+    ensures { result ≡ behind_of words.now }
+{
+    match *words {
+        ["ioc", ref rest @ ..] => Ok((Lifetime::ImmediateOrCancel, is_marked(rest)?)),
+        _ => Ok((Lifetime::Day, is_marked(words)?)),
+    }
+}
+
+// The words behind a replacement: none, or how long the order waits.
+fn lifetime(words: &[&str]) -> Result<Lifetime, Misread>
+    ensures { result ≡ lifetime_of words.now }
+{
+    match *words {
+        [] => Ok(Lifetime::Day),
+        ["ioc"] => Ok(Lifetime::ImmediateOrCancel),
         _ => Err(Misread::Count),
     }
 }
@@ -424,13 +449,14 @@ fn order<'a>(side: Side, words: &[&'a str]) -> Result<Command<'a>, Misread>
     let line = words::line(line)?;
     let shares = words::shares(shares)?;
     let pricing = words::pricing(price)?;
-    let marked = is_marked(rest)?;
+    let (lifetime, marked) = behind(rest)?;
     let order = Request::Order {
         side,
         symbol,
         shares,
         pricing,
         client,
+        lifetime,
         marked,
     };
     Ok(Command::Request(line, order))
@@ -456,9 +482,21 @@ fn cancel<'a>(words: &[&'a str]) -> Result<Command<'a>, Misread>
 fn replace<'a>(words: &[&'a str]) -> Result<Command<'a>, Misread>
     ensures { result ≡ replace_of words.now }
 {
-    let [_, line, symbol, side, shares, price, client, original] = *words else {
+    let [
+        _,
+        line,
+        symbol,
+        side,
+        shares,
+        price,
+        client,
+        original,
+        ref rest @ ..,
+    ] = *words
+    else {
         return Err(Misread::Count);
     };
+    let lifetime = lifetime(rest)?;
     let line = words::line(line)?;
     let side = words::side(side)?;
     let shares = words::shares(shares)?;
@@ -470,6 +508,7 @@ fn replace<'a>(words: &[&'a str]) -> Result<Command<'a>, Misread>
         price,
         client,
         original,
+        lifetime,
     };
     Ok(Command::Request(line, replace))
 }

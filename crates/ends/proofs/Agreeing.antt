@@ -56,7 +56,7 @@ use Rattle.partitions.specs.declared.per_partition.PerPartition.{PerPartition}
 use Rattle.sessions.specs.Sessions.{Sound as SoundSession, fresh as fresh_session}
 use Rattle.sessions.specs.declared.session.Channel.TheVariants.{Recovery}
 use Rattle.sessions.specs.declared.session.SessionState.{SessionState}
-use Rattle.venue.specs.View.{View, Sound}
+use Rattle.venue.specs.Books.{Books, Sound}
 use Rattle.wire.specs.Kinds.{total_of}
 use Rattle.wire.specs.declared.kinds.Kind.TheVariants.{MissedMessageRequest as Request}
 
@@ -69,14 +69,14 @@ went l = Ok l
 module _ (c : ℕ) (s : State) (d : Desk) (x : Line) (t : Taking) (k : Keeps c s d x t) (w : State)
     (sound : Sound w.venue) (few : length w.venue.rows ≤ ORDERS) where
   -- the facts that each call gives
-  grown : (v : VenueDone) → venue.Does s v w → Grows s.venue.kept w.venue.kept
+  grown : (v : VenueDone) → venue.Turns s v w → Grows s.venue.kept w.venue.kept
   grown v h = only_appends s v w h
 
-  layered : (v : VenueDone) → venue.Does s v w → SoundSession (session w c)
+  layered : (v : VenueDone) → venue.Turns s v w → SoundSession (session w c)
   layered v h = stays_sound c s v w h k.layered
 
   -- a call that is nothing to the line
-  elsewhere : (v : VenueDone) → venue.Does s v w → line_of v ≢ Some c → (x' : Line) → went x ≡ Ok x' → Keeps c w d x' t
+  elsewhere : (v : VenueDone) → venue.Turns s v w → line_of v ≢ Some c → (x' : Line) → went x ≡ Ok x' → Keeps c w d x' t
   elsewhere v h ne x' ok =
       let e = effect_other c s v w h ne in
       subst (λ y. Keeps c w d y t) (same_ok x x' (Ok x) refl ok)
@@ -91,11 +91,11 @@ module _ (c : ℕ) (s : State) (d : Desk) (x : Line) (t : Taking) (k : Keeps c s
       some_same : {i j : ℕ} → Some i ≡ Some j → i ≡ j
       some_same e = cc
 
-  store_stays : (r : Reply) → venue.Does s (call.SendRecovered c r) w → w.venue.kept ≡ s.venue.kept
-  store_stays r h = hands_by (λ (z : State). z.venue.kept ≡ s.venue.kept) s refl
+  store_stays : (r : Reply) → venue.Turns s (call.SendRecovered c r) w → w.venue.kept ≡ s.venue.kept
+  store_stays r (spare, h) = hands_by (λ (z : State). z.venue.kept ≡ s.venue.kept) s refl
       (send_fault Recovery (length venue.blank) c s) (recovery_handed c s) venue.blank r.answer w r.buffer refl h
 
-  pub venue_keeps : (v : VenueDone) → venue.Does s v w → venue.Tells s v → (x' : Line) → after_venue c v x ≡ Ok x'
+  pub venue_keeps : (v : VenueDone) → venue.Turns s v w → venue.Tells s v → (x' : Line) → after_venue c v x ≡ Ok x'
       → Keeps c w d x' t
   venue_keeps (call.RealTime line m tm r) h told x' ok = by (eqb line c) refl ok
     where
@@ -105,7 +105,7 @@ module _ (c : ℕ) (s : State) (d : Desk) (x : Line) (t : Taking) (k : Keeps c s
       by : (b : Bool) → eqb line c ≡ b → cond b (after_logon (bytes_eq (bytes_of r) accepted) x) (Ok x) ≡ Ok x'
           → Keeps c w d x' t
       by true q g =
-          let h' : venue.Does s (call.RealTime c m tm r) w = subst (λ i. venue.Does s (call.RealTime i m tm r) w)
+          let h' : venue.Turns s (call.RealTime c m tm r) w = subst (λ i. venue.Turns s (call.RealTime i m tm r) w)
           (eqb-true line c q) h in
           real_time c s d x t k w (grown (call.RealTime c m tm r) h') sound few (layered (call.RealTime c m tm r) h')
           (bytes_of r) (effect_realtime c s m tm r w k.layered h') (bytes_eq (bytes_of r) accepted) refl x' g
@@ -115,7 +115,7 @@ module _ (c : ℕ) (s : State) (d : Desk) (x : Line) (t : Taking) (k : Keeps c s
       by : (b : Bool) → eqb line c ≡ b → cond b (after_recovery (heard_in (bytes_of r)) (bytes_of r) m.now x) (Ok x)
           ≡ Ok x' → Keeps c w d x' t
       by true q g =
-          let h' : venue.Does s (call.Recovery c m tm r) w = subst (λ i. venue.Does s (call.Recovery i m tm r) w)
+          let h' : venue.Turns s (call.Recovery c m tm r) w = subst (λ i. venue.Turns s (call.Recovery i m tm r) w)
           (eqb-true line c q) h in
           recovery c s d x t k w (grown (call.Recovery c m tm r) h') sound few (layered (call.Recovery c m tm r) h')
           (bytes_of r) m.now (effect_recovery c s m tm r w h') x' g
@@ -126,7 +126,7 @@ module _ (c : ℕ) (s : State) (d : Desk) (x : Line) (t : Taking) (k : Keeps c s
     where
       by : (b : Bool) → eqb line c ≡ b → Keeps c w d x' t
       by true q =
-          let h' : venue.Does s (call.LineLost c tm r) w = subst (λ i. venue.Does s (call.LineLost i tm r) w)
+          let h' : venue.Turns s (call.LineLost c tm r) w = subst (λ i. venue.Turns s (call.LineLost i tm r) w)
           (eqb-true line c q) h in
           subst (λ y. Keeps c w d y t) (same_ok x x' (Ok x) refl ok)
           (quietly c s d x t k w (grown (call.LineLost c tm r) h') sound few (layered (call.LineLost c tm r) h')
@@ -137,7 +137,7 @@ module _ (c : ℕ) (s : State) (d : Desk) (x : Line) (t : Taking) (k : Keeps c s
       by : (b : Bool) → eqb line c ≡ b → went (cond b (record x { live = behind x.live (bytes_of r) }) x) ≡ Ok x'
           → Keeps c w d x' t
       by true q g =
-          let h' : venue.Does s (call.Send c r) w = subst (λ i. venue.Does s (call.Send i r) w) (eqb-true line c q) h in
+          let h' : venue.Turns s (call.Send c r) w = subst (λ i. venue.Turns s (call.Send i r) w) (eqb-true line c q) h in
           let told' : venue.Tells s (call.Send c r) = subst (λ i. venue.Tells s (call.Send i r))
           (eqb-true line c q) told in
           subst (λ y. Keeps c w d y t) (same_ok (record x { live = behind x.live (bytes_of r) }) x'
@@ -150,7 +150,7 @@ module _ (c : ℕ) (s : State) (d : Desk) (x : Line) (t : Taking) (k : Keeps c s
       by : (b : Bool) → eqb line c ≡ b → went (cond b (record x { recovered = behind x.recovered (bytes_of r) }) x)
           ≡ Ok x' → Keeps c w d x' t
       by true q g =
-          let h' : venue.Does s (call.SendRecovered c r) w = subst (λ i. venue.Does s (call.SendRecovered i r) w)
+          let h' : venue.Turns s (call.SendRecovered c r) w = subst (λ i. venue.Turns s (call.SendRecovered i r) w)
           (eqb-true line c q) h in
           let told' : venue.Tells s (call.SendRecovered c r) = subst (λ i. venue.Tells s (call.SendRecovered i r))
           (eqb-true line c q) told in
@@ -488,7 +488,7 @@ fresh_place One = refl
 fresh_place Two = refl
 fresh_place Three = refl
 
-pub begun : (c : ℕ) (ps : List Participant) (v : View) → Keeps c (fresh_state ps v) fresh quiet (λ p n. ⊥)
+pub begun : (c : ℕ) (ps : List Participant) (v : Books) → Keeps c (fresh_state ps v) fresh quiet (λ p n. ⊥)
 begun c ps v = record {
   up = refl;
   quiet = stays_quiet.begins;
@@ -533,7 +533,7 @@ module _ (c : ℕ) (xs : List Done) (w : State) (e : Desk) (l : Line) (k : Keeps
       above j lt true q y ps taken = let le = taken (inr (all j q)) in ps j lt (omega (arith, lt, le))
       above j lt false q y ps taken = q
 
-pub agrees : (c : ℕ) (ps : List Participant) (v : View) (xs : List Done) (w : State) (e : Desk)
+pub agrees : (c : ℕ) (ps : List Participant) (v : Books) (xs : List Done) (w : State) (e : Desk)
     → Runs (fresh_state ps v) fresh xs w e → Allowed c xs → Agrees c xs w e
 agrees c ps v xs w e runs (l, ok) =
     let (fits, k) = log_keeps c xs (fresh_state ps v) fresh quiet (λ p n. ⊥) w e l (begun c ps v) runs ok in

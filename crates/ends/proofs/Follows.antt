@@ -38,7 +38,7 @@ use Rattle.partitions.specs.PerPartition.{at, with_at}
 use Rattle.partitions.specs.declared.per_partition.PerPartition.{PerPartition}
 use Rattle.sessions.specs.declared.session.SessionState.{SessionState}
 use Rattle.store.specs.Kept.{Kept}
-use Rattle.venue.specs.View.{Sound}
+use Rattle.venue.specs.Books.{Sound}
 
 -- ---- the phases of a connection
 

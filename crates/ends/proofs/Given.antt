@@ -43,19 +43,19 @@ use Rattle.partitions.specs.PerPartition.{at, with_at}
 use Rattle.reports.specs.Tally.{is_of}
 use Rattle.reports.specs.declared.report.Entry.{Entry}
 use Rattle.sessions.specs.declared.session.SessionState.{SessionState}
-use Rattle.venue.specs.View.{View, Sound}
+use Rattle.venue.specs.Books.{Books, Sound}
 use Rattle.venue.proofs.Recording.{same_self}
 
 pub same_bytes : (a b : List ℕ) → bytes_eq a b ≡ true → a ≡ b
 same_bytes a b h = (bytes_eq-Decides a b).0 h
 
 -- both ends, as far as one connection goes
-pub record Stands (c : ℕ) (v : View) (s : SessionState) (f : Following) (x : Line) (t : Taking) : Type 0 where
+pub record Stands (c : ℕ) (v : Books) (s : SessionState) (f : Following) (x : Line) (t : Taking) : Type 0 where
   pub known : Tallied c v.kept f.standings (place_in f)
   pub placed : Placed c v.kept (place_in f)
   pub up : Up c v.kept s f (place_in f) x t
 
-module _ (c : ℕ) (v : View) (s : SessionState) (sound : Sound v) (few : length v.rows ≤ ORDERS) where
+module _ (c : ℕ) (v : Books) (s : SessionState) (sound : Sound v) (few : length v.rows ≤ ORDERS) where
   -- ---- the real-time channel
 
   -- what a live report answers and leaves: the hold was full, or all stands as before

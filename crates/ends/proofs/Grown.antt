@@ -1,15 +1,17 @@
--- A run and one call more, and the gateway's part of a run. Assumes nothing.
-use Rattle.std.proofs.Common.{◌≡◌, ◌≤◌, List, [], ◌∷◌, ◌++◌, length, refl, subst}
-use Rattle.ends.specs.Runs.{Desk, Does, Runs, Tells, venue_log}
+-- A run and one call more, of both ends and of the gateway's part. Assumes nothing.
+use Rattle.std.proofs.Common.{◌≡◌, ◌≤◌, List, [], ◌∷◌, ◌++◌, length, refl, sym, subst}
+use Rattle.std.proofs.lemmas.List.{append-nil}
+use Rattle.std.proofs.lemmas.List.Elements.{filter_map-append}
+use Rattle.ends.specs.Runs.{Desk, Does, Runs, Sided, Tells, venue_call, venue_log}
 use Rattle.call.specs.declared.both_ends.Done.{Done}
 use Rattle.call.specs.declared.both_ends.Done.TheVariants as done
 use Rattle.follower.specs.Owing.{Tied}
 use Rattle.gateway.specs.State.{State}
 use Rattle.limits.specs.declared.TheConstants.{ORDERS}
-use Rattle.line.proofs.Conserving.{conserved}
-use Rattle.line.specs.Conservation.{Conserves}
+use Rattle.line.proofs.Grown.{runs_more as venue_more}
 use Rattle.line.specs.Runs as venue
-use Rattle.venue.specs.View.{Sound}
+use Rattle.matching.specs.Asked.{Asked}
+use Rattle.venue.specs.Books.{Over, Sound}
 
 pub runs_more : (s : State) (d : Desk) (xs : List Done) (u : State) (f : Desk) (x : Done) (w : State) (e : Desk)
     → Runs s d xs u f → Does u f x w e → Tells u f x → Sound w.venue
@@ -28,21 +30,18 @@ runs_more s d [] u f x w e (a, b) m h k n t = (
 runs_more s d (y ∷ xs) u f x w e (v, g, m', h', k', n', t', r) m h k n t =
     (v, g, m', h', k', n', t', runs_more v g xs u f x w e r m h k n t)
 
-pub venue_runs : (s : State) (d : Desk) (xs : List Done) (w : State) (e : Desk) → Runs s d xs w e
-    → venue.Runs s (venue_log xs) w
-venue_runs s d [] w e (a, b) = a
-venue_runs s d (done.Venue v ∷ xs) w e (u, f, (m, g), h, k, l, t, r) = (u, m, k, venue_runs u f xs w e r)
-venue_runs s d (done.Up ∷ xs) w e (u, f, (m, g), h, k, l, t, r) =
-    subst (λ y. venue.Runs y (venue_log xs) w) m (venue_runs u f xs w e r)
-venue_runs s d (done.Lost ∷ xs) w e (u, f, (m, g), h, k, l, t, r) =
-    subst (λ y. venue.Runs y (venue_log xs) w) m (venue_runs u f xs w e r)
-venue_runs s d (done.Live bs o ∷ xs) w e (u, f, (m, a, g), h, k, l, t, r) =
-    subst (λ y. venue.Runs y (venue_log xs) w) m (venue_runs u f xs w e r)
-venue_runs s d (done.Recovered bs o ∷ xs) w e (u, f, (m, a, g), h, k, l, t, r) =
-    subst (λ y. venue.Runs y (venue_log xs) w) m (venue_runs u f xs w e r)
-venue_runs s d (done.Ask n o ∷ xs) w e (u, f, (m, a, b, g), h, k, l, t, r) =
-    subst (λ y. venue.Runs y (venue_log xs) w) m (venue_runs u f xs w e r)
+-- the gateway's calls, and those of one call more
+module _ {M : Type 0} (did : M → Asked → M → Type 0) (a : Over State M) (xs : List Done) (x y : Over State M)
+    (asked : venue.Runs did a (venue_log xs) x) where
+  onto : (d : Done) → venue.Runs did a (venue_log xs ++ venue_log (d ∷ [])) y
+      → venue.Runs did a (venue_log (xs ++ d ∷ [])) y
+  onto d r = subst (λ l. venue.Runs did a l y) (sym (filter_map-append venue_call xs (d ∷ []))) r
 
-pub all_conserved : (s : State) (d : Desk) (xs : List Done) (w : State) (e : Desk) → s.venue.rows ≡ []
-    → Runs s d xs w e → Conserves s (venue_log xs) w
-all_conserved s d xs w e n r = conserved s (venue_log xs) w n (venue_runs s d xs w e r)
+  stays : y ≡ x → venue.Runs did a (venue_log xs ++ []) y
+  stays e =
+      subst (λ l. venue.Runs did a l y) (sym (append-nil (venue_log xs)))
+      (subst (venue.Runs did a (venue_log xs)) (sym e) asked)
+
+  pub asked_more : (d : Done) → Sided did x d y → Sound y.state.venue → venue.Runs did a (venue_log (xs ++ d ∷ [])) y
+  asked_more (done.Venue v) k sound = onto (done.Venue v) (venue_more did a (venue_log xs) x v y asked k sound)
+  asked_more d k sound = onto d (stays k)

@@ -34,7 +34,7 @@ use Rattle.sessions.specs.declared.download.Download.{Download}
 use Rattle.sessions.specs.Sessions.{Sound as SoundSession}
 use Rattle.sessions.specs.declared.session.SessionState.{SessionState}
 use Rattle.store.specs.Kept.{Kept}
-use Rattle.venue.specs.View.{Sound}
+use Rattle.venue.specs.Books.{Sound}
 
 -- ---- one partition of a follower
 

@@ -30,7 +30,7 @@ use Rattle.reports.specs.declared.standings.FoldRefusal.{FoldRefusal}
 use Rattle.sessions.specs.declared.session.SessionState.{SessionState}
 use Rattle.std.specs.FinMap.{get}
 use Rattle.store.specs.Kept.{Kept}
-use Rattle.venue.specs.View.{View, Sound}
+use Rattle.venue.specs.Books.{Books, Sound}
 
 -- the number of the last report that was folded in a partition
 abbrev pub place_in : Following → Partition → ℕ
@@ -47,7 +47,7 @@ to_place f p n = record (at f.sides p) { place = n }
 abbrev pub after_fold : Following → Partition → ℕ → Knowledge → Following
 after_fold f p n k = record f { standings = k; sides = with_at f.sides p (to_place f p n) }
 
-module _ (c : ℕ) (v : View) (sound : Sound v) (few : length v.rows ≤ ORDERS) where
+module _ (c : ℕ) (v : Books) (sound : Sound v) (few : length v.rows ≤ ORDERS) where
   -- the owner's next report of a partition is folded, and the place moves to it
   tallied_on : (k : Knowledge) (place place' : Partition → ℕ) (p : Partition) (n : ℕ) (e : Entry)
       (h : Folded c v.kept k place p n e) → place' p ≡ n → ((q : Partition) → p ≢ q → place' q ≡ place q)
@@ -268,7 +268,7 @@ moved_other pl Three n One ne = refl
 moved_other pl Three n Two ne = refl
 moved_other pl Three n Three ne = absurd (ne refl)
 
-module _ (c : ℕ) (v : View) (sound : Sound v) (few : length v.rows ≤ ORDERS) where
+module _ (c : ℕ) (v : Books) (sound : Sound v) (few : length v.rows ≤ ORDERS) where
   -- what is known and the place once held reports are folded in their order: none is refused
   pub record Reaches (w : Knowledge) (pl : Partition → ℕ) (p : Partition) (hs : List Held) (y : ℕ) : Type 0 where
     pub after : Reached

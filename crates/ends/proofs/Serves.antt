@@ -51,7 +51,7 @@ use Rattle.sessions.specs.declared.download.Download.{Download}
 use Rattle.sessions.specs.declared.download.Recovered.{Recovered}
 use Rattle.sessions.specs.declared.download.Recovered.TheVariants as handed
 use Rattle.store.specs.Kept.{Kept}
-use Rattle.venue.specs.View.{Sound}
+use Rattle.venue.specs.Books.{Sound}
 use Rattle.wire.specs.Messages.{Reads}
 use Rattle.wire.specs.declared.kinds.Channel.TheVariants as reader
 use Rattle.wire.specs.declared.message.Message.TheVariants as message

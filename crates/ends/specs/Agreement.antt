@@ -25,7 +25,7 @@ use Rattle.layout.specs.declared.fault.Fault.{Fault}
 use Rattle.partitions.specs.PerPartition.{at}
 use Rattle.reports.specs.Tally.{is_of}
 use Rattle.venue.specs.Ledger.{standing}
-use Rattle.venue.specs.View.{View, open_of}
+use Rattle.venue.specs.Books.{Books, open_of}
 
 -- the last number that a follower folded in a partition
 abbrev pub place : Desk → Partition → ℕ
@@ -101,6 +101,6 @@ IsComplete x = ⊥
 -- partition is level behind it
 abbrev pub DownloadsLevel : Type 0
 DownloadsLevel =
-    (c : ℕ) (ps : List Participant) (v : View) (xs : List Done) (s : State) (d : Desk) (x : Done) (w : State) (e : Desk)
+    (c : ℕ) (ps : List Participant) (v : Books) (xs : List Done) (s : State) (d : Desk) (x : Done) (w : State) (e : Desk)
     (p : Partition) → Runs (fresh_state ps v) fresh xs s d → Allowed c (xs ++ x ∷ []) → Does s d x w e → IsComplete x
     → d.follower.up ≡ true → d.follower.download ≡ Running p → state_of e p ≡ Level

@@ -16,8 +16,9 @@ use Rattle.gateway.specs.State.{State}
 use Rattle.limits.specs.declared.TheConstants.{ORDERS}
 use Rattle.line.specs.Runs as venue
 use Rattle.call.specs.declared.venue_side.Done.{Done as VenueDone}
+use Rattle.matching.specs.Asked.{Asked}
 use Rattle.partitions.specs.PerPartition.{at}
-use Rattle.venue.specs.View.{Sound}
+use Rattle.venue.specs.Books.{Over, Sound}
 
 -- the call that was made
 abbrev pub call_of : Done → Call
@@ -46,7 +47,7 @@ moved d f = record { follower = f; token = token_after d.follower f d.token }
 
 -- one call: its end moves as its contract has it, and the other stays
 abbrev pub Does : State → Desk → Done → State → Desk → Type 0
-Does s d (done.Venue v) w e = venue.Does s v w × (e ≡ d)
+Does s d (done.Venue v) w e = venue.Turns s v w × (e ≡ d)
 Does s d done.Up w e = (w ≡ s) × (e ≡ moved d (turned true d.follower))
 Does s d done.Lost w e = (w ≡ s) × (e ≡ moved d (turned false d.follower))
 Does s d (done.Live bs r) w e =
@@ -58,6 +59,11 @@ Does s d (done.Recovered bs r) w e =
 Does s d (done.Ask n r) w e =
     let step = asks d.follower d.token n blank in
     (w ≡ s) × (r.answer ≡ step.answer) × (r.buffer ≡ step.out) × (e ≡ moved d step.after)
+
+-- the gateway as it is: a call of its own is done to it, and every other leaves it as it was
+abbrev pub Sided : {M : Type 0} → (M → Asked → M → Type 0) → Over State M → Done → Over State M → Type 0
+Sided did x (done.Venue v) y = venue.Does did x v y
+Sided did x d y = y ≡ x
 
 -- what is read at the other end: by a follower from what a gateway's call hands out, and by a gateway from a request
 abbrev pub Tells : State → Desk → Done → Type 0

@@ -1,11 +1,12 @@
 // Any list of calls on a gateway and a follower, each made in turn.
 ghost use Rattle.std.specs.Prelude.{◌≡◌, map, IfOk};
-ghost use Rattle.ends.specs.Runs.{Does, Runs, Tells, call_of, fresh, venue_log};
+ghost use Rattle.ends.specs.Runs.{Does, Runs, Sided, Tells, call_of, fresh, venue_log};
 ghost use Rattle.ends.specs.Agreement.{EndsAgree};
 ghost use Rattle.line.specs.Conservation.{Conserves};
+ghost use Rattle.line.specs.Runs.{Runs as VenueRuns};
 ghost use Rattle.follower.specs.Owing.{Tied};
 ghost use Rattle.gateway.specs.State.{fresh as fresh_state};
-ghost use Rattle.venue.specs.View.{fresh as fresh_venue};
+ghost use Rattle.venue.specs.Books.{fresh as fresh_books};
 
 use call::both_ends::{Asked, Call, Done};
 use configuration::config::{Config, StartRefusal};
@@ -27,9 +28,10 @@ fn make<'a, M: Matcher, S: Store>(
 ) -> (Done<'a>, Pending)
     requires { Tied token follower.old }
     ensures call { call_of result.0 ≡ call.entry }
-    ensures does { Does gateway.old (record { follower = follower.old; token = token }) result.0
-        gateway.new (record { follower = follower.new; token = result.1 }) }
-    ensures told { Tells gateway.old (record { follower = follower.old; token = token }) result.0 }
+    ensures does { Does gateway.old.state (record { follower = follower.old; token = token }) result.0
+        gateway.new.state (record { follower = follower.new; token = result.1 }) }
+    ensures sided { Sided M.Did gateway.old result.0 gateway.new }
+    ensures told { Tells gateway.old.state (record { follower = follower.old; token = token }) result.0 }
     ensures tie { Tied result.1 follower.new }
 {
     match call {
@@ -61,11 +63,12 @@ pub struct Day<'a, M: Matcher, S: Store> {
 }
 
 /// Starts both ends, makes each call in turn, and gives both back with the log: the calls that were asked for, each
-/// with what came back. Whatever the calls are: of every order the quantity last accepted is what is executed, open and
-/// withdrawn of it and what was undone since. And if the line of the follower's CompID allows the log, both ends agree:
-/// no report was lost unnoticed or counted twice, none was refused by the fold, and where the follower says level and
-/// was given every report, both ends show the same orders. Refused as a start is; then no call was made, and matcher
-/// and store are given back.
+/// with what came back. Whatever the calls are: the matcher was asked exactly what the acts of these calls ask, in their
+/// order, and nothing else; and of every order the quantity last accepted is what is executed, open and withdrawn of it
+/// and what was undone since. And if the line of the follower's CompID allows the log, both ends agree: no report was
+/// lost unnoticed or counted twice, none was refused by the fold, and where the follower says level and was given every
+/// report, both ends show the same orders. Refused as a start is; then no call was made, and matcher and store are given
+/// back.
 pub fn run<'a, M: Matcher, S: Store>(
     alloc: Global,
     config: Config,
@@ -75,13 +78,17 @@ pub fn run<'a, M: Matcher, S: Store>(
 ) -> Result<Day<'a, M, S>, (StartRefusal, M, S)>
     ensures calls { IfOk result (λ d. map call_of d.log.items ≡ calls.now) }
     ensures runs { IfOk result (λ d. Runs (fresh_state config.participants.items
-        (fresh_venue config.instruments.items (M.meaning matcher) (M.next matcher) (S.free store))) fresh d.log.items
-        d.gateway (record { follower = d.follower; token = d.token })) }
+        (fresh_books config.instruments.items (M.meaning matcher))) fresh d.log.items
+        d.gateway.state (record { follower = d.follower; token = d.token })) }
+    ensures asked { IfOk result (λ d. VenueRuns M.Did (record {
+      state = fresh_state config.participants.items (fresh_books config.instruments.items (M.meaning matcher));
+      engine = matcher;
+      free = S.free store;
+    }) (venue_log d.log.items) d.gateway) }
     ensures conserved { IfOk result (λ d. Conserves
-        (fresh_state config.participants.items
-        (fresh_venue config.instruments.items (M.meaning matcher) (M.next matcher) (S.free store)))
-        (venue_log d.log.items) d.gateway) }
-    ensures agreed { IfOk result (λ d. EndsAgree d.log.items d.gateway
+        (fresh_state config.participants.items (fresh_books config.instruments.items (M.meaning matcher)))
+        (venue_log d.log.items) d.gateway.state) }
+    ensures agreed { IfOk result (λ d. EndsAgree d.log.items d.gateway.state
         (record { follower = d.follower; token = d.token })) }
 {
     let Ok(mut log) = Vec::with_capacity(alloc, calls.len()) else {

@@ -1,3 +1,2 @@
-pub mod Ends
 pub mod Stored
 pub mod Requested

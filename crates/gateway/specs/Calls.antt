@@ -1,12 +1,12 @@
 -- The calls beside the two that take messages. Assumes nothing.
-use Rattle.std.specs.Prelude.{◌≡◌, ℕ, List, [], length, Some, None, Ok, Err, Option, Result, nat_lt, if◌then◌else◌}
+use Rattle.std.specs.Prelude.{◌≡◌, ℕ, List, [], ◌∷◌, length, Some, None, Ok, Err, Option, Result, nat_lt, if◌then◌else◌}
 use Rattle.std.specs.Option.{option_map_or, option_or}
 use Rattle.answers.specs.Bytes.{end_bytes}
 use Rattle.report_messages.specs.Telling.{report_bytes}
 use Rattle.codes.specs.declared.session.Partition.{Partition}
 use Rattle.gateway.specs.Hearing.{call_fault, line_fault, fronted}
-use Rattle.gateway.specs.Lines.{ended, line_closed}
-use Rattle.gateway.specs.State.{State, session, with_session, with_venue, Follows}
+use Rattle.gateway.specs.Lines.{ends_of, line_closed}
+use Rattle.gateway.specs.State.{State, session, with_session}
 use Rattle.gateway.specs.declared.fault.GatewayFault.{GatewayFault}
 use Rattle.gateway.specs.declared.fault.GatewayFault.TheVariants.{Session, NoPlace, TradesFull, NoSuchTrade, AlreadyCancelled}
 use Rattle.gateway.specs.declared.fault.SessionFault.TheVariants.{NotLoggedOn}
@@ -17,7 +17,6 @@ use Rattle.orders.specs.declared.trade.TradeRefusal.{TradeRefusal}
 use Rattle.orders.specs.declared.trade.TradeRefusal.TheVariants.{Unknown, DoneBefore}
 use Rattle.partitions.specs.PerPartition.{at}
 use Rattle.reports.specs.declared.report.Entry.{Entry}
-use Rattle.requests.specs.Outcomes.{spare}
 use Rattle.sessions.specs.Downloads.{recovered}
 use Rattle.sessions.specs.Sending.{next_to_send, sent_after}
 use Rattle.sessions.specs.Sessions.{on, with_download, with_sent}
@@ -27,19 +26,26 @@ use Rattle.sessions.specs.declared.session.Channel.{Channel}
 use Rattle.sessions.specs.declared.session.Channel.TheVariants.{RealTime, Recovery}
 use Rattle.store.specs.Kept.{Kept}
 use Rattle.texts.specs.declared.values.Time.{Time}
-use Rattle.venue.specs.Trading.{Stepped, undone_to}
-use Rattle.venue.specs.View.{View}
+use Rattle.matching.specs.Meaning.{Allowed}
+use Rattle.matching.specs.declared.event.Event.{Event}
+use Rattle.venue.specs.Acts.{Act, Take, Void, step_of}
+use Rattle.venue.specs.Books.{Books}
 use Rattle.venue.specs.declared.step.Step.{Step}
+
+-- in all of these, `goes u acts` says that the state is u and that these acts are then done; `spare` places are spare
 
 -- ---- an event of the matcher
 
-abbrev pub step_fault : View → Option GatewayFault
-step_fault v =
-    if nat_lt (length v.trades) TRADES then (if nat_lt (spare v) 2 then Some NoPlace else None) else Some TradesFull
+abbrev pub step_fault : ℕ → Books → Option GatewayFault
+step_fault spare b =
+    if nat_lt (length b.trades) TRADES then (if nat_lt spare 2 then Some NoPlace else None) else Some TradesFull
 
-abbrev pub Steps : Time → State → Result Step GatewayFault → State → Type 0
-Steps t s (Ok e) w = (step_fault s.venue ≡ None) × Stepped t s.venue e w.venue × (w ≡ with_venue s w.venue)
-Steps t s (Err f) w = (step_fault s.venue ≡ Some f) × (w ≡ s)
+-- one of the events that may come comes, and is answered
+abbrev pub Steps : (State → List Act → Type 0) → ℕ → State → Result Step GatewayFault → Type 0
+Steps goes spare s (Ok r) =
+    (step_fault spare s.venue ≡ None)
+    × (e : Event) × Allowed s.venue.market.orders e × (r ≡ step_of e s.venue) × goes s (Take e ∷ [])
+Steps goes spare s (Err f) = (step_fault spare s.venue ≡ Some f) × goes s []
 
 -- ---- a trade cancelled
 
@@ -47,16 +53,16 @@ abbrev pub of_trade : TradeRefusal → GatewayFault
 of_trade Unknown = NoSuchTrade
 of_trade DoneBefore = AlreadyCancelled
 
-abbrev pub undo_fault_by : Option TradeRefusal → View → Option GatewayFault
-undo_fault_by (Some e) v = Some (of_trade e)
-undo_fault_by None v = if nat_lt (spare v) 4 then Some NoPlace else None
+abbrev pub undo_fault_by : Option TradeRefusal → ℕ → Option GatewayFault
+undo_fault_by (Some e) spare = Some (of_trade e)
+undo_fault_by None spare = if nat_lt spare 4 then Some NoPlace else None
 
-abbrev pub undo_fault : ℕ → View → Option GatewayFault
-undo_fault n v = undo_fault_by (void_fault (under v.trades n)) v
+abbrev pub undo_fault : ℕ → ℕ → Books → Option GatewayFault
+undo_fault n spare b = undo_fault_by (void_fault (under b.trades n)) spare
 
-abbrev pub Undoes : ℕ → Time → State → Result (Unit {0}) GatewayFault → State → Type 0
-Undoes n t s (Ok u) w = (undo_fault n s.venue ≡ None) × Follows 4 (with_venue s (undone_to t n s.venue)) w
-Undoes n t s (Err f) w = (undo_fault n s.venue ≡ Some f) × (w ≡ s)
+abbrev pub Undoes : (State → List Act → Type 0) → ℕ → ℕ → State → Result (Unit {0}) GatewayFault → Type 0
+Undoes goes n spare s (Ok u) = (undo_fault n spare s.venue ≡ None) × goes s (Void n ∷ [])
+Undoes goes n spare s (Err f) = (undo_fault n spare s.venue ≡ Some f) × goes s []
 
 -- ---- a lost line
 
@@ -67,11 +73,9 @@ on_fault ch line s = if on ch (session s line) then None else Some (Session NotL
 abbrev pub lost_fault : ℕ → State → Option GatewayFault
 lost_fault line s = option_or (line_fault line s) (on_fault RealTime line s)
 
-abbrev pub Loses : ℕ → Time → State → Result (Unit {0}) GatewayFault → State → Type 0
-Loses line t s (Ok u) w =
-    let after = line_closed line t s in
-    (lost_fault line s ≡ None) × Follows (ended s.venue after.venue) after w
-Loses line t s (Err f) w = (lost_fault line s ≡ Some f) × (w ≡ s)
+abbrev pub Loses : (State → List Act → Type 0) → ℕ → State → Result (Unit {0}) GatewayFault → Type 0
+Loses goes line s (Ok u) = (lost_fault line s ≡ None) × goes (line_closed line s) (ends_of line s)
+Loses goes line s (Err f) = (lost_fault line s ≡ Some f) × goes s []
 
 -- ---- what is sent
 
@@ -118,14 +122,16 @@ recovery_handed line s =
       after = with_session s line (with_download x next.1);
     }
 
-abbrev pub Hands : Option GatewayFault → Handed → State → List ℕ → Result ℕ GatewayFault → State → List ℕ → Type 0
-Hands (Some f) h s buffer r w after = (r ≡ Err f) × (w ≡ s) × (after ≡ buffer)
-Hands None h s buffer r w after = (r ≡ Ok (length h.bytes)) × (w ≡ h.after) × (after ≡ fronted h.bytes buffer)
+abbrev pub Hands : (State → List Act → Type 0) → Option GatewayFault → Handed → State → List ℕ
+    → Result ℕ GatewayFault → List ℕ → Type 0
+Hands goes (Some f) h s buffer r after = (r ≡ Err f) × goes s [] × (after ≡ buffer)
+Hands goes None h s buffer r after =
+    (r ≡ Ok (length h.bytes)) × goes h.after [] × (after ≡ fronted h.bytes buffer)
 
-abbrev pub Sends : ℕ → State → List ℕ → Result ℕ GatewayFault → State → List ℕ → Type 0
-Sends line s buffer r w after =
-    Hands (send_fault RealTime (length buffer) line s) (live_handed line s) s buffer r w after
+abbrev pub Sends : (State → List Act → Type 0) → ℕ → State → List ℕ → Result ℕ GatewayFault → List ℕ → Type 0
+Sends goes line s buffer r after =
+    Hands goes (send_fault RealTime (length buffer) line s) (live_handed line s) s buffer r after
 
-abbrev pub Recovers : ℕ → State → List ℕ → Result ℕ GatewayFault → State → List ℕ → Type 0
-Recovers line s buffer r w after =
-    Hands (send_fault Recovery (length buffer) line s) (recovery_handed line s) s buffer r w after
+abbrev pub Recovers : (State → List Act → Type 0) → ℕ → State → List ℕ → Result ℕ GatewayFault → List ℕ → Type 0
+Recovers goes line s buffer r after =
+    Hands goes (send_fault Recovery (length buffer) line s) (recovery_handed line s) s buffer r after

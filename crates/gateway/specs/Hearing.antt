@@ -1,5 +1,5 @@
 -- What a message gets, and what it leaves. Assumes nothing.
-use Rattle.std.specs.Prelude.{◌≡◌, ℕ, List, ◌++◌, length, drop, ℤ, pos, negsuc, slice_get, slice_index_or, Some, None, Ok, Err, Option, Result, nat_lt, ◌==◌, if◌then◌else◌}
+use Rattle.std.specs.Prelude.{◌≡◌, ℕ, List, [], ◌++◌, length, drop, ℤ, pos, negsuc, slice_get, slice_index_or, Some, None, Ok, Err, Option, Result, nat_lt, ◌==◌, if◌then◌else◌}
 use Rattle.std.specs.Option.{option_map_or}
 use Rattle.answers.specs.Bytes.{answer_bytes}
 use Rattle.answers.specs.declared.answer.Answer.{Answer}
@@ -11,8 +11,9 @@ use Rattle.codes.specs.declared.session.AckResponse.{AckResponse}
 use Rattle.codes.specs.declared.session.Partition.{Partition}
 use Rattle.codes.specs.declared.session.Partition.TheVariants.{One, Two, Three}
 use Rattle.configuration.specs.declared.participant.Participant.{Participant}
-use Rattle.gateway.specs.Lines.{ended, logon, line_closed}
-use Rattle.gateway.specs.State.{State, session, with_session, with_venue, Follows}
+use Rattle.gateway.specs.Doing.{Comes, Outcome}
+use Rattle.gateway.specs.Lines.{ends_of, logon, line_closed}
+use Rattle.gateway.specs.State.{State, session, with_session}
 use Rattle.gateway.specs.declared.fault.GatewayFault.{GatewayFault}
 use Rattle.gateway.specs.declared.fault.GatewayFault.TheVariants.{ShortBuffer, NoSuchLine, Session}
 use Rattle.gateway.specs.declared.fault.SessionFault.{SessionFault}
@@ -25,8 +26,7 @@ use Rattle.texts.specs.Says.{kept}
 use Rattle.requests.specs.Cancels.{cancel}
 use Rattle.requests.specs.MassCancels.{mass_cancel}
 use Rattle.requests.specs.NewOrders.{new_order}
-use Rattle.requests.specs.Outcomes.{Outcome as Requested}
-use Rattle.requests.specs.Outcomes.Outcome.{Refused, Done}
+use Rattle.requests.specs.Deciding.{Decision}
 use Rattle.requests.specs.Replaces.{replace}
 use Rattle.refusals.specs.declared.Turned.{Turned}
 use Rattle.sessions.specs.Sessions.{on, requested, recovery_closed}
@@ -37,6 +37,9 @@ use Rattle.sessions.specs.declared.session.SessionState.{SessionState}
 use Rattle.store.specs.Kept.{Kept}
 use Rattle.texts.specs.declared.fixed.FixedText.{FixedText}
 use Rattle.texts.specs.declared.values.Time.{Time}
+use Rattle.matching.specs.Asked.{Asked}
+use Rattle.venue.specs.Acts.{Act}
+use Rattle.venue.specs.Books.{Over}
 use Rattle.wire.specs.Kinds.{letter_of}
 use Rattle.wire.specs.Messages.{kind_of, verdict, Reads}
 use Rattle.wire.specs.declared.kinds.Channel.{Channel as Reader}
@@ -44,16 +47,14 @@ use Rattle.wire.specs.declared.kinds.Channel.TheVariants as reader
 use Rattle.wire.specs.declared.message.Message.{Message}
 use Rattle.wire.specs.declared.message.Message.TheVariants as message
 
--- an answer, with which no report is appended; or no answer, and at most so many reports
-pub data Outcome : Type 0 where
-  Answered : Answer → State → Outcome
-  Reported : ℕ → State → Outcome
+abbrev pub answered : Answer × State → Outcome
+answered (a, s) = record { answer = a; changed = s; acts = [] }
 
 abbrev pub silently : State → Outcome
-silently s = Answered Silent s
+silently s = answered (Silent, s)
 
-abbrev pub answered : Answer × State → Outcome
-answered (a, s) = Answered a s
+abbrev pub doing : List Act → State → Outcome
+doing acts s = record { answer = Silent; changed = s; acts = acts }
 
 -- ---- a message that is turned down
 
@@ -94,8 +95,8 @@ last_of k o = option_map_or (λ p. length (at k p)) o 0
 
 -- what the session makes of a Missed Message Request
 abbrev pub missed_by : Result (SessionState × AckResponse) RequestRefusal → ℕ → MissedMessageRequest → State → Outcome
-missed_by (Err e) line m s = Answered (rejection (reason.Request e) (message.MissedMessageRequest m)) s
-missed_by (Ok (x, r)) line m s = Answered (Ack r) (with_session s line x)
+missed_by (Err e) line m s = answered (rejection (reason.Request e) (message.MissedMessageRequest m), s)
+missed_by (Ok (x, r)) line m s = answered (Ack r, with_session s line x)
 
 abbrev pub missed : ℕ → MissedMessageRequest → State → Outcome
 missed line m s =
@@ -112,17 +113,15 @@ abbrev pub answer_for : Message → Result (Unit {0}) Turned → Answer
 answer_for m (Ok u) = Silent
 answer_for m (Err t) = rejection (reason.Turned t) m
 
--- what the orders make of a request
-abbrev pub requested_as : Message → State → Requested → Outcome
-requested_as m s (Refused t) = Answered (rejection (reason.Turned t) m) s
-requested_as m s (Done most v) = Reported most (with_venue s v)
+-- what was decided of a request
+abbrev pub requested_as : Message → State → Decision → Outcome
+requested_as m s (Err t) = answered (rejection (reason.Turned t) m, s)
+requested_as m s (Ok acts) = doing acts s
 
--- a Logout; the line's marked orders are withdrawn with a real-time one
-abbrev pub logout : Channel → ℕ → Time → State → Outcome
-logout RealTime line t s =
-    let after = line_closed line t s in
-    Reported (ended s.venue after.venue) after
-logout Recovery line t s = silently (with_session s line (recovery_closed (session s line)))
+-- a Logout; the line's marked orders expire with a real-time one
+abbrev pub logout : Channel → ℕ → State → Outcome
+logout RealTime line s = doing (ends_of line s) (line_closed line s)
+logout Recovery line s = silently (with_session s line (recovery_closed (session s line)))
 
 -- the firm of a line's CompID
 abbrev pub firm_of : Option Participant → ℕ
@@ -131,28 +130,33 @@ firm_of o = option_map_or (λ p. p.firm) o 0
 abbrev pub firm : State → ℕ → ℕ
 firm s line = firm_of (slice_get s.participants line)
 
-abbrev pub taken : Channel → ℕ → Message → Time → State → Outcome
-taken ch line (message.NewOrder m) t s = requested_as (message.NewOrder m) s (new_order line m t s.venue)
-taken ch line (message.OrderCancelRequest m) t s =
-    requested_as (message.OrderCancelRequest m) s (cancel line m t s.venue)
-taken ch line (message.OrderCancelReplaceRequest m) t s =
-    requested_as (message.OrderCancelReplaceRequest m) s (replace line m t s.venue)
-taken ch line (message.OrderMassCancelRequest m) t s =
-    requested_as (message.OrderMassCancelRequest m) s (mass_cancel s.participants (firm s line) line m t s.venue)
-taken ch line (message.MissedMessageRequest m) t s = missed_on ch line m s
-taken ch line (message.Logout m) t s = logout ch line t s
-taken ch line m t s = silently s
+-- with so many spare places
+abbrev pub taken : Channel → ℕ → Message → Time → ℕ → State → Outcome
+taken ch line (message.NewOrder m) t spare s =
+    requested_as (message.NewOrder m) s (new_order line m t s.venue spare)
+taken ch line (message.OrderCancelRequest m) t spare s =
+    requested_as (message.OrderCancelRequest m) s (cancel line m t s.venue spare)
+taken ch line (message.OrderCancelReplaceRequest m) t spare s =
+    requested_as (message.OrderCancelReplaceRequest m) s (replace line m t s.venue spare)
+taken ch line (message.OrderMassCancelRequest m) t spare s =
+    requested_as (message.OrderMassCancelRequest m) s
+    (mass_cancel s.participants (firm s line) line m t s.venue spare)
+taken ch line (message.MissedMessageRequest m) t spare s = missed_on ch line m s
+taken ch line (message.Logout m) t spare s = logout ch line s
+taken ch line m t spare s = silently s
 
 -- any message: only a Logon is taken before a Logon
-abbrev pub outcome_of : Channel → ℕ → Message → Time → State → Outcome
-outcome_of ch line (message.Logon m) t s = answered (logon ch line m s)
-outcome_of ch line m t s =
-    if on ch (session s line) then taken ch line m t s else Answered (rejection reason.NotLoggedOn m) s
+abbrev pub outcome_of : Channel → ℕ → Message → Time → ℕ → State → Outcome
+outcome_of ch line (message.Logon m) t spare s = answered (logon ch line m s)
+outcome_of ch line m t spare s =
+    if on ch (session s line)
+    then taken ch line m t spare s
+    else answered (rejection reason.NotLoggedOn m, s)
 
--- what a caller inside is told: the answer, and the state after it
-abbrev pub Took : Outcome → Answer → State → Type 0
-Took (Answered a u) r w = (r ≡ a) × (w ≡ u)
-Took (Reported most u) r w = (r ≡ Silent) × Follows most u w
+-- what a caller inside is told, and what is done
+abbrev pub Took : {M : Type 0} → (M → Asked → M → Type 0) → Time → Outcome → Over State M → Answer → Over State M
+    → Type 0
+Took did t o x r y = (r ≡ o.answer) × Comes did t x y o.changed o.acts
 
 -- ---- the call
 
@@ -179,25 +183,35 @@ Understands ch bs buffer (Err NotLoggedOn) after = ⊥
 Understands ch bs buffer (Err (Wire f)) after =
     (verdict (reader_of ch) bs ≡ Some f) × (after ≡ fronted (answer_bytes (fault_rejection f bs)) buffer)
 
--- what the call answers, the state after it, and the buffer after it
-abbrev pub Settled : Outcome → List ℕ → Result ℕ GatewayFault → State → List ℕ → Type 0
-Settled (Answered a u) buffer r w after =
-    (r ≡ Ok (length (answer_bytes a))) × (w ≡ u) × (after ≡ fronted (answer_bytes a) buffer)
-Settled (Reported most u) buffer r w after = (r ≡ Ok 0) × Follows most u w × (after ≡ buffer)
+-- what was given, where, with which buffer for the answer, and how many places are spare
+pub record Given : Type 0 where
+  pub channel : Channel
+  pub line : ℕ
+  pub bytes : List ℕ
+  pub time : Time
+  pub buffer : List ℕ
+  pub spare : ℕ
 
-abbrev pub Read : Option Fault → Channel → ℕ → List ℕ → Time → State → List ℕ
-    → Result ℕ GatewayFault → State → List ℕ → Type 0
-Read (Some f) ch line bs t s buffer r w after =
-    (r ≡ Err (Session (Wire f))) × (w ≡ s) × (after ≡ fronted (answer_bytes (fault_rejection f bs)) buffer)
-Read None ch line bs t s buffer r w after =
-    (m : Message) × Reads (reader_of ch) bs m × Settled (outcome_of ch line m t s) buffer r w after
+-- below, `goes u acts` says that the state is u and that these acts are then done
 
-abbrev pub Given : Option GatewayFault → Channel → ℕ → List ℕ → Time → State → List ℕ
-    → Result ℕ GatewayFault → State → List ℕ → Type 0
-Given (Some e) ch line bs t s buffer r w after = (r ≡ Err e) × (w ≡ s) × (after ≡ buffer)
-Given None ch line bs t s buffer r w after = Read (verdict (reader_of ch) bs) ch line bs t s buffer r w after
+-- the answer stands at the front of the buffer
+abbrev pub Settled : (State → List Act → Type 0) → Outcome → List ℕ → Result ℕ GatewayFault → List ℕ → Type 0
+Settled goes o buffer r after =
+    (r ≡ Ok (length (answer_bytes o.answer))) × goes o.changed o.acts
+    × (after ≡ fronted (answer_bytes o.answer) buffer)
 
--- a message given on a channel of a line: the checks, the answer, the state and the buffer after it
-abbrev pub Hears : Channel → ℕ → List ℕ → Time → State → List ℕ → Result ℕ GatewayFault → State → List ℕ → Type 0
-Hears ch line bs t s buffer r w after =
-    Given (call_fault (length buffer) line s) ch line bs t s buffer r w after
+abbrev pub Read : (State → List Act → Type 0) → Option Fault → Given → State → Result ℕ GatewayFault → List ℕ → Type 0
+Read goes (Some f) g s r after =
+    (r ≡ Err (Session (Wire f))) × goes s [] × (after ≡ fronted (answer_bytes (fault_rejection f g.bytes)) g.buffer)
+Read goes None g s r after =
+    (m : Message) × Reads (reader_of g.channel) g.bytes m
+    × Settled goes (outcome_of g.channel g.line m g.time g.spare s) g.buffer r after
+
+abbrev pub Checked : (State → List Act → Type 0) → Option GatewayFault → Given → State → Result ℕ GatewayFault → List ℕ
+    → Type 0
+Checked goes (Some e) g s r after = (r ≡ Err e) × goes s [] × (after ≡ g.buffer)
+Checked goes None g s r after = Read goes (verdict (reader_of g.channel) g.bytes) g s r after
+
+-- a message given on a channel of a line: the checks, the answer, what is done and the buffer after it
+abbrev pub Hears : (State → List Act → Type 0) → Given → State → Result ℕ GatewayFault → List ℕ → Type 0
+Hears goes g s r after = Checked goes (call_fault (length g.buffer) g.line s) g s r after

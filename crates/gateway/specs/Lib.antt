@@ -1,5 +1,6 @@
 pub mod Faults
 pub mod State
+pub mod Doing
 pub mod Lines
 pub mod Hearing
 pub mod Calls

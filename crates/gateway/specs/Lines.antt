@@ -1,14 +1,13 @@
 -- What happens to a line. Assumes nothing.
-use Rattle.std.specs.Prelude.{ℕ, ◌-◌, Bool, ◌&&◌, length, slice_get, Ok, Err, Option, Result, ◌==◌, true, false}
+use Rattle.std.specs.Prelude.{ℕ, Bool, ◌&&◌, List, [], if◌then◌else◌, length, slice_get, Ok, Err, Option, Result, ◌==◌, true, false}
 use Rattle.std.specs.Str.{bytes_eq}
 use Rattle.std.specs.Option.{option_map_or}
 use Rattle.answers.specs.declared.answer.Admission.TheVariants.{Accepted, Refused}
 use Rattle.answers.specs.declared.answer.Answer.{Answer}
 use Rattle.answers.specs.declared.answer.Answer.TheVariants.{LogonReply}
 use Rattle.configuration.specs.declared.participant.Participant.{Participant}
-use Rattle.gateway.specs.State.{State, session, with_session, with_venue, lasts}
+use Rattle.gateway.specs.State.{State, session, with_session, lasts}
 use Rattle.session_messages.specs.declared.logon.Logon.{Logon}
-use Rattle.orders.specs.Tables.{open_count}
 use Rattle.orders.specs.declared.row.Row.{Row}
 use Rattle.sessions.specs.Sessions.{logged_on, closed}
 use Rattle.sessions.specs.declared.session.Channel.{Channel}
@@ -17,10 +16,9 @@ use Rattle.refusals.specs.declared.LogonRefusal.TheVariants.{BadCredentials}
 use Rattle.sessions.specs.declared.session.SessionState.{SessionState}
 use Rattle.texts.specs.Bytes.{said}
 use Rattle.texts.specs.Says.{says}
-use Rattle.texts.specs.declared.values.Time.{Time}
-use Rattle.venue.specs.Selection.{meant, withdrawn_all}
-use Rattle.venue.specs.View.{View}
-use Rattle.venue.specs.declared.selection.Cause.TheVariants.{LineLost}
+use Rattle.requests.specs.Selection.{anywhere, meant, of_line, withdrawals}
+use Rattle.requests.specs.declared.selection.Cause.TheVariants.{LineLost}
+use Rattle.venue.specs.Acts.{Act}
 
 -- CompID and password are the line's, and no other password is asked for
 abbrev pub is_known : Participant → Logon → Bool
@@ -43,22 +41,18 @@ logon ch line m s =
 
 -- an open order of a line that is marked to end with it
 abbrev pub ends_with : ℕ → Row → Bool
-ends_with line = meant (λ owner. owner == line) (λ r. true) true
+ends_with line = meant (of_line line) anywhere true
 
 -- the CompID's marked orders expire, if it is configured so
 abbrev pub ends_orders : Option Participant → Bool
 ends_orders o = option_map_or (λ p. p.ends_orders) o false
 
-abbrev pub without_marked : Bool → ℕ → Time → View → View
-without_marked true line t v = withdrawn_all (ends_with line) LineLost t v
-without_marked false line t v = v
-
--- how many orders end
-abbrev pub ended : View → View → ℕ
-ended v u = open_count v.rows - open_count u.rows
+abbrev pub ends_of : ℕ → State → List Act
+ends_of line s =
+    if ends_orders (slice_get s.participants line)
+    then withdrawals (ends_with line) LineLost s.venue.rows
+    else []
 
 -- both channels are closed
-abbrev pub line_closed : ℕ → Time → State → State
-line_closed line t s =
-    with_venue (with_session s line (closed (session s line)))
-    (without_marked (ends_orders (slice_get s.participants line)) line t s.venue)
+abbrev pub line_closed : ℕ → State → State
+line_closed line s = with_session s line (closed (session s line))

@@ -9,7 +9,7 @@ use Rattle.gateway.specs.State.{State, fresh}
 use Rattle.matching.specs.Meaning.{Meaning}
 use Rattle.partitions.specs.PerPartition.{at}
 use Rattle.store.specs.Kept.{Kept}
-use Rattle.venue.specs.View.{View}
+use Rattle.venue.specs.Books.{Books, Over}
 
 -- no order is open, and no report kept
 abbrev pub is_unused : Kept → Bool
@@ -19,9 +19,10 @@ abbrev pub is_new : Meaning → Kept → Bool
 is_new m k = len m.orders == 0 && is_unused k
 
 -- a new day over the matcher and the store, or both given back
-abbrev pub Starts : {M S : Type 0} → Bool → List Participant → View → M → S → Result State (StartRefusal × M × S)
-    → Type 0
-Starts new ps v m s (Ok g) = (new ≡ true) × (g ≡ fresh ps v)
+abbrev pub Starts : {M S : Type 0} → Bool → List Participant → Over Books M → M → S
+    → Result (Over State M) (StartRefusal × M × S) → Type 0
+Starts new ps v m s (Ok g) =
+    (new ≡ true) × (g ≡ record { state = fresh ps v.state; engine = v.engine; free = v.free })
 Starts new ps v m s (Err (NotEmpty, m', s')) = (new ≡ false) × (m' ≡ m) × (s' ≡ s)
 Starts new ps v m s (Err (NoMemory, m', s')) = (new ≡ true) × (m' ≡ m) × (s' ≡ s)
 Starts new ps v m s (Err (BadConfiguration, m', s')) = ⊥

@@ -7,15 +7,15 @@ use Rattle.partitions.specs.declared.per_partition.PerPartition.{PerPartition}
 use Rattle.sessions.specs.Sessions.{fresh as fresh_session}
 use Rattle.sessions.specs.declared.session.SessionState.{SessionState}
 use Rattle.store.specs.Kept.{Kept}
-use Rattle.venue.specs.Steps.{Leaves}
-use Rattle.venue.specs.View.{View}
+use Rattle.venue.specs.Books.{Books, Over}
 
+-- beside it stand the matcher as it is and how many places the store has free, as they do beside a venue's books
 pub record State : Type 0 where
   -- the CompIDs; each has the line of its place in the list
   pub participants : List Participant
   -- the session of each line
   pub lines : List SessionState
-  pub venue : View
+  pub venue : Books
 
 -- the session of a line
 abbrev pub session : State → ℕ → SessionState
@@ -24,17 +24,17 @@ session s line = slice_index_or s.lines line fresh_session
 abbrev pub with_session : State → ℕ → SessionState → State
 with_session s line x = record s { lines = slice_set s.lines line x }
 
-abbrev pub with_venue : State → View → State
+abbrev pub with_venue : State → Books → State
 with_venue s v = record s { venue = v }
+
+-- a gateway's venue
+abbrev pub venue_of : {M : Type 0} → Over State M → Over Books M
+venue_of x = record { state = x.state.venue; engine = x.engine; free = x.free }
 
 -- the last number of each partition
 abbrev pub lasts : Kept → PerPartition ℕ
 lasts k = record { one = length (at k One); two = length (at k Two); three = length (at k Three) }
 
 -- of a day that begins: nobody is logged on
-abbrev pub fresh : List Participant → View → State
+abbrev pub fresh : List Participant → Books → State
 fresh ps v = record { participants = ps; lines = replicate (length ps) fresh_session; venue = v }
-
--- w is u, but for what the matcher does next and for the free places, of which at most so many are used
-abbrev pub Follows : ℕ → State → State → Type 0
-Follows most u w = (w ≡ with_venue u w.venue) × Leaves most u.venue w.venue

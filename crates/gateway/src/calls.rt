@@ -3,8 +3,11 @@ ghost use Rattle.std.specs.Prelude.{◌≡◌, ◌<◌, ◌≤◌, length, Some}
 ghost use Rattle.wire.specs.declared.message.TheConstants.{BUFFER};
 ghost use Rattle.answers.specs.Sent.{Sent};
 ghost use Rattle.gateway.specs.Calls.{Steps, Undoes, Loses, Sends, Recovers, stored_bytes};
+ghost use Rattle.gateway.specs.Doing.{Comes, Stays};
 ghost use Rattle.gateway.specs.Hearing.{Hears};
+ghost use Rattle.gateway.specs.State.{venue_of};
 ghost use Rattle.gateway.specs.Telling.{RecoverTold, SendTold, StoredTold};
+ghost use Rattle.requests.specs.Deciding.{spare};
 ghost use Rattle.sessions.specs.declared.session.Channel.TheVariants.{RealTime, Recovery};
 
 use crate::fault::{GatewayFault, SessionFault};
@@ -33,7 +36,14 @@ impl<M: Matcher, S: Store> Gateway<M, S> {
         time: Time,
         reply: &mut [u8],
     ) -> Result<usize, GatewayFault>
-        ensures { Hears RealTime line message.now time self.old reply.old result self.new reply.new }
+        ensures { Hears (Comes M.Did time self.old self.new) (record {
+          channel = RealTime;
+          line = line;
+          bytes = message.now;
+          time = time;
+          buffer = reply.old;
+          spare = spare (venue_of self.old);
+        }) self.old.state result reply.new }
     {
         self.hear(Channel::RealTime, line, message, time, reply)
     }
@@ -46,7 +56,14 @@ impl<M: Matcher, S: Store> Gateway<M, S> {
         time: Time,
         reply: &mut [u8],
     ) -> Result<usize, GatewayFault>
-        ensures { Hears Recovery line message.now time self.old reply.old result self.new reply.new }
+        ensures { Hears (Comes M.Did time self.old self.new) (record {
+          channel = Recovery;
+          line = line;
+          bytes = message.now;
+          time = time;
+          buffer = reply.old;
+          spare = spare (venue_of self.old);
+        }) self.old.state result reply.new }
     {
         self.hear(Channel::Recovery, line, message, time, reply)
     }
@@ -54,7 +71,7 @@ impl<M: Matcher, S: Store> Gateway<M, S> {
     /// Takes one event of the matcher, and says what it was. Refused with 41 where there are 512 trades, and 29 where
     /// spare is under 2, tried in this order; then nothing changes.
     pub fn step(&mut self, time: Time) -> Result<Step, GatewayFault>
-        ensures { Steps time self.old result self.new }
+        ensures { Steps (Comes M.Did time self.old self.new) (spare (venue_of self.old)) self.old.state result }
     {
         if self.venue.trade_count() >= TRADES as u64 {
             return Err(GatewayFault::TradesFull);
@@ -68,7 +85,7 @@ impl<M: Matcher, S: Store> Gateway<M, S> {
     /// Cancels a trade, by its number. Refused with 42 where there is none, 43 where it was cancelled before, and 29
     /// where spare is under 4, tried in this order; then nothing changes.
     pub fn cancel_trade(&mut self, trade: u64, time: Time) -> Result<(), GatewayFault>
-        ensures { Undoes trade time self.old result self.new }
+        ensures { Undoes (Comes M.Did time self.old self.new) trade (spare (venue_of self.old)) self.old.state result }
     {
         match self.venue.trade(trade) {
             None => Err(GatewayFault::NoSuchTrade),
@@ -84,7 +101,7 @@ impl<M: Matcher, S: Store> Gateway<M, S> {
     /// Closes both channels of a line whose connection is gone; its marked orders expire, if it is configured so.
     /// Refused with 14 or 10.
     pub fn line_lost(&mut self, line: usize, time: Time) -> Result<(), GatewayFault>
-        ensures { Loses line time self.old result self.new }
+        ensures { Loses (Comes M.Did time self.old self.new) line self.old.state result }
     {
         self.check_line(line)?;
         self.check_on(Channel::RealTime, line)?;
@@ -95,8 +112,8 @@ impl<M: Matcher, S: Store> Gateway<M, S> {
     // Writes the report of a number to the front of the buffer.
     fn write_stored(&self, partition: Partition, number: u32, out: &mut [u8]) -> usize
         requires room { BUFFER ≤ length out.old }
-        ensures sent { Sent (stored_bytes self.now.venue.kept partition number) out.old out.new result }
-        ensures told { StoredTold self.now.venue.kept partition number }
+        ensures sent { Sent (stored_bytes self.now.state.venue.kept partition number) out.old out.new result }
+        ensures told { StoredTold self.now.state.venue.kept partition number }
     {
         match self.venue.store().read(partition, number) {
             Some(entry) => write_report(partition, number, entry.report, out),
@@ -107,8 +124,8 @@ impl<M: Matcher, S: Store> Gateway<M, S> {
     /// Hands out the next report of the line's CompID on its real-time channel: its bytes, at the front of `out`, and
     /// how many; 0 where there is none. Refused with 6, 14 or 10.
     pub fn send(&mut self, line: usize, out: &mut [u8]) -> Result<usize, GatewayFault>
-        ensures hands { Sends line self.old out.old result self.new out.new }
-        ensures told { SendTold (length out.old) line self.old }
+        ensures hands { Sends (Stays self.old self.new) line self.old.state out.old result out.new }
+        ensures told { SendTold (length out.old) line self.old.state }
     {
         self.check_call(out.len(), line)?;
         self.check_on(Channel::RealTime, line)?;
@@ -124,8 +141,8 @@ impl<M: Matcher, S: Store> Gateway<M, S> {
     /// Hands out the next message of the line's download: a report, or the download's end; 0 where none runs. Refused
     /// with 6, 14 or 10.
     pub fn send_recovered(&mut self, line: usize, out: &mut [u8]) -> Result<usize, GatewayFault>
-        ensures hands { Recovers line self.old out.old result self.new out.new }
-        ensures told { RecoverTold (length out.old) line self.old }
+        ensures hands { Recovers (Stays self.old self.new) line self.old.state out.old result out.new }
+        ensures told { RecoverTold (length out.old) line self.old.state }
     {
         self.check_call(out.len(), line)?;
         self.check_on(Channel::Recovery, line)?;
@@ -143,14 +160,14 @@ impl<M: Matcher, S: Store> Gateway<M, S> {
 
     /// What the venue keeps: orders, trades, instruments, the matcher and the store, to look at.
     pub fn venue(&self) -> &Venue<M, S>
-        ensures { result.now ≡ self.now.venue }
+        ensures { result.now ≡ venue_of self.now }
     {
         &self.venue
     }
 
     /// The CompIDs, each with the line of its place.
     pub fn participants(&self) -> &[Participant]
-        ensures { result.now ≡ self.now.participants }
+        ensures { result.now ≡ self.now.state.participants }
     {
         &self.participants
     }

@@ -1,5 +1,5 @@
 // A gateway: what it keeps, how it starts, and its seven calls.
-ghost use Rattle.std.specs.Prelude.{◌≡◌, ◌<◌, length, replicate, IfOk};
+ghost use Rattle.std.specs.Prelude.{◌≡◌, ◌<◌, [], length, replicate, IfOk};
 ghost use Rattle.std.specs.Result.{result_err};
 ghost use Rattle.sessions.specs.Sessions.{fresh as fresh_session};
 ghost use Rattle.gateway.specs.Starting.{is_unused};
@@ -17,7 +17,8 @@ use store::Store;
 use venue::venue::Venue;
 use wire::message::BUFFER;
 
-/// A venue's order gateway: in a contract, its CompIDs, the session of each line, and what the venue keeps.
+/// A venue's order gateway: in a contract, its CompIDs, the session of each line and the venue's books, and beside them
+/// the matcher as it is and how many places the store has free.
 #[derive(Drop)]
 pub struct Gateway<M: Matcher, S: Store> {
     pub(crate) participants: Vec<Participant>,
@@ -30,12 +31,17 @@ impl<M: Matcher, S: Store> Model for Gateway<M, S> {
     ghost use Rattle.std.specs.Coded.{codes};
     ghost use Rattle.std.specs.FinMap as map;
     ghost use Rattle.gateway.specs.State.{State};
+    ghost use Rattle.venue.specs.Books.{Over};
 
-    ghost Value = { State };
+    ghost Value = { Over State M };
 
     ghost coded = { Prim.hlevel (codes, map.code) };
 
-    ghost view = { λ g. record { participants = g.participants.items; lines = g.sessions.items; venue = g.venue } };
+    ghost view = { λ g. record {
+      state = record { participants = g.participants.items; lines = g.sessions.items; venue = g.venue.state };
+      engine = g.venue.engine;
+      free = g.venue.free;
+    } };
 
     ghost invariant = { λ g. length g.sessions.items ≡ length g.participants.items };
 }
@@ -59,8 +65,9 @@ impl<M: Matcher, S: Store> Gateway<M, S> {
     ghost use Rattle.gateway.specs.Starting.{is_new, Starts};
     ghost use Rattle.gateway.specs.Calls.{on_fault};
     ghost use Rattle.gateway.specs.Hearing.{call_fault, line_fault};
+    ghost use Rattle.gateway.specs.Doing.{Stays};
     ghost use Rattle.gateway.specs.State.{session, with_session, lasts};
-    ghost use Rattle.venue.specs.View.{fresh as fresh_venue};
+    ghost use Rattle.venue.specs.Books.{fresh as fresh_books};
 
     /// Starts a day: nobody is logged on. Refused with 61 where the matcher holds an order or the store a report, and
     /// without a number where memory is short; 60 is the configuration's, and comes before. Whoever is refused gets
@@ -72,8 +79,8 @@ impl<M: Matcher, S: Store> Gateway<M, S> {
         store: S,
     ) -> Result<Gateway<M, S>, (StartRefusal, M, S)>
         ensures { Starts (is_new (M.meaning matcher) (S.kept store)) config.participants.items
-            (fresh_venue config.instruments.items (M.meaning matcher) (M.next matcher) (S.free store)) matcher store
-            result }
+            (record { state = fresh_books config.instruments.items (M.meaning matcher); engine = matcher; free = S.free store })
+            matcher store result }
     {
         if !matcher.is_empty() || !is_unused(&store) {
             return Err((StartRefusal::NotEmpty, matcher, store));
@@ -97,22 +104,22 @@ impl<M: Matcher, S: Store> Gateway<M, S> {
 
     // The session of a line.
     pub(crate) fn session(&self, line: usize) -> Session
-        requires { line < length self.now.lines }
-        ensures { result ≡ session self.now line }
+        requires { line < length self.now.state.lines }
+        ensures { result ≡ session self.now.state line }
     {
         self.sessions[line]
     }
 
     pub(crate) fn set_session(&mut self, line: usize, session: Session)
-        requires { line < length self.old.lines }
-        ensures { self.new ≡ with_session self.old line session }
+        requires { line < length self.old.state.lines }
+        ensures { Stays self.old self.new (with_session self.old.state line session) [] }
     {
         self.sessions[line] = session;
     }
 
     // The last number of each partition.
     pub(crate) fn lasts(&self) -> PerPartition<u32>
-        ensures { result ≡ lasts self.now.venue.kept }
+        ensures { result ≡ lasts self.now.state.venue.kept }
     {
         PerPartition {
             one: self.venue.last(Partition::One),
@@ -123,7 +130,7 @@ impl<M: Matcher, S: Store> Gateway<M, S> {
 
     // There is such a line.
     pub(crate) fn check_line(&self, line: usize) -> Result<(), GatewayFault>
-        ensures { result_err result ≡ line_fault line self.now }
+        ensures { result_err result ≡ line_fault line self.now.state }
     {
         if line >= self.sessions.len() {
             return Err(GatewayFault::NoSuchLine);
@@ -133,7 +140,7 @@ impl<M: Matcher, S: Store> Gateway<M, S> {
 
     // The buffer has room for any message, and there is such a line.
     pub(crate) fn check_call(&self, room: usize, line: usize) -> Result<(), GatewayFault>
-        ensures { result_err result ≡ call_fault room line self.now }
+        ensures { result_err result ≡ call_fault room line self.now.state }
     {
         if room < BUFFER {
             return Err(GatewayFault::ShortBuffer);
@@ -143,8 +150,8 @@ impl<M: Matcher, S: Store> Gateway<M, S> {
 
     // The line is logged on, on the channel.
     pub(crate) fn check_on(&self, channel: Channel, line: usize) -> Result<(), GatewayFault>
-        requires { line < length self.now.lines }
-        ensures { result_err result ≡ on_fault channel line self.now }
+        requires { line < length self.now.state.lines }
+        ensures { result_err result ≡ on_fault channel line self.now.state }
     {
         if !self.session(line).is_on(channel) {
             return Err(GatewayFault::Session(SessionFault::NotLoggedOn));

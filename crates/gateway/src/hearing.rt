@@ -1,8 +1,10 @@
 // What a message gets, and what it leaves.
-ghost use Rattle.std.specs.Prelude.{◌≡◌, ◌<◌, ◌≤◌, true, length};
+ghost use Rattle.std.specs.Prelude.{◌≡◌, ◌<◌, ◌≤◌, [], true, length};
 ghost use Rattle.wire.specs.declared.message.TheConstants.{BUFFER};
 ghost use Rattle.sessions.specs.Sessions.{on};
-ghost use Rattle.gateway.specs.State.{session};
+ghost use Rattle.gateway.specs.Doing.{Comes, Stays};
+ghost use Rattle.gateway.specs.State.{session, venue_of};
+ghost use Rattle.requests.specs.Deciding.{spare};
 ghost use Rattle.gateway.specs.Hearing.{Took, Understands, Hears, answer_for, client_of, fault_rejection, firm, outcome_of, last_of, logout, missed_on, partition_of, reader_of, rejection, taken, type_told};
 
 use crate::fault::{GatewayFault, SessionFault};
@@ -119,7 +121,7 @@ fn answer_for(m: &Message<'_>, done: Result<(), Turned>) -> Answer
 
 impl<M: Matcher, S: Store> Gateway<M, S> {
     fn firm(&self, line: usize) -> u32
-        ensures { result ≡ firm self.now line }
+        ensures { result ≡ firm self.now.state line }
     {
         match self.participants.get(line) {
             Some(participant) => participant.firm,
@@ -128,7 +130,7 @@ impl<M: Matcher, S: Store> Gateway<M, S> {
     }
 
     fn last_of(&self, partition: Option<Partition>) -> u32
-        ensures { result ≡ last_of self.now.venue.kept partition }
+        ensures { result ≡ last_of self.now.state.venue.kept partition }
     {
         match partition {
             Some(partition) => self.venue.last(partition),
@@ -138,9 +140,10 @@ impl<M: Matcher, S: Store> Gateway<M, S> {
 
     // A Missed Message Request, on the channel that has them.
     fn miss(&mut self, channel: Channel, line: usize, m: &MissedMessageRequest) -> Answer
-        requires there { line < length self.old.lines }
-        requires logged_on { on channel (session self.old line) ≡ true }
-        ensures { Took (missed_on channel line m.now self.old) result self.new }
+        requires there { line < length self.old.state.lines }
+        requires logged_on { on channel (session self.old.state line) ≡ true }
+        ensures answer { result ≡ (missed_on channel line m.now self.old.state).answer }
+        ensures after { Stays self.old self.new (missed_on channel line m.now self.old.state).changed [] }
     {
         match channel {
             Channel::RealTime => Answer::Silent,
@@ -162,8 +165,8 @@ impl<M: Matcher, S: Store> Gateway<M, S> {
 
     // A Logout.
     fn logout(&mut self, channel: Channel, line: usize, time: Time) -> Answer
-        requires { line < length self.old.lines }
-        ensures { Took (logout channel line time self.old) result self.new }
+        requires { line < length self.old.state.lines }
+        ensures { Took M.Did time (logout channel line self.old.state) self.old result self.new }
     {
         match channel {
             Channel::RealTime => self.close_line(line, time),
@@ -176,11 +179,11 @@ impl<M: Matcher, S: Store> Gateway<M, S> {
     }
 
     // A message of a line that is logged on.
-    #[tactic(auto, using(crate::proofs::Requested::obeyed))]
     fn obey(&mut self, channel: Channel, line: usize, m: &Message<'_>, time: Time) -> Answer
-        requires there { line < length self.old.lines }
-        requires logged_on { on channel (session self.old line) ≡ true }
-        ensures { Took (taken channel line m.now time self.old) result self.new }
+        requires there { line < length self.old.state.lines }
+        requires logged_on { on channel (session self.old.state line) ≡ true }
+        ensures { Took M.Did time (taken channel line m.now time (spare (venue_of self.old)) self.old.state) self.old
+            result self.new }
     {
         match m {
             Message::NewOrder(r) => answer_for(m, new_order(&mut self.venue, line, r, time)),
@@ -201,8 +204,9 @@ impl<M: Matcher, S: Store> Gateway<M, S> {
 
     // Any message of a line.
     fn take(&mut self, channel: Channel, line: usize, m: &Message<'_>, time: Time) -> Answer
-        requires { line < length self.old.lines }
-        ensures { Took (outcome_of channel line m.now time self.old) result self.new }
+        requires { line < length self.old.state.lines }
+        ensures { Took M.Did time (outcome_of channel line m.now time (spare (venue_of self.old)) self.old.state) self.old
+            result self.new }
     {
         if let Message::Logon(logon) = m {
             return self.logon(channel, line, logon);
@@ -222,7 +226,14 @@ impl<M: Matcher, S: Store> Gateway<M, S> {
         time: Time,
         reply: &mut [u8],
     ) -> Result<usize, GatewayFault>
-        ensures { Hears channel line message.now time self.old reply.old result self.new reply.new }
+        ensures { Hears (Comes M.Did time self.old self.new) (record {
+          channel = channel;
+          line = line;
+          bytes = message.now;
+          time = time;
+          buffer = reply.old;
+          spare = spare (venue_of self.old);
+        }) self.old.state result reply.new }
     {
         self.check_call(reply.len(), line)?;
         let m = understand(channel, message, reply)?;

@@ -1,226 +1,152 @@
 -- What each call makes of the orders. Assumes nothing.
-use Rattle.std.proofs.Common.{◌≡◌, inl, inr, ℕ, Bool, true, false, cond, List, Some, None, Option, Ok, Err, Result, length, refl, sym, ap, ◌∙◌, subst}
-use Rattle.std.specs.Prelude.{slice_get}
-use Rattle.answers.specs.declared.answer.Answer.{Answer}
-use Rattle.changes.specs.declared.change.Change.TheVariants.{Fill, Undo}
+use Rattle.std.specs.List.{AllByRecursion}
+use Rattle.std.proofs.Common.{◌≡◌, inl, inr, ℕ, ◌+◌, true, List, [], ◌∷◌, Some, None, Option, Ok, Err, Result, length, refl, sym, subst}
+use Rattle.changes.specs.declared.change.Change.{Change}
+use Rattle.changes.specs.declared.change.Change.TheVariants.{Accept, Withdraw, Fill, Undo}
 use Rattle.changes.specs.declared.change.Undone.{Undone}
 use Rattle.codes.specs.declared.report.Liquidity.TheVariants.{Added, Removed}
-use Rattle.codes.specs.declared.session.AckResponse.{AckResponse}
-use Rattle.gateway.specs.Calls.{Steps, Undoes, Loses, Hands, Handed, send_fault, live_handed, recovery_handed}
-use Rattle.gateway.specs.Hearing.{Outcome, Settled, Hears, outcome_of, requested_as, missed_by, missed_on, logout, reader_of, firm}
-use Rattle.gateway.specs.Hearing.Outcome.{Answered, Reported}
-use Rattle.gateway.specs.Lines.{admitted, admits, ends_orders, ends_with, without_marked, line_closed}
-use Rattle.gateway.specs.State.{State, session}
+use Rattle.configuration.specs.declared.instrument.Instrument.{Instrument}
+use Rattle.gateway.specs.Calls.{Hands, Handed, send_fault, live_handed, recovery_handed}
+use Rattle.gateway.specs.State.{State}
 use Rattle.gateway.specs.declared.fault.GatewayFault.{GatewayFault}
 use Rattle.keyed.specs.Numbers.{under}
-use Rattle.line.proofs.Asked.{MovesTo, By, Withdrawals, new_order_moves, cancel_moves, replace_moves, mass_moves, all_moves, expiry_moves}
-use Rattle.line.proofs.Walking.{hears_by, hands_by}
-use Rattle.line.proofs.Moving.{Moving, still, onward, wider, changes}
+use Rattle.line.proofs.Acted.{Acted, OnLine, Told, hears_acted, loses_acted}
+use Rattle.line.proofs.Fitting.{Alters}
+use Rattle.line.proofs.Walking.{hands_by}
+use Rattle.line.proofs.Moving.{Moving, adds, changes, onward, still}
 use Rattle.line.specs.Conservation.{Move, May, MayBy, MayStep, MayUndo, MayLose}
-use Rattle.line.specs.Runs.{Does, blank}
+use Rattle.line.specs.Runs.{Turns, blank, giving}
 use Rattle.call.specs.declared.venue_side.Done.{Done}
 use Rattle.call.specs.declared.venue_side.Done.TheVariants as done
-use Rattle.session_messages.specs.declared.missed_message_request.MissedMessageRequest.{MissedMessageRequest}
+use Rattle.matching.specs.declared.event.Event.{Event}
+use Rattle.matching.specs.declared.event.Event.TheVariants as event
+use Rattle.orders.specs.Rows.{orderable}
+use Rattle.orders.specs.declared.row.Ending.TheVariants.{Expired}
 use Rattle.orders.specs.declared.row.Row.{Row}
-use Rattle.orders.specs.declared.trade.Trade.{Trade}
 use Rattle.orders.specs.declared.trade.Fill.{Fill as Side}
-use Rattle.requests.specs.Outcomes.{Outcome as Requested}
-use Rattle.requests.specs.Outcomes.Outcome.{Refused, Done as Did}
-use Rattle.sessions.specs.Sessions.{on}
-use Rattle.sessions.specs.declared.session.Channel.{Channel}
+use Rattle.orders.specs.declared.trade.Trade.{Trade}
 use Rattle.sessions.specs.declared.session.Channel.TheVariants.{RealTime, Recovery}
-use Rattle.refusals.specs.declared.LogonRefusal.{LogonRefusal}
-use Rattle.refusals.specs.declared.RequestRefusal.{RequestRefusal}
-use Rattle.sessions.specs.declared.session.SessionState.{SessionState}
 use Rattle.texts.specs.declared.values.Time.{Time}
-use Rattle.venue.specs.Ledger.{Ledger}
-use Rattle.venue.specs.Steps.{Leaves, ledger_of}
-use Rattle.venue.specs.Trading.{passive_filled, both_filled, filling, next_deal, side_undone, passive_undone, trade_undone, Stepped}
-use Rattle.venue.specs.View.{View}
-use Rattle.venue.specs.declared.selection.Cause.TheVariants.{LineLost}
-use Rattle.venue.specs.declared.step.Step.{Step}
-use Rattle.venue.specs.declared.step.Step.TheVariants.{Nothing, Expired, Traded}
+use Rattle.venue.specs.Acts.{Act, Open, Alter, Note, Take, Void, deal_of, enact, enact_all, ledger_of, step_of, told_by, voided}
+use Rattle.venue.specs.Books.{Books}
+use Rattle.venue.specs.Ledger.{Ledger, expired_as}
+use Rattle.venue.specs.Trading.{passive_filled, both_filled, filling, side_undone, passive_undone}
 use Rattle.venue.specs.declared.trading.Deal.{Deal}
-use Rattle.wire.specs.Messages.{Reads}
-use Rattle.wire.specs.declared.message.Message.{Message}
-use Rattle.wire.specs.declared.message.Message.TheVariants as message
 
--- ---- a message
+-- ---- the acts of a line
 
--- what an outcome makes of the rows
-abbrev OutMoves : (Move → Type 0) → List Row → Outcome → Type 0
-OutMoves p rows (Answered a u) = u.venue.rows ≡ rows
-OutMoves p rows (Reported most u) = Moving p rows u.venue.rows
+-- an act whose moves are among these
+abbrev By : (Move → Type 0) → Act → Type 0
+By p (Open s a) = (orderable a.quantity ≡ true) × ((n : ℕ) → p (n, Accept s a))
+By p (Alter n c) = Alters c × p (n, c)
+By p (Note q e) = Unit {0}
+By p (Take e) = ⊥
+By p (Void n) = ⊥
 
-settled : (p : Move → Type 0) (rows : List Row) (o : Outcome) (buffer : List ℕ) (r : Result ℕ GatewayFault) (w : State)
-    (after : List ℕ)
-    → OutMoves p rows o → Settled o buffer r w after → Moving p rows w.venue.rows
-settled p rows (Answered a u) buffer r w after m (x, e, y) =
-    subst (Moving p rows) (sym (ap (λ (z : State). z.venue.rows) e ∙ m)) (still p rows)
-settled p rows (Reported most u) buffer r w after m (x, (e, l), y) =
-    subst (Moving p rows) (sym (ap (λ (z : View). z.rows) l.state)) m
+act_moves : (p : Move → Type 0) (t : Time) (a : Act) (b : Books) → By p a → Moving p b.rows (enact t a b).rows
+act_moves p t (Open s a) b (o, may) = adds p b.rows s a o (may (length b.rows + 1))
+act_moves p t (Alter n c) b (k, may) = changes p b.instruments t n c (ledger_of b) k may
+act_moves p t (Note q e) b may = still p b.rows
+act_moves p t (Take e) b may = absurd may
+act_moves p t (Void n) b may = absurd may
 
-admitted_rows : (known : Bool) (line : ℕ) (s : State) (r : Result SessionState LogonRefusal)
-    → (admitted known line s r).1.venue.rows ≡ s.venue.rows
-admitted_rows known line s (Err e) = refl
-admitted_rows true line s (Ok x) = refl
-admitted_rows false line s (Ok x) = refl
+acts_move : (p : Move → Type 0) (q : Act → Type 0) → ((a : Act) → q a → By p a) → (t : Time) (acts : List Act)
+    (b : Books) → AllByRecursion q acts → Moving p b.rows (enact_all t acts b).rows
+acts_move p q w t [] b f = still p b.rows
+acts_move p q w t (a ∷ acts) b (x, f) =
+    onward p b.rows (enact t a b).rows _ (act_moves p t a b (w a x)) (acts_move p q w t acts (enact t a b) f)
 
-asked_of : (m : Message) (s : State) (o : Requested) → MovesTo (By m) s.venue.rows o
-    → OutMoves (By m) s.venue.rows (requested_as m s o)
-asked_of m s (Refused t) f = refl
-asked_of m s (Did most v) f = f
+acted_moves : (p : Move → Type 0) (q : Act → Type 0) (s w : State) → ((a : Act) → q a → By p a) → Acted q s w
+    → Moving p s.venue.rows w.venue.rows
+acted_moves p q s w k (t, acts, f, e) =
+    subst (λ (b : Books). Moving p s.venue.rows b.rows) (sym e) (acts_move p q k t acts s.venue f)
 
-missed_rows : (p : Move → Type 0) (r : Result (SessionState × AckResponse) RequestRefusal) (line : ℕ)
-    (m : MissedMessageRequest) (s : State) → OutMoves p s.venue.rows (missed_by r line m s)
-missed_rows p (Err e) line m s = refl
-missed_rows p (Ok (x, a)) line m s = refl
+-- what a line may do, it may do to the order of any number
+on_line : (p : Move → Type 0) (may : Change → Type 0) (s : State) (line : ℕ) → ((n : ℕ) (c : Change) → may c → p (n, c))
+    → (a : Act) → OnLine may s line a → By p a
+on_line p may s line k (Open terms ask) (there, f) = (f.1, λ n. k n (Accept terms ask) f.2)
+on_line p may s line k (Alter n c) (there, f) = (f.0, k n c f.1)
+on_line p may s line k (Note q e) f = tt
+on_line p may s line k (Take e) (there, f) = absurd f
+on_line p may s line k (Void n) (there, f) = absurd f
 
-missed_here : (p : Move → Type 0) (ch : Channel) (line : ℕ) (m : MissedMessageRequest) (s : State)
-    → OutMoves p s.venue.rows (missed_on ch line m s)
-missed_here p Recovery line m s = missed_rows p _ line m s
-missed_here p RealTime line m s = refl
+-- ---- an event of the matcher
 
-marked_moves : (p : Move → Type 0) (ends : Bool) (line : ℕ) (t : Time) (v : View) → Withdrawals p
-    → Moving p v.rows (without_marked ends line t v).rows
-marked_moves p true line t v may = all_moves p (ends_with line) LineLost t v may
-marked_moves p false line t v may = still p v.rows
+filled_moves : (p : Move → Type 0) (is : List Instrument) (t : Time) (d : Deal) (first second : Option ℕ) (l : Ledger)
+    → ((n : ℕ) → first ≡ Some n → p (n, Fill (filling d Added)))
+    → ((n : ℕ) → second ≡ Some n → p (n, Fill (filling d Removed)))
+    → Moving p l.rows (both_filled is t d first second l).rows
+filled_moves p is t d None None l f g = still p l.rows
+filled_moves p is t d (Some n) None l f g = changes p is t n (Fill (filling d Added)) l (λ k. refl) (f n refl)
+filled_moves p is t d None (Some m) l f g = changes p is t m (Fill (filling d Removed)) l (λ k. refl) (g m refl)
+filled_moves p is t d (Some n) (Some m) l f g =
+    let x = passive_filled is t d (Some n) l in
+    onward p l.rows x.rows _ (changes p is t n (Fill (filling d Added)) l (λ k. refl) (f n refl))
+    (changes p is t m (Fill (filling d Removed)) x (λ k. refl) (g m refl))
 
-closed_moves : (p : Move → Type 0) (line : ℕ) (t : Time) (s : State) → Withdrawals p
-    → Moving p s.venue.rows (line_closed line t s).venue.rows
-closed_moves p line t s may = marked_moves p (ends_orders (slice_get s.participants line)) line t s.venue may
+ended_moves : (p : Move → Type 0) (is : List Instrument) (t : Time) (n : ℕ) (o : Option Row) (l : Ledger)
+    → ((r : Row) → p (n, Withdraw Expired r.client)) → Moving p l.rows (expired_as is t n o l).rows
+ended_moves p is t n None l may = still p l.rows
+ended_moves p is t n (Some r) l may = changes p is t n (Withdraw Expired r.client) l (λ k. refl) (may r)
 
-logout_moves : (p : Move → Type 0) (ch : Channel) (line : ℕ) (t : Time) (s : State) → Withdrawals p
-    → OutMoves p s.venue.rows (logout ch line t s)
-logout_moves p RealTime line t s may = closed_moves p line t s may
-logout_moves p Recovery line t s may = refl
+event_moves : (t : Time) (e : Event) (b : Books) → Moving (MayStep (Ok (step_of e b))) b.rows (told_by t e b).rows
+event_moves t event.Nothing b = still (MayStep (Ok (step_of event.Nothing b))) b.rows
+event_moves t (event.Expired n) b =
+    ended_moves (MayStep (Ok (step_of (event.Expired n) b))) b.instruments t n (under b.rows n) (ledger_of b) (λ r. refl)
+event_moves t (event.Trade p a q x) b =
+    filled_moves (MayStep (Ok (step_of (event.Trade p a q x) b))) b.instruments t (deal_of b q x) p a (ledger_of b)
+    (λ n h. (refl, inl h)) (λ n h. (refl, inr h))
 
-where_on : (p : Move → Type 0) (rows : List Row) (b : Bool) (o : Outcome) (a : Answer) (s : State) → OutMoves p rows o
-    → s.venue.rows ≡ rows → OutMoves p rows (cond b o (Answered a s))
-where_on p rows true o a s f e = f
-where_on p rows false o a s f e = e
+-- ---- a trade cancelled
 
-outcome_moves : (ch : Channel) (line : ℕ) (m : Message) (t : Time) (s : State)
-    → OutMoves (By m) s.venue.rows (outcome_of ch line m t s)
-outcome_moves ch line (message.Logon m) t s = admitted_rows (admits (slice_get s.participants line) m) line s _
-outcome_moves ch line (message.NewOrder m) t s =
-    where_on _ _ (on ch (session s line)) _ _ s
-    (asked_of (message.NewOrder m) s _ (new_order_moves line m t s.venue)) refl
-outcome_moves ch line (message.OrderCancelRequest m) t s =
-    where_on _ _ (on ch (session s line)) _ _ s
-    (asked_of (message.OrderCancelRequest m) s _ (cancel_moves line m t s.venue)) refl
-outcome_moves ch line (message.OrderCancelReplaceRequest m) t s =
-    where_on _ _ (on ch (session s line)) _ _ s
-    (asked_of (message.OrderCancelReplaceRequest m) s _ (replace_moves line m t s.venue)) refl
-outcome_moves ch line (message.OrderMassCancelRequest m) t s =
-    where_on _ _ (on ch (session s line)) _ _ s
-    (asked_of (message.OrderMassCancelRequest m) s _ (mass_moves s.participants (firm s line) line m t s.venue)) refl
-outcome_moves ch line (message.MissedMessageRequest m) t s =
-    where_on _ _ (on ch (session s line)) _ _ s (missed_here (By (message.MissedMessageRequest m)) ch line m s) refl
-outcome_moves ch line (message.Logout m) t s =
-    where_on _ _ (on ch (session s line)) _ _ s (logout_moves (By (message.Logout m)) ch line t s (λ n e i. tt)) refl
-outcome_moves ch line m t s = where_on (By m) s.venue.rows (on ch (session s line)) (Answered _ s) _ s refl refl
+undone_moves : (p : Move → Type 0) (is : List Instrument) (t : Time) (q : ℕ) (o : Option Side) (l : Ledger)
+    → ((n : ℕ) (u : Undone) → u.quantity ≡ q → p (n, Undo u)) → Moving p l.rows (side_undone is t q o l).rows
+undone_moves p is t q None l f = still p l.rows
+undone_moves p is t q (Some s) l f = changes p is t s.order (Undo _) l (λ k. refl) (f s.order _ refl)
 
--- what a message of these bytes may make of an order
-abbrev Told : Channel → List ℕ → Move → Type 0
-Told ch bs m = (x : Message) × Reads (reader_of ch) bs x × MayBy x m.1
+void_moves : (t : Time) (n : ℕ) (o : Option Trade) (b : Books) → Moving (λ m. MayUndo o m.1) b.rows (voided t n o b).rows
+void_moves t n None b = still (λ m. MayUndo None m.1) b.rows
+void_moves t n (Some tr) b =
+    let p : Move → Type 0 = λ m. MayUndo (Some tr) m.1 in
+    let x = passive_undone b.instruments t tr (ledger_of b) in
+    onward p b.rows x.rows _ (undone_moves p b.instruments t tr.quantity tr.passive (ledger_of b) (λ k u e. e))
+    (undone_moves p b.instruments t tr.quantity tr.aggressive x (λ k u e. e))
+
+-- ---- any call
 
 stays : (p : Move → Type 0) (s w : State) → w ≡ s → Moving p s.venue.rows w.venue.rows
 stays p s w e = subst (λ (z : State). Moving p s.venue.rows z.venue.rows) (sym e) (still p s.venue.rows)
 
-hears_moves : (ch : Channel) (line : ℕ) (bs : List ℕ) (t : Time) (s : State) (buffer : List ℕ)
-    (r : Result ℕ GatewayFault) (w : State) (after : List ℕ)
-    → Hears ch line bs t s buffer r w after → Moving (Told ch bs) s.venue.rows w.venue.rows
-hears_moves ch line bs t s buffer r w after h =
-    hears_by (λ z. Moving (Told ch bs) s.venue.rows z.venue.rows) s
-    (still (Told ch bs) s.venue.rows) ch line bs t buffer r w after
-    (λ m k reads d. wider (By m) (Told ch bs) s.venue.rows w.venue.rows (λ x may. (m, reads, may))
-    (settled (By m) s.venue.rows (outcome_of ch line m t s) buffer r w after (outcome_moves ch line m t s) d)) h
+hands_moves : (p : Move → Type 0) (o : Option GatewayFault) (h : Handed) (s : State) (r : Result ℕ GatewayFault)
+    (w : State) (out : List ℕ) → h.after.venue ≡ s.venue → Hands (λ u acts. w ≡ u) o h s blank r out
+    → Moving p s.venue.rows w.venue.rows
+hands_moves p o h s r w out k d =
+    hands_by (λ z. Moving p s.venue.rows z.venue.rows) s (still p s.venue.rows) o h blank r w out
+    (subst (λ (b : Books). Moving p s.venue.rows b.rows) (sym k) (still p s.venue.rows)) d
 
--- ---- an event of the matcher
-
-filled_moves : (p : Move → Type 0) (v : View) (t : Time) (d : Deal) (first second : Option ℕ) (l : Ledger)
-    → ((n : ℕ) → first ≡ Some n → p (n, Fill (filling d Added)))
-    → ((n : ℕ) → second ≡ Some n → p (n, Fill (filling d Removed)))
-    → Moving p l.rows (both_filled v.instruments t d first second l).rows
-filled_moves p v t d None None l f g = still p l.rows
-filled_moves p v t d (Some n) None l f g = changes p v.instruments t n (Fill (filling d Added)) l (λ k. refl) (f n refl)
-filled_moves p v t d None (Some m) l f g = changes p v.instruments t m (Fill (filling d Removed)) l (λ k. refl)
-    (g m refl)
-filled_moves p v t d (Some n) (Some m) l f g =
-    let x = passive_filled v.instruments t d (Some n) l in
-    onward p l.rows x.rows _ (changes p v.instruments t n (Fill (filling d Added)) l (λ k. refl) (f n refl))
-    (changes p v.instruments t m (Fill (filling d Removed)) x (λ k. refl) (g m refl))
-
-left : (p : Move → Type 0) (rows : List Row) (most : ℕ) (u w : View) → Leaves most u w → Moving p rows u.rows
-    → Moving p rows w.rows
-left p rows most u w l m = subst (Moving p rows) (sym (ap (λ (z : View). z.rows) l.state)) m
-
-stepped : (t : Time) (v : View) (e : Step) (w : View) → Stepped t v e w → Moving (MayStep (Ok e)) v.rows w.rows
-stepped t v Nothing w (x, e) =
-    subst (λ (z : View). Moving (MayStep (Ok Nothing)) v.rows z.rows) (sym e) (still (MayStep (Ok Nothing)) v.rows)
-stepped t v (Expired n) w (x, y, l) =
-    left (MayStep (Ok (Expired n))) v.rows 1 _ w l
-    (expiry_moves (MayStep (Ok (Expired n))) t n v (under v.rows n) (λ i. refl))
-stepped t v (Traded k a b q x) w (y, z, u, l) =
-    left (MayStep (Ok (Traded k a b q x))) v.rows 2 _ w l
-    (filled_moves (MayStep (Ok (Traded k a b q x))) v t (next_deal v q x) a b (ledger_of v) (λ n h. (refl, inl h))
-    (λ n h. (refl, inr h)))
-
-step_moves : (t : Time) (s : State) (r : Result Step GatewayFault) (w : State) → Steps t s r w
-    → Moving (MayStep r) s.venue.rows w.venue.rows
-step_moves t s (Ok e) w (x, h, y) = stepped t s.venue e w.venue h
-step_moves t s (Err f) w (x, e) = stays (MayStep (Err f)) s w e
-
--- ---- a trade cancelled
-
-undone_moves : (p : Move → Type 0) (v : View) (t : Time) (q : ℕ) (o : Option Side) (l : Ledger)
-    → ((n : ℕ) (u : Undone) → u.quantity ≡ q → p (n, Undo u)) → Moving p l.rows (side_undone v.instruments t q o l).rows
-undone_moves p v t q None l f = still p l.rows
-undone_moves p v t q (Some s) l f = changes p v.instruments t s.order (Undo _) l (λ k. refl) (f s.order _ refl)
-
-trade_moves : (t : Time) (n : ℕ) (o : Option Trade) (v : View)
-    → Moving (λ m. MayUndo o m.1) v.rows (trade_undone t n o v).rows
-trade_moves t n None v = still (λ m. MayUndo None m.1) v.rows
-trade_moves t n (Some tr) v =
-    let p : Move → Type 0 = λ m. MayUndo (Some tr) m.1 in
-    let x = passive_undone v.instruments t tr (ledger_of v) in
-    onward p v.rows x.rows _ (undone_moves p v t tr.quantity tr.passive (ledger_of v) (λ k u e. e))
-    (undone_moves p v t tr.quantity tr.aggressive x (λ k u e. e))
-
-undo_moves : (n : ℕ) (t : Time) (s : State) (r : Result (Unit {0}) GatewayFault) (w : State) → Undoes n t s r w
-    → Moving (λ m. MayUndo (under s.venue.trades n) m.1) s.venue.rows w.venue.rows
-undo_moves n t s (Ok u) w (x, (e, l)) =
-    left _ s.venue.rows 4 _ w.venue l (trade_moves t n (under s.venue.trades n) s.venue)
-undo_moves n t s (Err f) w (x, e) = stays _ s w e
-
--- ---- a line lost
-
-lose_moves : (line : ℕ) (t : Time) (s : State) (r : Result (Unit {0}) GatewayFault) (w : State) → Loses line t s r w
-    → Moving (λ m. MayLose m.1) s.venue.rows w.venue.rows
-lose_moves line t s (Ok u) w (x, (e, l)) =
-    left _ s.venue.rows _ _ w.venue l (closed_moves (λ m. MayLose m.1) line t s (λ n x i. tt))
-lose_moves line t s (Err f) w (x, e) = stays _ s w e
-
--- ---- what is sent
-
-hands_moves : (p : Move → Type 0) (o : Option GatewayFault) (h : Handed) (s : State) (buffer : List ℕ)
-    (r : Result ℕ GatewayFault) (w : State) (after : List ℕ)
-    → h.after.venue.rows ≡ s.venue.rows → Hands o h s buffer r w after → Moving p s.venue.rows w.venue.rows
-hands_moves p o h s buffer r w after k d =
-    hands_by (λ z. Moving p s.venue.rows z.venue.rows) s (still p s.venue.rows) o h buffer r w after
-    (subst (Moving p s.venue.rows) (sym k) (still p s.venue.rows)) d
-
--- ---- any call
-
-pub call_moves : (s : State) (d : Done) (w : State) → Does s d w → Moving (May s d) s.venue.rows w.venue.rows
-call_moves s (done.RealTime line bs t r) w h = hears_moves RealTime line bs.now t s blank r.answer w r.buffer h
-call_moves s (done.Recovery line bs t r) w h = hears_moves Recovery line bs.now t s blank r.answer w r.buffer h
-call_moves s (done.Step t r) w h = step_moves t s r w h
-call_moves s (done.CancelTrade n t r) w h = undo_moves n t s r w h
-call_moves s (done.LineLost line t r) w h = lose_moves line t s r w h
-call_moves s (done.Send line r) w h =
-    hands_moves _ (send_fault RealTime (length blank) line s) (live_handed line s) s blank r.answer w r.buffer refl h
-call_moves s (done.SendRecovered line r) w h =
-    hands_moves _ (send_fault Recovery (length blank) line s)
-    (recovery_handed line s) s blank r.answer w r.buffer refl h
+pub call_moves : (s : State) (d : Done) (w : State) → Turns s d w → Moving (May s d) s.venue.rows w.venue.rows
+call_moves s (done.RealTime line bs t r) w (n, h) =
+    let g = giving RealTime line bs.now t n in
+    acted_moves (May s (done.RealTime line bs t r)) (Told g s) s w
+    (λ a (m, reads, x). on_line (May s (done.RealTime line bs t r)) (MayBy m) s line (λ k c may. (m, reads, may)) a x)
+    (hears_acted g s r.answer w r.buffer h)
+call_moves s (done.Recovery line bs t r) w (n, h) =
+    let g = giving Recovery line bs.now t n in
+    acted_moves (May s (done.Recovery line bs t r)) (Told g s) s w
+    (λ a (m, reads, x). on_line (May s (done.Recovery line bs t r)) (MayBy m) s line (λ k c may. (m, reads, may)) a x)
+    (hears_acted g s r.answer w r.buffer h)
+call_moves s (done.Step t (Ok r)) w (n, (x, e, y, z, h)) =
+    subst (λ (v : State). Moving (MayStep (Ok r)) s.venue.rows v.venue.rows) (sym h)
+    (subst (λ q. Moving (MayStep (Ok q)) s.venue.rows (told_by t e s.venue).rows) (sym z) (event_moves t e s.venue))
+call_moves s (done.Step t (Err f)) w (n, (x, h)) = stays (MayStep (Err f)) s w h
+call_moves s (done.CancelTrade k t (Ok u)) w (n, (x, h)) =
+    subst (λ (v : State). Moving (λ m. MayUndo (under s.venue.trades k) m.1) s.venue.rows v.venue.rows) (sym h)
+    (void_moves t k (under s.venue.trades k) s.venue)
+call_moves s (done.CancelTrade k t (Err f)) w (n, (x, h)) = stays _ s w h
+call_moves s (done.LineLost line t r) w (n, h) =
+    acted_moves (λ m. MayLose m.1) (OnLine MayLose s line) s w
+    (on_line (λ m. MayLose m.1) MayLose s line (λ k c may. may)) (loses_acted line t s r w h)
+call_moves s (done.Send line r) w (n, h) =
+    hands_moves _ (send_fault RealTime (length blank) line s) (live_handed line s) s r.answer w r.buffer refl h
+call_moves s (done.SendRecovered line r) w (n, h) =
+    hands_moves _ (send_fault Recovery (length blank) line s) (recovery_handed line s) s r.answer w r.buffer refl h

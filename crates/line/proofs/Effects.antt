@@ -15,27 +15,26 @@ use Rattle.codes.specs.declared.session.AckResponse.{AckResponse}
 use Rattle.codes.specs.declared.session.AckResponse.TheVariants.{Successful, LimitReached, InvalidAppId}
 use Rattle.codes.specs.declared.session.Partition.{Partition}
 use Rattle.gateway.specs.Calls.{Hands, Handed, Loses, Recovers, Sends, send_fault, live_handed, recovery_handed, recovered_bytes, sent_bytes}
-use Rattle.gateway.specs.Hearing.{Outcome, Settled, Read, Given, Hears, answered, call_fault, fronted, outcome_of, last_of, line_fault, logout, missed, missed_by, missed_on, partition_of, reader_of, rejection, requested_as}
-use Rattle.gateway.specs.Hearing.Outcome.{Answered, Reported}
+use Rattle.gateway.specs.Doing.{Outcome, acted}
+use Rattle.gateway.specs.Hearing.{Settled, Read, Checked, Hears, answered, call_fault, fronted, outcome_of, last_of, line_fault, logout, missed, missed_by, missed_on, partition_of, reader_of, rejection, requested_as, silently}
 use Rattle.gateway.specs.Lines.{admitted, admits, logon}
-use Rattle.gateway.specs.State.{State, session, with_session, with_venue, lasts}
+use Rattle.gateway.specs.State.{State, session, with_session, lasts}
 use Rattle.gateway.specs.declared.fault.GatewayFault.{GatewayFault}
 use Rattle.keyed.proofs.Under.{none-some}
 use Rattle.layout.specs.Writing.{encode, field_bytes}
 use Rattle.layout.specs.declared.fault.Fault.{Fault}
 use Rattle.limits.specs.declared.TheConstants.{REQUESTS}
-use Rattle.line.proofs.Leading.{call_there, first_none, line_there}
+use Rattle.line.proofs.Walking.{call_there, first_none, line_there}
 use Rattle.line.proofs.Lines.{lines_apart}
 use Rattle.line.specs.Laws.{line_of}
-use Rattle.line.specs.Runs.{Does, blank, bytes_of, left}
+use Rattle.line.specs.Runs.{Turns, blank, bytes_of, giving, left}
 use Rattle.call.specs.declared.venue_side.Done.{Done}
 use Rattle.call.specs.declared.venue_side.Done.TheVariants as done
 use Rattle.call.specs.declared.venue_side.Reply.{Reply}
 use Rattle.session_messages.specs.declared.logon.Logon.{Logon}
 use Rattle.session_messages.specs.declared.missed_message_request.MissedMessageRequest.{MissedMessageRequest}
 use Rattle.partitions.specs.PerPartition.{at}
-use Rattle.requests.specs.Outcomes.{Outcome as Requested}
-use Rattle.requests.specs.Outcomes.Outcome.{Refused, Done as Did}
+use Rattle.requests.specs.Deciding.{Decision}
 use Rattle.sessions.specs.Downloads.{begun, recovered}
 use Rattle.sessions.specs.Sending.{next_to_send, sent_after}
 use Rattle.sessions.specs.Sessions.{Sound, acknowledged, closed, fresh, on, recovery_closed, with_download, with_sent}
@@ -47,6 +46,7 @@ use Rattle.refusals.specs.declared.RequestRefusal.TheVariants.{DownloadRuns}
 use Rattle.sessions.specs.declared.session.SessionState.{SessionState}
 use Rattle.store.specs.Kept.{Kept}
 use Rattle.texts.specs.declared.values.Time.{Time}
+use Rattle.venue.specs.Acts.{Act}
 use Rattle.wire.specs.Messages.{Reads, verdict}
 use Rattle.wire.specs.declared.kinds.Channel.TheVariants as reader
 use Rattle.wire.specs.declared.message.Message.{Message}
@@ -132,9 +132,6 @@ left_ok r bytes buffer out e f =
     ap (λ (z : Result ℕ GatewayFault). left z out) e ∙ ap
     (λ (z : List ℕ). take (length bytes) z) f ∙ take-append_seam bytes (drop (length bytes) buffer)
 
-left_zero : (r : Result ℕ GatewayFault) (out : List ℕ) → r ≡ Ok 0 → left r out ≡ []
-left_zero r out e = ap (λ (z : Result ℕ GatewayFault). left z out) e
-
 -- of a line that there is, the session is the one that was set
 set_here : (line : ℕ) (s : State) (x : SessionState) → line < length s.lines → session (with_session s line x) line ≡ x
 set_here line s x there = get_or-set_same s.lines line x fresh there
@@ -152,24 +149,27 @@ begins k p m x = record x { used = x.used + 1; download = Some (begun p m.last.v
 -- what holds of what a call left and of the session after it
 module _ (line : ℕ) (P : List ℕ → SessionState → Type 0) where
   abbrev Makes : Outcome → Type 0
-  Makes (Answered a u) = P (answer_bytes a) (session u line)
-  Makes (Reported most u) = P [] (session u line)
+  Makes o = P (answer_bytes o.answer) (session o.changed line)
 
-  made : (bytes : List ℕ) (u w : State) (r : Result ℕ GatewayFault) (out : List ℕ) → left r out ≡ bytes → w ≡ u
-      → P bytes (session u line) → P (left r out) (session w line)
-  made bytes u w r out e f h =
+  -- what is done on the venue changes no session
+  made : (t : Time) (acts : List Act) (bytes : List ℕ) (u w : State) (r : Result ℕ GatewayFault) (out : List ℕ)
+      → left r out ≡ bytes → w ≡ acted t acts u → P bytes (session u line) → P (left r out) (session w line)
+  made t acts bytes u w r out e f h =
+      subst (λ (z : List ℕ). P z (session w line)) (sym e) (subst (λ (z : State). P bytes (session z line)) (sym f) h)
+
+  kept : (bytes : List ℕ) (u w : State) (r : Result ℕ GatewayFault) (out : List ℕ)
+      → left r out ≡ bytes → w ≡ u → P bytes (session u line) → P (left r out) (session w line)
+  kept bytes u w r out e f h =
       subst (λ (z : List ℕ). P z (session w line)) (sym e) (subst (λ (z : State). P bytes (session z line)) (sym f) h)
 
   placed : (s : State) (bytes : List ℕ) (x : SessionState) → line < length s.lines → P bytes x
       → P bytes (session (with_session s line x) line)
   placed s bytes x there h = subst (P bytes) (sym (set_here line s x there)) h
 
-  settled_makes : (o : Outcome) (buffer : List ℕ) (r : Result ℕ GatewayFault) (w : State) (out : List ℕ) → Makes o
-      → Settled o buffer r w out → P (left r out) (session w line)
-  settled_makes (Answered a u) buffer r w out h (e, f, g) =
-      made (answer_bytes a) u w r out (left_ok r (answer_bytes a) buffer out e g) f h
-  settled_makes (Reported most u) buffer r w out h (e, (f, l), g) =
-      made [] (with_venue u w.venue) w r out (left_zero r out e) f h
+  settled_makes : (t : Time) (o : Outcome) (buffer : List ℕ) (r : Result ℕ GatewayFault) (w : State) (out : List ℕ)
+      → Makes o → Settled (λ u acts. w ≡ acted t acts u) o buffer r out → P (left r out) (session w line)
+  settled_makes t o buffer r w out h (e, f, g) =
+      made t o.acts (answer_bytes o.answer) o.changed w r out (left_ok r (answer_bytes o.answer) buffer out e g) f h
 
 -- it holds of each thing that a message can come to, on a line that there is
 record Holds (line : ℕ) (P : List ℕ → SessionState → Type 0) (ch : Channel) (bs : List ℕ) (s : State) : Type 0 where
@@ -177,65 +177,70 @@ record Holds (line : ℕ) (P : List ℕ → SessionState → Type 0) (ch : Chann
   opens : (m : Logon) → Makes line P (answered (logon ch line m s))
   asks : (m : MissedMessageRequest) → Reads (reader_of ch) bs (message.MissedMessageRequest m) → on ch (session s line)
       ≡ true → Makes line P (missed_on ch line m s)
-  closes : (t : Time) → Makes line P (logout ch line t s)
+  closes : Makes line P (logout ch line s)
 
 module _ (line : ℕ) (P : List ℕ → SessionState → Type 0) (ch : Channel) (bs : List ℕ) (s : State)
     (same : P [] (session s line)) where
   module _ (h : Holds line P ch bs s) where
-    asked_makes : (m : Message) (o : Requested) → Makes line P (requested_as m s o)
-    asked_makes m (Refused t) = h.rejects (reason.Turned t) m
-    asked_makes m (Did most v) = same
+    asked_makes : (m : Message) (o : Decision) → Makes line P (requested_as m s o)
+    asked_makes m (Err t) = h.rejects (reason.Turned t) m
+    asked_makes m (Ok acts) = same
 
     where_on : (m : Message) (b : Bool) (o : Outcome) → on ch (session s line) ≡ b
         → (on ch (session s line) ≡ true → Makes line P o)
-        → Makes line P (cond b o (Answered (rejection reason.NotLoggedOn m) s))
+        → Makes line P (cond b o (answered (rejection reason.NotLoggedOn m, s)))
     where_on m true o e f = f e
     where_on m false o e f = h.rejects reason.NotLoggedOn m
 
-    silence : (m : Message) → Makes line P (cond (on ch (session s line)) (Answered Silent s)
-        (Answered (rejection reason.NotLoggedOn m) s))
-    silence m = where_on m (on ch (session s line)) (Answered Silent s) refl (λ e. same)
+    silence : (m : Message) → Makes line P (cond (on ch (session s line)) (silently s)
+        (answered (rejection reason.NotLoggedOn m, s)))
+    silence m = where_on m (on ch (session s line)) (silently s) refl (λ e. same)
 
-    asked : (m : Message) (o : Requested) → Makes line P
-        (cond (on ch (session s line)) (requested_as m s o) (Answered (rejection reason.NotLoggedOn m) s))
+    asked : (m : Message) (o : Decision) → Makes line P
+        (cond (on ch (session s line)) (requested_as m s o) (answered (rejection reason.NotLoggedOn m, s)))
     asked m o = where_on m (on ch (session s line)) (requested_as m s o) refl (λ e. asked_makes m o)
 
-    outcome_makes : (m : Message) (t : Time) → Reads (reader_of ch) bs m → Makes line P (outcome_of ch line m t s)
-    outcome_makes (message.Logon m) t reads = h.opens m
-    outcome_makes (message.NewOrder m) t reads = asked (message.NewOrder m) _
-    outcome_makes (message.OrderCancelRequest m) t reads = asked (message.OrderCancelRequest m) _
-    outcome_makes (message.OrderCancelReplaceRequest m) t reads = asked (message.OrderCancelReplaceRequest m) _
-    outcome_makes (message.OrderMassCancelRequest m) t reads = asked (message.OrderMassCancelRequest m) _
-    outcome_makes (message.MissedMessageRequest m) t reads =
+    outcome_makes : (m : Message) (t : Time) (spare : ℕ) → Reads (reader_of ch) bs m
+        → Makes line P (outcome_of ch line m t spare s)
+    outcome_makes (message.Logon m) t spare reads = h.opens m
+    outcome_makes (message.NewOrder m) t spare reads = asked (message.NewOrder m) _
+    outcome_makes (message.OrderCancelRequest m) t spare reads = asked (message.OrderCancelRequest m) _
+    outcome_makes (message.OrderCancelReplaceRequest m) t spare reads = asked (message.OrderCancelReplaceRequest m) _
+    outcome_makes (message.OrderMassCancelRequest m) t spare reads = asked (message.OrderMassCancelRequest m) _
+    outcome_makes (message.MissedMessageRequest m) t spare reads =
         where_on (message.MissedMessageRequest m) (on ch (session s line)) _ refl (λ e. h.asks m reads e)
-    outcome_makes (message.Logout m) t reads = where_on (message.Logout m) (on ch (session s line)) _ refl
-        (λ e. h.closes t)
-    outcome_makes m t reads = silence m
+    outcome_makes (message.Logout m) t spare reads =
+        where_on (message.Logout m) (on ch (session s line)) _ refl (λ e. h.closes)
+    outcome_makes m t spare reads = silence m
 
   -- a call that takes a message
-  module _ (t : Time) (buffer : List ℕ) (r : Result ℕ GatewayFault) (w : State) (out : List ℕ)
+  module _ (t : Time) (spare : ℕ) (r : Result ℕ GatewayFault) (w : State) (out : List ℕ)
       (ready : line < length s.lines → Holds line P ch bs s) where
-    read_makes : (o : Option Fault) → line < length s.lines → Read o ch line bs t s buffer r w out
+    abbrev Ends : State → List Act → Type 0
+    Ends u acts = w ≡ acted t acts u
+
+    read_makes : (o : Option Fault) → line < length s.lines → Read Ends o (giving ch line bs t spare) s r out
         → P (left r out) (session w line)
-    read_makes (Some f) there (e, g, k) = made line P [] s w r out (left_err r _ out e) g same
+    read_makes (Some f) there (e, g, k) = kept line P [] s w r out (left_err r _ out e) g same
     read_makes None there (m, reads, k) =
-        settled_makes line P (outcome_of ch line m t s) buffer r w out (outcome_makes (ready there) m t reads) k
+        settled_makes line P t (outcome_of ch line m t spare s) blank r w out
+        (outcome_makes (ready there) m t spare reads) k
 
-    given_makes : (o : Option GatewayFault) → call_fault (length buffer) line s ≡ o
-        → Given o ch line bs t s buffer r w out → P (left r out) (session w line)
-    given_makes (Some f) n (e, g, k) = made line P [] s w r out (left_err r f out e) g same
-    given_makes None n k = read_makes (verdict (reader_of ch) bs) (call_there (length buffer) line s n) k
+    checked_makes : (o : Option GatewayFault) → call_fault (length blank) line s ≡ o
+        → Checked Ends o (giving ch line bs t spare) s r out → P (left r out) (session w line)
+    checked_makes (Some f) n (e, g, k) = kept line P [] s w r out (left_err r f out e) g same
+    checked_makes None n k = read_makes (verdict (reader_of ch) bs) (call_there (length blank) line s n) k
 
-    hears_makes : Hears ch line bs t s buffer r w out → P (left r out) (session w line)
-    hears_makes k = given_makes (call_fault (length buffer) line s) refl k
+    hears_makes : Hears Ends (giving ch line bs t spare) s r out → P (left r out) (session w line)
+    hears_makes k = checked_makes (call_fault (length blank) line s) refl k
 
   -- a call that hands something out
   hands_makes : (o : Option GatewayFault) (h : Handed) (buffer : List ℕ) (r : Result ℕ GatewayFault) (w : State)
-      (out : List ℕ)
-      → (o ≡ None → P h.bytes (session h.after line)) → Hands o h s buffer r w out → P (left r out) (session w line)
-  hands_makes (Some f) h buffer r w out after (e, g, k) = made line P [] s w r out (left_err r f out e) g same
+      (out : List ℕ) → (o ≡ None → P h.bytes (session h.after line)) → Hands (λ u acts. w ≡ u) o h s buffer r out
+      → P (left r out) (session w line)
+  hands_makes (Some f) h buffer r w out after (e, g, k) = kept line P [] s w r out (left_err r f out e) g same
   hands_makes None h buffer r w out after (e, g, k) =
-      made line P h.bytes h.after w r out (left_ok r h.bytes buffer out e k) g (after refl)
+      kept line P h.bytes h.after w r out (left_ok r h.bytes buffer out e k) g (after refl)
 
 -- what a Missed Message Request comes to, on a line that there is
 module _ (line : ℕ) (P : List ℕ → SessionState → Type 0) (s : State) (m : MissedMessageRequest)
@@ -316,15 +321,15 @@ module _ (line : ℕ) (s : State) (sound : Sound (session s line)) where
     rejects = λ why m. inr (reject_apart why m, inl (refl, refl));
     opens = λ m. real_opens there (admits (slice_get s.participants line) m) (session s line).real_time refl;
     asks = λ m reads e. inr (nothing_apart, inl (refl, refl));
-    closes = λ t. placed line Tells s [] (closed (session s line)) there (inr (nothing_apart, inr (refl, refl)));
+    closes = placed line Tells s [] (closed (session s line)) there (inr (nothing_apart, inr (refl, refl)));
   }
 
 pub effect_realtime : (c : ℕ) (s : State) (bs : Bor (List ℕ)) (t : Time) (r : Reply) (w : State) → Sound (session s c)
-    → Does s (done.RealTime c bs t r) w
+    → Turns s (done.RealTime c bs t r) w
     → RealTimeDoes s.venue.kept (bytes_of r) (session s c) (session w c)
-effect_realtime c s bs t r w sound k =
+effect_realtime c s bs t r w sound (spare, k) =
     hears_makes c (Tells c s sound) RealTime bs.now s
-    (inr (nothing_apart, inl (refl, refl))) t blank r.answer w r.buffer (real_holds c s sound bs.now) k
+    (inr (nothing_apart, inl (refl, refl))) t spare r.answer w r.buffer (real_holds c s sound bs.now) k
 
 -- ---- a recovery message
 
@@ -358,55 +363,56 @@ module _ (line : ℕ) (bs : List ℕ) (s : State) where
         (stays_by (rejection (reason.Request DownloadRuns) (message.MissedMessageRequest m)) refl)
         (λ a g. stays_by (Ack a) g)
         (λ p named none few. inl (m, p, reads, named, refl, none, refl, refl));
-    closes = λ t. placed line Replies s [] (recovery_closed (session s line)) there
+    closes = placed line Replies s [] (recovery_closed (session s line)) there
         (inr (Silent, refl, refl, inr (refl, refl)));
   }
 
 pub effect_recovery : (c : ℕ) (s : State) (bs : Bor (List ℕ)) (t : Time) (r : Reply) (w : State)
-    → Does s (done.Recovery c bs t r) w
+    → Turns s (done.Recovery c bs t r) w
     → RecoveryDoes s.venue.kept bs.now (bytes_of r) (session s c) (session w c)
-effect_recovery c s bs t r w k =
-    hears_makes c (Replies c bs.now s) Recovery bs.now s (stays_by c bs.now s Silent refl) t blank r.answer w r.buffer
+effect_recovery c s bs t r w (spare, k) =
+    hears_makes c (Replies c bs.now s) Recovery bs.now s (stays_by c bs.now s Silent refl) t spare r.answer w r.buffer
     (recovery_holds c bs.now s) k
 
 -- ---- a lost line, and what is handed out
 
 closing : (Q : SessionState → Type 0) (line : ℕ) (s : State) (t : Time) (r : Result (Unit {0}) GatewayFault) (w : State)
-    → Q (session s line) → Q (closed (session s line)) → Loses line t s r w → Q (session w line)
-closing Q line s t (Ok u) w same shut (x, (e, l)) =
+    → Q (session s line) → Q (closed (session s line)) → Loses (λ u acts. w ≡ acted t acts u) line s r
+    → Q (session w line)
+closing Q line s t (Ok u) w same shut (x, e) =
     let there = line_there line s (first_none (line_fault line s) _ x) in
     subst (λ (z : State). Q (session z line)) (sym e)
     (subst Q (sym (set_here line s (closed (session s line)) there)) shut)
 closing Q line s t (Err f) w same shut (x, e) = subst (λ (z : State). Q (session z line)) (sym e) same
 
 pub effect_lost : (c : ℕ) (s : State) (t : Time) (r : Result (Unit {0}) GatewayFault) (w : State)
-    → Does s (done.LineLost c t r) w
+    → Turns s (done.LineLost c t r) w
     → Stays (session s c) (session w c) ⊎ Closes (session s c) (session w c)
-effect_lost c s t r w k =
+effect_lost c s t r w (spare, k) =
     closing (λ y. Stays (session s c) y ⊎ Closes (session s c) y) c s t r w (inl (refl, refl)) (inr (refl, refl)) k
 
 sends_there : (ch : Channel) (line : ℕ) (s : State) → send_fault ch (length blank) line s ≡ None → line < length s.lines
 sends_there ch line s e = call_there (length blank) line s (first_none (call_fault (length blank) line s) _ e)
 
-pub effect_send : (c : ℕ) (s : State) (r : Reply) (w : State) → Does s (done.Send c r) w
+pub effect_send : (c : ℕ) (s : State) (r : Reply) (w : State) → Turns s (done.Send c r) w
     → SendDoes s c (bytes_of r) (session w c)
-effect_send c s r w k =
+effect_send c s r w (spare, k) =
     let x = session s c in
     let marked = with_sent x (sent_after s.venue.kept c x.sent) in
     hands_makes c (SendDoes s c) RealTime [] s (inl (refl, (refl, refl))) (send_fault RealTime (length blank) c s)
     (live_handed c s) blank r.answer w r.buffer
     (λ e. placed c (SendDoes s c) s _ marked (sends_there RealTime c s e) (inr (refl, refl, refl, e))) k
 
-pub effect_recover : (c : ℕ) (s : State) (r : Reply) (w : State) → Does s (done.SendRecovered c r) w
+pub effect_recover : (c : ℕ) (s : State) (r : Reply) (w : State) → Turns s (done.SendRecovered c r) w
     → RecoverDoes s c (bytes_of r) (session w c)
-effect_recover c s r w k =
+effect_recover c s r w (spare, k) =
     let x = session s c in
     let rest = with_download x (recovered s.venue.kept c x.download).1 in
     hands_makes c (RecoverDoes s c) Recovery [] s (inl (refl, (refl, refl))) (send_fault Recovery (length blank) c s)
     (recovery_handed c s) blank r.answer w r.buffer
     (λ e. placed c (RecoverDoes s c) s _ rest (sends_there Recovery c s e) (inr (refl, refl, refl, e))) k
 
-pub effect_other : (c : ℕ) (s : State) (d : Done) (w : State) → Does s d w → line_of d ≢ Some c → session w c
+pub effect_other : (c : ℕ) (s : State) (d : Done) (w : State) → Turns s d w → line_of d ≢ Some c → session w c
     ≡ session s c
 effect_other c s d w k ne = lines_apart s d w c k ne
 
@@ -453,9 +459,9 @@ module _ (line : ℕ) (s : State) (sound : Sound (session s line)) where
       missed_makes line Keeps s m there sound (λ a g. sound)
       (λ p named none few. (omega (arith, few), sound.1, (λ f. e)))
 
-  closes_sound : (ch : Channel) → line < length s.lines → (t : Time) → Makes line Keeps (logout ch line t s)
-  closes_sound RealTime there t = placed line Keeps s [] (closed (session s line)) there shut_sound
-  closes_sound Recovery there t =
+  closes_sound : (ch : Channel) → line < length s.lines → Makes line Keeps (logout ch line s)
+  closes_sound RealTime there = placed line Keeps s [] (closed (session s line)) there shut_sound
+  closes_sound Recovery there =
       placed line Keeps s [] (recovery_closed (session s line)) there
       (sound.0, (λ e. absurd (false≢true e)), (λ e. absurd (false≢true e)))
 
@@ -464,25 +470,26 @@ module _ (line : ℕ) (s : State) (sound : Sound (session s line)) where
     rejects = λ why m. sound;
     opens = λ m. opens_sound ch there m;
     asks = λ m reads e. asks_sound ch there m e;
-    closes = λ t. closes_sound ch there t;
+    closes = closes_sound ch there;
   }
 
-  hears_sound : (ch : Channel) (bs : List ℕ) (t : Time) (r : Result ℕ GatewayFault) (w : State) (out : List ℕ)
-      → Hears ch line bs t s blank r w out → Sound (session w line)
-  hears_sound ch bs t r w out k = hears_makes line Keeps ch bs s sound t blank r w out (holds_sound ch bs) k
+  hears_sound : (ch : Channel) (bs : List ℕ) (t : Time) (spare : ℕ) (r : Result ℕ GatewayFault) (w : State)
+      (out : List ℕ) → Hears (λ u acts. w ≡ acted t acts u) (giving ch line bs t spare) s r out
+      → Sound (session w line)
+  hears_sound ch bs t spare r w out k = hears_makes line Keeps ch bs s sound t spare r w out (holds_sound ch bs) k
 
   runs_before : (d : Option Download) → is_some (recovered s.venue.kept line d).1 ≡ true → is_some d ≡ true
   runs_before None e = e
   runs_before (Some d) e = refl
 
-  sends_sound : (r : Result ℕ GatewayFault) (w : State) (out : List ℕ) → Sends line s blank r w out
+  sends_sound : (r : Result ℕ GatewayFault) (w : State) (out : List ℕ) → Sends (λ u acts. w ≡ u) line s blank r out
       → Sound (session w line)
   sends_sound r w out k =
       hands_makes line Keeps RealTime [] s sound (send_fault RealTime (length blank) line s)
       (live_handed line s) blank r w out
       (λ e. placed line Keeps s [] _ (sends_there RealTime line s e) sound) k
 
-  recovers_sound : (r : Result ℕ GatewayFault) (w : State) (out : List ℕ) → Recovers line s blank r w out
+  recovers_sound : (r : Result ℕ GatewayFault) (w : State) (out : List ℕ) → Recovers (λ u acts. w ≡ u) line s blank r out
       → Sound (session w line)
   recovers_sound r w out k =
       hands_makes line Keeps Recovery [] s sound (send_fault Recovery (length blank) line s)
@@ -492,7 +499,7 @@ module _ (line : ℕ) (s : State) (sound : Sound (session s line)) where
 
 -- the line is the call's, or its session is as it was
 by_line : (b : Bool) (c line : ℕ) (s : State) (d : Done) (w : State) → eqb line c ≡ b → line_of d ≡ Some line
-    → Does s d w
+    → Turns s d w
     → (Sound (session s line) → Sound (session w line)) → Sound (session s c) → Sound (session w c)
 by_line true c line s d w e f k keeps sound =
     let same : line ≡ c = eqb-true line c e in
@@ -501,26 +508,28 @@ by_line false c line s d w e f k keeps sound =
     subst Sound (sym (effect_other c s d w k (λ g. eqb-false line c e
     (let z : ◌≡◌ {A = Option ℕ} (Some line) (Some c) = sym f ∙ g in cc)))) sound
 
-on_line : (c line : ℕ) (s : State) (d : Done) (w : State) → line_of d ≡ Some line → Does s d w
+on_line : (c line : ℕ) (s : State) (d : Done) (w : State) → line_of d ≡ Some line → Turns s d w
     → (Sound (session s line) → Sound (session w line)) → Sound (session s c) → Sound (session w c)
 on_line c line s d w f k keeps sound = by_line (eqb line c) c line s d w refl f k keeps sound
 
-on_none : (c : ℕ) (s : State) (d : Done) (w : State) → line_of d ≡ None → Does s d w → Sound (session s c)
+on_none : (c : ℕ) (s : State) (d : Done) (w : State) → line_of d ≡ None → Turns s d w → Sound (session s c)
     → Sound (session w c)
 on_none c s d w f k sound = subst Sound (sym (effect_other c s d w k (λ g. none-some c (sym f ∙ g)))) sound
 
-pub stays_sound : (c : ℕ) (s : State) (d : Done) (w : State) → Does s d w → Sound (session s c) → Sound (session w c)
-stays_sound c s (done.RealTime line bs t r) w k sound =
-    on_line c line s (done.RealTime line bs t r) w refl k
-    (λ h. hears_sound line s h RealTime bs.now t r.answer w r.buffer k) sound
-stays_sound c s (done.Recovery line bs t r) w k sound =
-    on_line c line s (done.Recovery line bs t r) w refl k
-    (λ h. hears_sound line s h Recovery bs.now t r.answer w r.buffer k) sound
+pub stays_sound : (c : ℕ) (s : State) (d : Done) (w : State) → Turns s d w → Sound (session s c) → Sound (session w c)
+stays_sound c s (done.RealTime line bs t r) w (spare, k) sound =
+    on_line c line s (done.RealTime line bs t r) w refl (spare, k)
+    (λ h. hears_sound line s h RealTime bs.now t spare r.answer w r.buffer k) sound
+stays_sound c s (done.Recovery line bs t r) w (spare, k) sound =
+    on_line c line s (done.Recovery line bs t r) w refl (spare, k)
+    (λ h. hears_sound line s h Recovery bs.now t spare r.answer w r.buffer k) sound
 stays_sound c s (done.Step t r) w k sound = on_none c s (done.Step t r) w refl k sound
 stays_sound c s (done.CancelTrade n t r) w k sound = on_none c s (done.CancelTrade n t r) w refl k sound
-stays_sound c s (done.LineLost line t r) w k sound =
-    on_line c line s (done.LineLost line t r) w refl k (λ h. closing Sound line s t r w h (shut_sound line s h) k) sound
-stays_sound c s (done.Send line r) w k sound =
-    on_line c line s (done.Send line r) w refl k (λ h. sends_sound line s h r.answer w r.buffer k) sound
-stays_sound c s (done.SendRecovered line r) w k sound =
-    on_line c line s (done.SendRecovered line r) w refl k (λ h. recovers_sound line s h r.answer w r.buffer k) sound
+stays_sound c s (done.LineLost line t r) w (spare, k) sound =
+    on_line c line s (done.LineLost line t r) w refl (spare, k)
+    (λ h. closing Sound line s t r w h (shut_sound line s h) k) sound
+stays_sound c s (done.Send line r) w (spare, k) sound =
+    on_line c line s (done.Send line r) w refl (spare, k) (λ h. sends_sound line s h r.answer w r.buffer k) sound
+stays_sound c s (done.SendRecovered line r) w (spare, k) sound =
+    on_line c line s (done.SendRecovered line r) w refl (spare, k)
+    (λ h. recovers_sound line s h r.answer w r.buffer k) sound

@@ -9,6 +9,7 @@ use Rattle.changes.specs.declared.change.Change.{Change}
 use Rattle.changes.specs.declared.change.Change.TheVariants.{Accept}
 use Rattle.keyed.proofs.Under.{none-some, under-others}
 use Rattle.keyed.specs.Numbers.{under, put_under}
+use Rattle.line.proofs.Fitting.{Alters}
 use Rattle.line.specs.Conservation.{Move, Moves, Moved, of}
 use Rattle.orders.specs.Rows.{accepted, orderable}
 use Rattle.orders.specs.declared.row.Ask.{Ask}
@@ -56,10 +57,6 @@ there (y ∷ ys) (suc i) b x e = there ys i b x e
 pub put_there : (xs : List Row) (n : ℕ) (b x : Row) → under xs n ≡ Some b → under (put_under xs n x) n ≡ Some x
 put_there xs zero b x e = none-some b e
 put_there xs (suc n) b x e = there xs n b x e
-
--- a change that makes no order of nothing
-abbrev pub Alters : Change → Type 0
-Alters c = (n : ℕ) → after n c None ≡ None
 
 rewrites : (p : Move → Type 0) (is : List Instrument) (t : Time) (n : ℕ) (c : Change) (l : Ledger) (b o : Option Row)
     → Alters c → p (n, c) → under l.rows n ≡ b → after n c b ≡ o

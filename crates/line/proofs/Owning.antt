@@ -27,7 +27,7 @@ use Rattle.store.specs.Kept.{Kept}
 use Rattle.texts.specs.declared.values.Time.{Time}
 use Rattle.venue.proofs.Recording.{same_or_apart, appended-here, appended-apart}
 use Rattle.venue.specs.Ledger.{Ledger, appended, entries_of, told_at, told_in, rewritten}
-use Rattle.venue.specs.Steps.{ledger_of}
+use Rattle.venue.specs.Acts.{ledger_of}
 
 -- ---- a change keeps the terms
 

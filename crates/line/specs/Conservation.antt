@@ -8,7 +8,7 @@ use Rattle.changes.specs.declared.change.Change.TheVariants.{Accept, Replace, Wi
 use Rattle.gateway.specs.State.{State}
 use Rattle.gateway.specs.declared.fault.GatewayFault.{GatewayFault}
 use Rattle.keyed.specs.Numbers.{under}
-use Rattle.line.specs.Runs.{Does}
+use Rattle.line.specs.Runs.{Turns}
 use Rattle.call.specs.declared.venue_side.Done.{Done}
 use Rattle.call.specs.declared.venue_side.Done.TheVariants as done
 use Rattle.orders.specs.declared.row.Row.{Row}
@@ -73,7 +73,7 @@ abbrev pub Made : State → List Done → State → List Move → Type 0
 Made s [] w ms = (w ≡ s) × (ms ≡ [])
 Made s (d ∷ ds) w ms =
     (x : State) × (now : List Move) × (later : List Move)
-    × Does s d x × Moved s.venue.rows now x.venue.rows × AllByRecursion (May s d) now × Made x ds w later
+    × Turns s d x × Moved s.venue.rows now x.venue.rows × AllByRecursion (May s d) now × Made x ds w later
     × (ms ≡ later ++ now)
 
 -- those of one order

@@ -4,7 +4,7 @@ use Rattle.codes.specs.declared.session.Partition.{Partition}
 use Rattle.gateway.specs.Hearing.{firm}
 use Rattle.gateway.specs.State.{State, session}
 use Rattle.keyed.specs.Numbers.{under}
-use Rattle.line.specs.Runs.{Does}
+use Rattle.line.specs.Runs.{Turns}
 use Rattle.call.specs.declared.venue_side.Done.{Done}
 use Rattle.call.specs.declared.venue_side.Done.TheVariants as done
 use Rattle.orders.specs.declared.row.Row.{Row}
@@ -12,8 +12,8 @@ use Rattle.partitions.specs.PerPartition.{at}
 use Rattle.reports.specs.declared.report.Entry.{Entry}
 use Rattle.sessions.specs.Laws.{Grown}
 use Rattle.venue.specs.Ledger.{Ledger}
-use Rattle.venue.specs.Steps.{ledger_of}
-use Rattle.venue.specs.View.{Sound}
+use Rattle.venue.specs.Acts.{ledger_of}
+use Rattle.venue.specs.Books.{Sound}
 
 -- the line that a call is made on
 abbrev pub line_of : Done → Option ℕ
@@ -27,7 +27,7 @@ line_of (done.SendRecovered line r) = Some line
 
 -- a call on one line leaves the sessions of all others as they were, and one on none all of them
 abbrev pub LinesApart : Type 0
-LinesApart = (s : State) (d : Done) (w : State) (k : ℕ) → Does s d w → line_of d ≢ Some k → session w k ≡ session s k
+LinesApart = (s : State) (d : Done) (w : State) (k : ℕ) → Turns s d w → line_of d ≢ Some k → session w k ≡ session s k
 
 -- whether the caller was refused
 abbrev pub is_refused : Done → Bool
@@ -41,12 +41,12 @@ is_refused (done.SendRecovered line r) = is_err r.answer
 
 -- a refused call changes nothing
 abbrev pub RefusedStand : Type 0
-RefusedStand = (s : State) (d : Done) (w : State) → Does s d w → is_refused d ≡ true → w ≡ s
+RefusedStand = (s : State) (d : Done) (w : State) → Turns s d w → is_refused d ≡ true → w ≡ s
 
 -- in each partition reports are only appended: each keeps its number, and the next takes the next
 abbrev pub OnlyAppends : Type 0
 OnlyAppends =
-    (s : State) (d : Done) (w : State) → Does s d w → (p : Partition) → Grown (at s.venue.kept p) (at w.venue.kept p)
+    (s : State) (d : Done) (w : State) → Turns s d w → (p : Partition) → Grown (at s.venue.kept p) (at w.venue.kept p)
 
 -- each order and each report is of one of so many lines
 pub record OfLines (lines : ℕ) (l : Ledger) : Type 0 where
@@ -58,7 +58,7 @@ abbrev pub Owned : State → Type 0
 Owned s = OfLines (length s.lines) (ledger_of s.venue)
 
 abbrev pub StayOwned : Type 0
-StayOwned = (s : State) (d : Done) (w : State) → Does s d w → Owned s → Owned w
+StayOwned = (s : State) (d : Done) (w : State) → Turns s d w → Owned s → Owned w
 
 -- an order, if there is one, is of the firm of a line's CompID
 abbrev pub FirmOf : State → ℕ → Option Row → Type 0
@@ -68,5 +68,5 @@ FirmOf s line (Some r) = firm s r.terms.owner ≡ firm s line
 -- a call on a line leaves the orders of all other firms as they were
 abbrev pub FirmsApart : Type 0
 FirmsApart =
-    (s : State) (d : Done) (w : State) (line n : ℕ) (r : Row) → Sound s.venue → Does s d w → line_of d ≡ Some line
+    (s : State) (d : Done) (w : State) (line n : ℕ) (r : Row) → Sound s.venue → Turns s d w → line_of d ≡ Some line
     → under s.venue.rows n ≡ Some r → firm s r.terms.owner ≢ firm s line → under w.venue.rows n ≡ Some r

@@ -2,8 +2,9 @@
 use Rattle.std.specs.Prelude.{◌≡◌, ℕ, List, [], ◌∷◌, length, take, replicate, Ok, Err, Result}
 use Rattle.wire.specs.declared.message.TheConstants.{BUFFER}
 use Rattle.gateway.specs.Calls.{Steps, Undoes, Loses, Sends, Recovers}
-use Rattle.gateway.specs.Hearing.{Hears}
-use Rattle.gateway.specs.State.{State}
+use Rattle.gateway.specs.Doing.{Comes, Stays, acted}
+use Rattle.gateway.specs.Hearing.{Given, Hears}
+use Rattle.gateway.specs.State.{State, venue_of}
 use Rattle.gateway.specs.Telling.{SendTold, RecoverTold}
 use Rattle.gateway.specs.declared.fault.GatewayFault.{GatewayFault}
 use Rattle.call.specs.declared.venue_side.Call.{Call}
@@ -11,8 +12,13 @@ use Rattle.call.specs.declared.venue_side.Call.TheVariants as call
 use Rattle.call.specs.declared.venue_side.Done.{Done}
 use Rattle.call.specs.declared.venue_side.Done.TheVariants as done
 use Rattle.call.specs.declared.venue_side.Reply.{Reply}
+use Rattle.matching.specs.Asked.{Asked}
+use Rattle.requests.specs.Deciding.{spare}
+use Rattle.sessions.specs.declared.session.Channel.{Channel}
 use Rattle.sessions.specs.declared.session.Channel.TheVariants.{RealTime, Recovery}
-use Rattle.venue.specs.View.{Sound}
+use Rattle.texts.specs.declared.values.Time.{Time}
+use Rattle.venue.specs.Acts.{Act}
+use Rattle.venue.specs.Books.{Over, Sound}
 
 -- the call that was made
 abbrev pub call_of : Done → Call
@@ -36,15 +42,31 @@ left (Err e) buffer = []
 abbrev pub bytes_of : Reply → List ℕ
 bytes_of r = left r.answer r.buffer
 
--- one call, as its contract has it
-abbrev pub Does : State → Done → State → Type 0
-Does s (done.RealTime line m t r) w = Hears RealTime line m.now t s blank r.answer w r.buffer
-Does s (done.Recovery line m t r) w = Hears Recovery line m.now t s blank r.answer w r.buffer
-Does s (done.Step t r) w = Steps t s r w
-Does s (done.CancelTrade n t r) w = Undoes n t s r w
-Does s (done.LineLost line t r) w = Loses line t s r w
-Does s (done.Send line r) w = Sends line s blank r.answer w r.buffer
-Does s (done.SendRecovered line r) w = Recovers line s blank r.answer w r.buffer
+-- a message given on a channel, with nothing written to the buffer and so many spare places
+abbrev pub giving : Channel → ℕ → List ℕ → Time → ℕ → Given
+giving ch line m t spare =
+    record { channel = ch; line = line; bytes = m; time = t; buffer = blank; spare = spare }
+
+-- what came back of a call, as its contract has it, where `goes t u acts` says that the state is u and that these acts
+-- are then done at t, and `stays u` that it is u and that nothing is done
+abbrev pub Makes : (Time → State → List Act → Type 0) → (State → List Act → Type 0) → ℕ → State → Done → Type 0
+Makes goes stays spare s (done.RealTime line m t r) =
+    Hears (goes t) (giving RealTime line m.now t spare) s r.answer r.buffer
+Makes goes stays spare s (done.Recovery line m t r) =
+    Hears (goes t) (giving Recovery line m.now t spare) s r.answer r.buffer
+Makes goes stays spare s (done.Step t r) = Steps (goes t) spare s r
+Makes goes stays spare s (done.CancelTrade n t r) = Undoes (goes t) n spare s r
+Makes goes stays spare s (done.LineLost line t r) = Loses (goes t) line s r
+Makes goes stays spare s (done.Send line r) = Sends stays line s blank r.answer r.buffer
+Makes goes stays spare s (done.SendRecovered line r) = Recovers stays line s blank r.answer r.buffer
+
+-- one call: the matcher is asked exactly what its acts ask
+abbrev pub Does : {M : Type 0} → (M → Asked → M → Type 0) → Over State M → Done → Over State M → Type 0
+Does did x d y = Makes (λ t. Comes did t x y) (Stays x y) (spare (venue_of x)) x.state d
+
+-- and what it makes of the state alone
+abbrev pub Turns : State → Done → State → Type 0
+Turns s d w = (spare : ℕ) × Makes (λ t u acts. w ≡ acted t acts u) (λ u acts. w ≡ u) spare s d
 
 -- what a follower reads from the bytes of a call that hands out
 abbrev pub Tells : State → Done → Type 0
@@ -53,6 +75,6 @@ Tells s (done.SendRecovered line r) = RecoverTold (length blank) line s
 Tells s x = Unit {0}
 
 -- calls made in turn; after each the gateway keeps what it is to keep
-abbrev pub Runs : State → List Done → State → Type 0
-Runs s [] w = w ≡ s
-Runs s (d ∷ ds) w = (x : State) × Does s d x × Sound x.venue × Runs x ds w
+abbrev pub Runs : {M : Type 0} → (M → Asked → M → Type 0) → Over State M → List Done → Over State M → Type 0
+Runs did x [] y = y ≡ x
+Runs {M} did x (d ∷ ds) y = (z : Over State M) × Does did x d z × Sound z.state.venue × Runs did z ds y

@@ -2,7 +2,6 @@
 ghost use Rattle.line.specs.Laws.{FirmsApart, LinesApart, RefusedStand, OnlyAppends, StayOwned};
 
 /// A call on one line changes no other line's session.
-#[tactic(auto, using(crate::proofs::Lines::lines_apart))]
 pub fn lines_stay_apart()
     ensures { LinesApart }
 {}
@@ -19,14 +18,12 @@ pub fn reports_are_only_appended()
 {}
 
 /// Each order's and each report's owner is a configured line.
-#[tactic(auto, using(crate::proofs::Owning::stay_owned))]
 pub fn owners_are_lines()
     ensures { StayOwned }
 {}
 
 /// A call on a line changes no order of another firm: only the matcher's events and a trade that is cancelled reach
 /// across firms.
-#[tactic(auto, using(crate::proofs::Firms::firms_apart))]
 pub fn firms_stay_apart()
     ensures { FirmsApart }
 {}

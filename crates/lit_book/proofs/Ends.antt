@@ -5,7 +5,6 @@ use Rattle.std.proofs.lemmas.Bool.{both_ways, cases_lt, cond-false, cond-true, e
 use Rattle.std.specs.List.{slice_get}
 use Rattle.matching.specs.declared.event.Event.{Event}
 use Rattle.matching.specs.declared.event.Event.TheVariants.{Nothing, Expired, Trade}
-use Rattle.matching.specs.Meaning.{Quiet}
 use Rattle.lit_book.specs.declared.order.Order.{Order}
 use Rattle.lit_book.specs.Orders.{with_quantity}
 use Rattle.lit_book.specs.Laws.{Enough, Idle, after_events, open_orders}
@@ -155,15 +154,6 @@ idle xs ys k j e f g =
     let s = stop b.resting b.waiting in
     subst (λ (x : Event). Idle x (lists ys j)) (sym f)
     (subst (Idle (next b).0) (sym g) (idle_of s.at_rest s.in_wait (next b) s.ends))
-
-quiet_of : (e : Event) (b : Lit) → Idle e b → Quiet e (next b).0
-quiet_of Nothing b h = ap (λ (x : Event × Lit). x.0) (next_idle b (ap (λ (l : List Order). slice_get l 0) h))
-quiet_of (Expired n) b h = tt
-quiet_of (Trade p a q x) b h = tt
-
-pub quiet : (xs ys : List Order) (k j : ℕ) (e : Event) → e ≡ (next (lists xs k)).0 → lists ys j ≡ (next (lists xs k)).1
-    → Quiet e (next (lists ys j)).0
-quiet xs ys k j e f g = quiet_of e (lists ys j) (idle xs ys k j e f g)
 
 pub all_counted : (xs : List Order) (k n : ℕ) → n ≡ length xs → k ≤ length xs → n
     ≡ length (take k xs) + length (drop k xs)

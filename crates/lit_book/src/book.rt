@@ -285,17 +285,16 @@ impl LitBook {
 // Beside the trait's contract each call says what it does to the orders that rest and the orders that wait, by the
 // rules of the book.
 impl Matcher for LitBook {
-    ghost use Rattle.std.specs.Prelude.{◌≡◌, OnErr, is_ok, if◌then◌else◌, None};
+    ghost use Rattle.std.specs.Prelude.{◌≡◌, OnErr, OnOk, is_ok, if◌then◌else◌, None};
+    ghost use Rattle.matching.specs.Asked.{Enter, Cancel, Amend, Next};
     ghost use Rattle.std.specs.Result.{result_err};
-    ghost use Rattle.matching.specs.Meaning.{Allowed, Quiet, amend_refusal, cancel_refusal, closed, enter_refusal, happened, held_of, opened, resized};
-    ghost use Rattle.lit_book.specs.Books.{lit, lit_bounded, lit_meaning, lit_next};
+    ghost use Rattle.matching.specs.Meaning.{Allowed, amend_refusal, cancel_refusal, closed, enter_refusal, happened, held_of, opened, resized};
+    ghost use Rattle.lit_book.specs.Books.{LitDid, lit, lit_bounded, lit_meaning};
     ghost use Rattle.lit_book.specs.Laws.{Fair, Idle, Served, Uncrossed};
-    ghost use Rattle.lit_book.specs.Rules as rules;
-    ghost use Rattle.lit_book.specs.Rules.{altered, amended, entered, order_of, order_under};
 
     ghost meaning = { lit_meaning };
 
-    ghost next = { lit_next };
+    ghost Did = { LitDid };
 
     ghost bounded = { lit_bounded };
 
@@ -304,9 +303,8 @@ impl Matcher for LitBook {
         ensures refusal { result_err result ≡ enter_refusal (lit_meaning self.old) number terms.quantity }
         ensures after { lit_meaning self.new ≡ (if is_ok result
             then opened (lit_meaning self.old) number (held_of terms) else lit_meaning self.old) }
-        ensures kept { OnErr result (lit_next self.new ≡ lit_next self.old) }
-        ensures lists { lit self.new ≡ (if is_ok result then entered (lit self.old) (order_of number terms)
-            else lit self.old) }
+        ensures did { OnOk result (LitDid self.old (Enter number terms) self.new) }
+        ensures same { OnErr result (lit self.new ≡ lit self.old) }
     {
         if terms.quantity == 0 {
             return Err(Refusal::NoQuantity);
@@ -325,8 +323,8 @@ impl Matcher for LitBook {
         ensures refusal { result_err result ≡ cancel_refusal (lit_meaning self.old) number }
         ensures after { lit_meaning self.new ≡ (if is_ok result then closed (lit_meaning self.old) number
             else lit_meaning self.old) }
-        ensures kept { OnErr result (lit_next self.new ≡ lit_next self.old) }
-        ensures lists { lit self.new ≡ (if is_ok result then altered (lit self.old) number None else lit self.old) }
+        ensures did { OnOk result (LitDid self.old (Cancel number) self.new) }
+        ensures same { OnErr result (lit self.new ≡ lit self.old) }
     {
         let i = self.find(number).ok_or(Refusal::NotOpen)?;
         self.remove(i, number);
@@ -337,9 +335,8 @@ impl Matcher for LitBook {
         ensures refusal { result_err result ≡ amend_refusal (lit_meaning self.old) number quantity }
         ensures after { lit_meaning self.new ≡ (if is_ok result then resized (lit_meaning self.old) number quantity
             else lit_meaning self.old) }
-        ensures kept { OnErr result (lit_next self.new ≡ lit_next self.old) }
-        ensures lists { lit self.new ≡ (if is_ok result
-            then amended (lit self.old) (order_under (lit self.old) number) quantity price else lit self.old) }
+        ensures did { OnOk result (LitDid self.old (Amend number quantity price) self.new) }
+        ensures same { OnErr result (lit self.new ≡ lit self.old) }
     {
         let i = self.find(number).ok_or(Refusal::NotOpen)?;
         if quantity == 0 {
@@ -349,13 +346,11 @@ impl Matcher for LitBook {
         Ok(())
     }
 
-    #[tactic(auto, using(crate::proofs::Nexts::none_waits, crate::proofs::Nexts::idle_event, crate::proofs::Nexts::idle_lists, crate::proofs::Fairs::fair, crate::proofs::Fairs::served, crate::proofs::Fairs::uncrossed, crate::proofs::Ends::idle, crate::proofs::Ends::quiet))]
+    #[tactic(auto, using(crate::proofs::Nexts::none_waits, crate::proofs::Nexts::idle_event, crate::proofs::Nexts::idle_lists, crate::proofs::Fairs::fair, crate::proofs::Fairs::served, crate::proofs::Fairs::uncrossed, crate::proofs::Ends::idle))]
     fn next_event(&mut self) -> Event
-        ensures answer { result ≡ lit_next self.old }
         ensures allowed { Allowed (lit_meaning self.old).orders result }
         ensures after { lit_meaning self.new ≡ happened (lit_meaning self.old) result }
-        ensures quiet { Quiet result (lit_next self.new) }
-        ensures lists { lit self.new ≡ (rules.next (lit self.old)).1 }
+        ensures did { LitDid self.old (Next result) self.new }
         ensures fair { Fair (lit self.old) result }
         ensures served { Served (lit self.old) result }
         ensures uncrossed { Uncrossed (lit self.new).resting }

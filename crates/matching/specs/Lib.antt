@@ -1,3 +1,4 @@
+pub mod Asked
 pub mod Meaning
 pub mod TapeRows
 pub mod Tapes

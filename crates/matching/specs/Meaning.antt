@@ -104,9 +104,3 @@ abbrev pub happened : Meaning → Event → Meaning
 happened m Nothing = m
 happened m (Expired n) = closed m n
 happened m (Trade p a q price) = filled (filled m q p) q a
-
--- after no event there is none, until the next call
-abbrev pub Quiet : Event → Event → Type 0
-Quiet Nothing e = e ≡ Nothing
-Quiet (Expired n) e = Unit {0}
-Quiet (Trade p a q price) e = Unit {0}

@@ -10,6 +10,7 @@ use Rattle.matching.specs.declared.tape.Row.{Row}
 use Rattle.matching.specs.declared.tape.Tape.{Tape}
 use Rattle.matching.specs.declared.tape.TheConstants.{CAPACITY}
 use Rattle.matching.specs.Meaning.{Allowed, Meaning, Orders, open_quantity}
+use Rattle.matching.specs.Asked.{Asked, Enter, Cancel, Amend, Next}
 use Rattle.matching.specs.TapeRows.{FoundRow, orders_of, row_held, row_number}
 
 -- such orders, of either book
@@ -36,8 +37,12 @@ abbrev pub played : Orders → List Line → Event × List Line
 played os [] = (Nothing, [])
 played os (l ∷ ls) = if fits os l then (trade l, ls) else played os ls
 
-abbrev pub tape_next : Tape → Event
-tape_next t = (played (tape_meaning t).orders (ahead t)).0
+-- what comes of a call: the next event is the first line that fits, and no other call moves the lines ahead
+abbrev pub TapeDid : Tape → Asked → Tape → Type 0
+TapeDid t (Next e) u = played (tape_meaning t).orders (ahead t) ≡ (e, ahead u)
+TapeDid t (Enter n terms) u = ahead u ≡ ahead t
+TapeDid t (Cancel n) u = ahead u ≡ ahead t
+TapeDid t (Amend n q price) u = ahead u ≡ ahead t
 
 -- what the search for the next line finds: nothing to play, or a line and the place of its order
 abbrev pub NextLine : Orders → List Row → Event → Option (ℕ × Line) → Type 0

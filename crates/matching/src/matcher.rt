@@ -1,15 +1,15 @@
 // The trait of a matching engine. Its meaning is which order numbers are open, each with its instrument and its open
 // quantity, together with what the engine states of itself: how many orders it takes and which books it serves.
 //
-// Every contract gives the whole meaning after the call, so what it does not name stays. Beside its meaning an engine
-// has a next event. Which one that is, is its own to choose at each call, so code above is proved for every engine; but
-// whoever asks for it gets that one.
-ghost use Rattle.std.specs.Prelude.{◌≡◌, ◌≤◌, Some, OnErr, is_some, is_ok, if◌then◌else◌, ◌==◌};
+// Every contract gives the whole meaning after the call, so what it does not name stays. Which event comes next is the
+// engine's own to choose at each call, so code above is proved for every engine. What more an engine states of its steps
+// is its choice, too: it says so in its `Did`, and one that says nothing writes no line for it.
+ghost use Rattle.std.specs.Prelude.{◌≡◌, ◌≤◌, Some, OnOk, is_some, is_ok, if◌then◌else◌, ◌==◌};
 ghost use Rattle.std.specs.FinMap.{get, len};
 ghost use Rattle.std.specs.Result.{result_err};
-ghost use Rattle.matching.specs.Meaning.{Allowed, Meaning, Quiet, amend_refusal, cancel_refusal, closed, enter_refusal, happened, held_of, open_quantity, opened, resized, serves};
+ghost use Rattle.matching.specs.Meaning.{Allowed, Meaning, amend_refusal, cancel_refusal, closed, enter_refusal, happened, held_of, open_quantity, opened, resized, serves};
+ghost use Rattle.matching.specs.Asked.{Asked, Enter, Cancel, Amend, Next};
 ghost use Rattle.matching.specs.Texts.{refusal_text};
-ghost use Rattle.matching.specs.declared.event.Event.{Event as Happening};
 
 use crate::event::Event;
 use codes::order::{Book, Side};
@@ -73,11 +73,12 @@ impl fmt::Display for Refusal {
     }
 }
 
-/// A matching engine. Whoever calls it knows it by its meaning and its next event.
+/// A matching engine. Whoever calls it knows it by its meaning, and knows that it was asked.
 pub trait Matcher {
     ghost meaning: { Self → Meaning };
 
-    ghost next: { Self → Happening };
+    // what may come of a call that is done: the engine before it, the call, the engine after it
+    ghost Did: { Self → Asked → Self → Type 0 } = { λ _ _ _. Unit {0} };
 
     /// Opens an order under a number. Refused exactly at quantity 0, an open number or a full engine, tried in this
     /// order.
@@ -85,13 +86,13 @@ pub trait Matcher {
         ensures refusal { result_err result ≡ enter_refusal (meaning self.old) number terms.quantity }
         ensures after { meaning self.new ≡ (if is_ok result then opened (meaning self.old) number (held_of terms)
             else meaning self.old) }
-        ensures kept { OnErr result (next self.new ≡ next self.old) };
+        ensures did { OnOk result (Did self.old (Enter number terms) self.new) };
 
     /// Ends an open order. Refused exactly where it is not open.
     fn cancel(&mut self, number: u64) -> Result<(), Refusal>
         ensures refusal { result_err result ≡ cancel_refusal (meaning self.old) number }
         ensures after { meaning self.new ≡ (if is_ok result then closed (meaning self.old) number else meaning self.old) }
-        ensures kept { OnErr result (next self.new ≡ next self.old) };
+        ensures did { OnOk result (Did self.old (Cancel number) self.new) };
 
     /// Sets the open quantity and the price of an open order. Refused exactly where it is not open, or the quantity is
     /// 0, tried in this order.
@@ -99,14 +100,13 @@ pub trait Matcher {
         ensures refusal { result_err result ≡ amend_refusal (meaning self.old) number quantity }
         ensures after { meaning self.new ≡ (if is_ok result then resized (meaning self.old) number quantity
             else meaning self.old) }
-        ensures kept { OnErr result (next self.new ≡ next self.old) };
+        ensures did { OnOk result (Did self.old (Amend number quantity price) self.new) };
 
     /// The next event, and what it changes.
     fn next_event(&mut self) -> Event
-        ensures answer { result ≡ next self.old }
         ensures allowed { Allowed (meaning self.old).orders result }
         ensures after { meaning self.new ≡ happened (meaning self.old) result }
-        ensures quiet { Quiet result (next self.new) };
+        ensures did { Did self.old (Next result) self.new };
 
     /// The order that is open under a number, if one is.
     fn open_order(&self, number: u64) -> Option<Held>

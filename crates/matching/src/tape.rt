@@ -185,16 +185,17 @@ impl Tape {
     }
 }
 
-// Beside the trait's contract each call says what it does to the lines ahead, and the next event says which is played.
+// Beside the trait's contract each call says what it does to the lines ahead, and the next event is the first that fits.
 impl Matcher for Tape {
-    ghost use Rattle.std.specs.Prelude.{◌≡◌, ◌≤◌, OnErr, is_ok, if◌then◌else◌};
+    ghost use Rattle.std.specs.Prelude.{◌≡◌, ◌≤◌, OnOk, is_ok, if◌then◌else◌};
+    ghost use Rattle.matching.specs.Asked.{Enter, Cancel, Amend, Next};
     ghost use Rattle.std.specs.Result.{result_err};
-    ghost use Rattle.matching.specs.Meaning.{Allowed, Quiet, amend_refusal, cancel_refusal, closed, enter_refusal, happened, held_of, opened, resized};
-    ghost use Rattle.matching.specs.Tapes.{ahead, played, tape_bounded, tape_meaning, tape_next};
+    ghost use Rattle.matching.specs.Meaning.{Allowed, amend_refusal, cancel_refusal, closed, enter_refusal, happened, held_of, opened, resized};
+    ghost use Rattle.matching.specs.Tapes.{ahead, played, TapeDid, tape_bounded, tape_meaning};
 
     ghost meaning = { tape_meaning };
 
-    ghost next = { tape_next };
+    ghost Did = { TapeDid };
 
     ghost bounded = { tape_bounded };
 
@@ -203,7 +204,7 @@ impl Matcher for Tape {
         ensures refusal { result_err result ≡ enter_refusal (tape_meaning self.old) number terms.quantity }
         ensures after { tape_meaning self.new
             ≡ (if is_ok result then opened (tape_meaning self.old) number (held_of terms) else tape_meaning self.old) }
-        ensures kept { OnErr result (tape_next self.new ≡ tape_next self.old) }
+        ensures did { OnOk result (TapeDid self.old (Enter number terms) self.new) }
         ensures ahead { ahead self.new ≡ ahead self.old }
     {
         if terms.quantity == 0 {
@@ -227,7 +228,7 @@ impl Matcher for Tape {
         ensures refusal { result_err result ≡ cancel_refusal (tape_meaning self.old) number }
         ensures after { tape_meaning self.new
             ≡ (if is_ok result then closed (tape_meaning self.old) number else tape_meaning self.old) }
-        ensures kept { OnErr result (tape_next self.new ≡ tape_next self.old) }
+        ensures did { OnOk result (TapeDid self.old (Cancel number) self.new) }
         ensures ahead { ahead self.new ≡ ahead self.old }
     {
         let i = self.find(number).ok_or(Refusal::NotOpen)?;
@@ -240,7 +241,7 @@ impl Matcher for Tape {
         ensures refusal { result_err result ≡ amend_refusal (tape_meaning self.old) number quantity }
         ensures after { tape_meaning self.new
             ≡ (if is_ok result then resized (tape_meaning self.old) number quantity else tape_meaning self.old) }
-        ensures kept { OnErr result (tape_next self.new ≡ tape_next self.old) }
+        ensures did { OnOk result (TapeDid self.old (Amend number quantity _price) self.new) }
         ensures ahead { ahead self.new ≡ ahead self.old }
     {
         let i = self.find(number).ok_or(Refusal::NotOpen)?;
@@ -251,13 +252,10 @@ impl Matcher for Tape {
         Ok(())
     }
 
-    #[tactic(auto, using(crate::proofs::Plays::trade_quiet))]
     fn next_event(&mut self) -> Event
-        ensures answer { result ≡ tape_next self.old }
         ensures allowed { Allowed (tape_meaning self.old).orders result }
         ensures after { tape_meaning self.new ≡ happened (tape_meaning self.old) result }
-        ensures quiet { Quiet result (tape_next self.new) }
-        ensures ahead { ahead self.new ≡ (played (tape_meaning self.old).orders (ahead self.old)).1 }
+        ensures did { TapeDid self.old (Next result) self.new }
     {
         match self.next_line() {
             Some((i, line)) => self.play(i, line),

@@ -1,15 +1,12 @@
 -- The order that a request names stands under its number. Assumes nothing.
-use Rattle.std.specs.Prelude.{find, reverse, is_some, is_none, not}
-use Rattle.changes.specs.Changes.{after, where_allowed}
-use Rattle.changes.specs.declared.change.Change.TheVariants.{Replace}
+use Rattle.std.specs.Prelude.{find, reverse, is_none, not}
 use Rattle.orders.specs.Orders.{replace_fault}
-use Rattle.orders.specs.Rows.{orderable, replaced}
+use Rattle.orders.specs.Rows.{orderable}
 use Rattle.orders.specs.declared.order.ReplaceRefusal.TheVariants.{NotOpen, BadQuantity, NotAboveExecuted}
 use Rattle.orders.specs.declared.row.Ask.{Ask}
-use Rattle.venue.specs.Steps.{Replaceable}
 use Rattle.std.proofs.lemmas.List.{reverse-append}
 use Rattle.std.proofs.lemmas.List.Folds.{find-append}
-use Rattle.std.proofs.lemmas.Bool.{and_parts, eqb-true, lt-ltb}
+use Rattle.std.proofs.lemmas.Bool.{and_parts, eqb-true}
 use Rattle.std.proofs.Common.{◌≡◌, Bool, cond, false, ℕ, suc, ◌+◌, ◌<◌, true, ◌&&◌, eqb, leb, List, [], ◌∷◌, Some, None, Option, sym, ap, ◌∙◌, arith}
 use Rattle.std.specs.List.{slice_get}
 use Rattle.std.specs.Option.{option_or}
@@ -24,8 +21,7 @@ use Rattle.requests.specs.Naming.{found}
 use Rattle.texts.specs.Bytes.{said}
 use Rattle.texts.specs.declared.fixed.FixedText.{FixedText}
 use Rattle.texts.specs.declared.identifiers.OrderId.{OrderId}
-use Rattle.matching.specs.declared.matcher.Held.{Held}
-use Rattle.venue.specs.View.{View, Sound, IsOpen, open_of}
+use Rattle.venue.specs.Books.{Books, Sound}
 
 parts : (n : ℕ) (r : Row) (rs : List Row) → kept_from n (r ∷ rs) ≡ true → (r.number ≡ n) × (kept_from (suc n) rs ≡ true)
 unfolding kept_from
@@ -75,20 +71,14 @@ rows_found rs line (Some i) original r h e =
     ap (under rs) (kept_at rs i.number r h f).0 ∙ f
 rows_found rs line None original r h e = under_number rs r (from_back (goes_by line (said original.bytes)) 1 rs r h e)
 
-pub named_there : (v : View) (line : ℕ) (i : Option OrderId) (original : FixedText 20) (r : Row) → Sound v → Some r
-    ≡ found line i original v.rows → under v.rows r.number ≡ Some r
-named_there v line i original r s e = rows_found v.rows line i original r s.recorded.numbered (sym e)
+pub named_there : (b : Books) (line : ℕ) (i : Option OrderId) (original : FixedText 20) (r : Row) → Sound b → Some r
+    ≡ found line i original b.rows → under b.rows r.number ≡ Some r
+named_there b line i original r s e = rows_found b.rows line i original r s.recorded.numbered (sym e)
 
--- it is open
-pub opened : (v : View) (r : Row) → under v.rows r.number ≡ Some r → 0 < r.leaves → IsOpen v r.number
-opened v r e l =
-    let held : Held = record { instrument = r.terms.instrument; quantity = r.leaves } in
-    ap (λ o. is_some (open_of o)) e ∙ ap (λ b. is_some (cond {A = Option Held} b (Some held) None)) (lt-ltb _ _ l)
-
--- and may be replaced
-allowed : (r : Row) (a : Ask) → 0 < r.leaves → orderable a.quantity ≡ true → r.executed < a.quantity
+-- it may be replaced
+pub replaceable : (r : Row) (a : Ask) → 0 < r.leaves → orderable a.quantity ≡ true → r.executed < a.quantity
     → is_none (replace_fault a.quantity r) ≡ true
-allowed r a l o x =
+replaceable r a l o x =
     let open_ : eqb r.leaves 0 ≡ false = Prim.grind arith in
     let more : leb a.quantity r.executed ≡ false = Prim.grind arith in
     ap (λ b. is_none (cond b (Some NotOpen) (cond (not (orderable a.quantity)) (Some BadQuantity)
@@ -96,9 +86,3 @@ allowed r a l o x =
     ∙ ap (λ b. is_none (cond (not b) (Some BadQuantity)
     (cond (leb a.quantity r.executed) (Some NotAboveExecuted) None))) o
     ∙ ap (λ b. is_none (cond b (Some NotAboveExecuted) None)) more
-
-pub replaceable : (v : View) (r : Row) (a : Ask) → under v.rows r.number ≡ Some r → 0 < r.leaves → orderable a.quantity
-    ≡ true → r.executed < a.quantity → Replaceable v r.number a
-replaceable v r a e l o x =
-    ap (λ b. is_some (after r.number (Replace a) b)) e ∙ ap (λ b. is_some (where_allowed b (replaced a r)))
-    (allowed r a l o x)

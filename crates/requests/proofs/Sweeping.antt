@@ -1,98 +1,113 @@
--- Steps after steps: reports that touch no order, and withdrawals behind them. Assumes nothing.
-use Rattle.std.specs.Prelude.{nat_lt}
-use Rattle.std.proofs.Common.{◌≡◌, ℕ, ◌+◌, ◌-◌, ◌≤◌, Bool, true, false, cond, List, Some, Ok, sym, refl, ap, ◌∙◌, subst, arith}
-use Rattle.codes.specs.declared.order.Book.{Book}
-use Rattle.matching.specs.Meaning.{serves}
-use Rattle.order_messages.specs.declared.order_mass_cancel_request.OrderMassCancelRequest.{OrderMassCancelRequest}
-use Rattle.texts.specs.Says.{kept}
-use Rattle.requests.specs.MassCancels.{accepted, refused, told_everywhere, swept, of_instrument, in_all, in_instrument}
-use Rattle.requests.specs.Outcomes.{Outcome, Gives, spare}
-use Rattle.requests.specs.Outcomes.Outcome.{Refused, Done}
-use Rattle.requests.specs.declared.listing.Listing.{Listing}
-use Rattle.refusals.specs.declared.Turned.TheVariants.{NoPlace}
-use Rattle.texts.specs.declared.fixed.FixedText.{FixedText}
-use Rattle.codes.specs.declared.session.Partition.{Partition}
+-- Open orders withdrawn in turn. Assumes nothing.
+use Rattle.std.proofs.Common.{◌≡◌, ℕ, zero, suc, ◌<◌, Bool, true, false, cond, List, [], ◌∷◌, ◌++◌, take, length, Some, None, Option, refl, sym, ap, ◌∙◌, subst, arith}
+use Rattle.std.specs.Prelude.{filter, map, slice_get}
+use Rattle.std.proofs.Math.Seq.{take-length}
+use Rattle.changes.specs.Changes.{after}
+use Rattle.changes.specs.declared.change.Change.{Change}
+use Rattle.changes.specs.declared.change.Change.TheVariants.{Withdraw}
+use Rattle.orders.specs.declared.row.Ending.TheVariants.{Cancelled, Expired}
 use Rattle.configuration.specs.declared.instrument.Instrument.{Instrument}
-use Rattle.orders.specs.Tables.{open_count}
+use Rattle.keyed.specs.Numbers.{under}
+use Rattle.keyed.proofs.Under.{under-others}
+use Rattle.matching.specs.Asked.{Asked}
+use Rattle.orders.proofs.Kept.{kept_at}
+use Rattle.orders.specs.Kept.{kept_from}
 use Rattle.orders.specs.declared.row.Row.{Row}
-use Rattle.reports.specs.declared.report.Entry.{Entry}
+use Rattle.requests.specs.Selection.{ended_for, withdrawal, withdrawals}
+use Rattle.requests.specs.declared.selection.Cause.{Cause}
+use Rattle.requests.specs.declared.selection.Cause.TheVariants.{Request, LineLost}
 use Rattle.texts.specs.declared.values.Time.{Time}
-use Rattle.venue.proofs.Withdrawing.{withdrawn_apart, withdrawn_free}
-use Rattle.venue.specs.Selection.{meant, withdrawn_all, Withdraws}
-use Rattle.venue.specs.Steps.{Leaves, noted}
-use Rattle.venue.specs.View.{View}
-use Rattle.venue.specs.declared.selection.Cause.{Cause}
-use Rattle.venue.specs.declared.selection.Cause.TheVariants.{Request}
+use Rattle.venue.proofs.Chains.{enacts_append, enacts_none}
+use Rattle.venue.specs.Acts.{enact, enact_all, ledger_of}
+use Rattle.venue.specs.Books.{Books, Over}
+use Rattle.venue.specs.Enacting.{Enacts}
+use Rattle.venue.specs.Ledger.{Ledger, rewritten}
 
--- one report more
-pub note_more : (told : ℕ) (p : Partition) (e : Entry) (u x y : View) → Leaves told u x → Leaves 1 (noted p e x) y
-    → Leaves (told + 1) (noted p e u) y
-note_more told p e u x y a b =
-    let (a-fell, a-most) = a.places in
-    let (b-fell, b-most) = b.places in
-    record {
-      state = b.state ∙ ap (λ (z : View). record (noted p e z) { free = y.free; next = y.next }) a.state;
-      places = (omega arith, omega arith);
-    }
+-- one order more
+one_more : (p : Row → Bool) (c : Cause) (k : ℕ) (xs : List Row) → withdrawals p c (take (suc k) xs)
+    ≡ withdrawals p c (take k xs) ++ withdrawal p c (slice_get xs k)
+one_more p c zero [] = refl
+one_more p c (suc k) [] = refl
+one_more p c zero (x ∷ xs) = go (p x)
+  where
+    go : (b : Bool) → map (ended_for c) (cond b (x ∷ []) []) ≡ cond b (ended_for c x ∷ []) []
+    go true = refl
+    go false = refl
+one_more p c (suc k) (x ∷ xs) = go (p x) (one_more p c k xs)
+  where
+    go : (b : Bool) → map (ended_for c) (filter p (take (suc k) xs))
+        ≡ map (ended_for c) (filter p (take k xs)) ++ withdrawal p c (slice_get xs k)
+        → map (ended_for c) (cond b (x ∷ filter p (take (suc k) xs)) (filter p (take (suc k) xs)))
+        ≡ map (ended_for c) (cond b (x ∷ filter p (take k xs)) (filter p (take k xs))) ++ withdrawal p c (slice_get xs k)
+    go true h = ap (λ acts. ended_for c x ∷ acts) h
+    go false h = h
 
--- withdrawals behind so many reports
-pub swept_after : (told : ℕ) (q : List Instrument → Row → Bool) (c : Cause) (t : Time) (v x w : View) → Leaves told v x
-    → Withdraws x (withdrawn_all (q x.instruments) c t x) w
-    → Leaves (told + (open_count v.rows - open_count (withdrawn_all (q v.instruments) c t v).rows))
-    (withdrawn_all (q v.instruments) c t v) w
-swept_after told q c t v x w a b =
-    let u = withdrawn_all (q v.instruments) c t v in
-    let same : withdrawn_all (q x.instruments) c t x ≡ record u { free = x.free; next = x.next } =
-    ap (λ (z : View). withdrawn_all (q z.instruments) c t z) a.state ∙ withdrawn_apart
-    (q v.instruments) c t v x.free x.next in
-    let state : w ≡ record u { free = w.free; next = w.next } = b.state ∙ ap
-    (λ (z : View). record z { free = w.free; next = w.next }) same in
-    let rows : open_count w.rows ≡ open_count u.rows = ap (λ (z : View). open_count z.rows) state in
-    let before : open_count x.rows ≡ open_count v.rows = ap (λ (z : View). open_count z.rows) a.state in
-    let free : u.free ≡ v.free = withdrawn_free (q v.instruments) c t v in
-    let fell = b.fell in
-    let places = b.places in
-    let (a-fell, a-most) = a.places in
-    record { state = state; places = (omega arith, omega arith) }
+-- a change of one order leaves the instruments and all other orders
+rewritten_apart : (t : Time) (n m : ℕ) (c : Change) (o : Option Row) (is : List Instrument) (l : Ledger) → (m ≡ n → ⊥)
+    → under (rewritten is t n c o l).rows m ≡ under l.rows m
+rewritten_apart t n m c None is l ne = refl
+rewritten_apart t n m c (Some r) is l ne = under-others l.rows n m r ne
 
--- a mass cancel of all partitions
-pub swept_all : (owner : ℕ → Bool) (within : List Instrument → Row → Bool) (line : ℕ) (m : OrderMassCancelRequest)
-    (t : Time) (v x w : View) (e : Entry) (k : FixedText 20) (s : ℕ)
-    → s + open_count v.rows ≡ v.free → 3 ≤ s → e ≡ accepted line m t → Leaves 3 (told_everywhere e v) x → k
-    ≡ kept m.client_order_id.text
-    → Withdraws x (withdrawn_all (meant owner (within x.instruments) false) (Request k) t x) w
-    → Gives (in_all owner (within v.instruments) line m t v) v (Ok tt) w
-swept_all owner within line m t v x w e k s spare-is enough entry told key b =
-    let v' = told_everywhere (accepted line m t) v in
-    let a : Leaves 3 v' x = subst (λ y. Leaves 3 (told_everywhere y v) x) entry told in
-    let c : Cause = Request (kept m.client_order_id.text) in
-    let b' : Withdraws x (withdrawn_all (meant owner (within x.instruments) false) c t x) w =
-    subst (λ y. Withdraws x (withdrawn_all (meant owner (within x.instruments) false) (Request y) t x) w) key b in
-    let l = swept_after 3 (λ is. meant owner (within is) false) c t v' x w a b' in
-    let many : 3 ≤ spare v = omega arith in
-    let room : nat_lt (spare v) 3 ≡ false = Prim.grind arith in
-    subst (λ y. Gives (cond y (Refused NoPlace) (swept 3 (meant owner (within v.instruments) false) m t v')) v
-    (Ok tt) w) (sym room) (refl, l)
+pub ended_apart : (t : Time) (c : Cause) (r : Row) (m : ℕ) (b : Books) → (m ≡ r.number → ⊥)
+    → under (enact t (ended_for c r) b).rows m ≡ under b.rows m
+ended_apart t (Request i) r m b ne =
+    let w = Withdraw Cancelled i in
+    rewritten_apart t r.number m w (after r.number w (under b.rows r.number)) b.instruments (ledger_of b) ne
+ended_apart t LineLost r m b ne =
+    let w = Withdraw Expired r.client in
+    rewritten_apart t r.number m w (after r.number w (under b.rows r.number)) b.instruments (ledger_of b) ne
 
--- a mass cancel of an instrument in a book that is served
-pub swept_one : (owner : ℕ → Bool) (l : Listing) (bk : Book) (line : ℕ) (m : OrderMassCancelRequest) (t : Time)
-    (v x w : View) (e : Entry) (k : FixedText 20) (s : ℕ)
-    → s + open_count v.rows ≡ v.free → 1 ≤ s → serves v.market bk ≡ true → e ≡ accepted line m t
-    → Leaves 1 (noted l.instrument.partition e v) x
-    → k ≡ kept m.client_order_id.text → Withdraws x
-    (withdrawn_all (meant owner (of_instrument l bk) false) (Request k) t x) w
-    → Gives (in_instrument (Some l) owner bk line m t v) v (Ok tt) w
-swept_one owner l bk line m t v x w e k s spare-is enough served entry told key b =
-    let v' = noted l.instrument.partition (accepted line m t) v in
-    let a : Leaves 1 v' x = subst (λ y. Leaves 1 (noted l.instrument.partition y v) x) entry told in
-    let c : Cause = Request (kept m.client_order_id.text) in
-    let b' : Withdraws x (withdrawn_all (meant owner (of_instrument l bk) false) c t x) w =
-    subst (λ y. Withdraws x (withdrawn_all (meant owner (of_instrument l bk) false) (Request y) t x) w) key b in
-    let q = swept_after 1 (λ is. meant owner (of_instrument l bk) false) c t v' x w a b' in
-    let many : 1 ≤ spare v = omega arith in
-    let room : nat_lt (spare v) 1 ≡ false = Prim.grind arith in
-    let done : Outcome = swept 1 (meant owner (of_instrument l bk) false) m t v' in
-    let not_done : Outcome = Done 1 (noted l.instrument.partition (refused line m t) v) in
-    let here : Gives (cond (serves v.market bk) done not_done) v (Ok tt) w = subst
-    (λ y. Gives (cond y done not_done) v (Ok tt) w) (sym served) (refl, q) in
-    subst (λ y. Gives (cond y (Refused NoPlace) (cond (serves v.market bk) done not_done)) v (Ok tt) w) (sym room) here
+ended_instruments : (t : Time) (c : Cause) (r : Row) (b : Books) → (enact t (ended_for c r) b).instruments
+    ≡ b.instruments
+ended_instruments t (Request i) r b = refl
+ended_instruments t LineLost r b = refl
+
+module _ (t : Time) (p : Row → Bool) (c : Cause) where
+  withdrawn_apart : (o : Option Row) (n m : ℕ) (b : Books) → ((r : Row) → o ≡ Some r → r.number ≡ n) → (m ≡ n → ⊥)
+      → under (enact_all t (withdrawal p c o) b).rows m ≡ under b.rows m
+  withdrawn_apart None n m b is ne = refl
+  withdrawn_apart (Some r) n m b is ne = go (p r)
+    where
+      go : (x : Bool) → under (enact_all t (cond x (ended_for c r ∷ []) []) b).rows m ≡ under b.rows m
+      go true = ended_apart t c r m b (λ e. ne (e ∙ is r refl))
+      go false = refl
+
+  withdrawn_instruments : (o : Option Row) (b : Books) → (enact_all t (withdrawal p c o) b).instruments ≡ b.instruments
+  withdrawn_instruments None b = refl
+  withdrawn_instruments (Some r) b = go (p r)
+    where
+      go : (x : Bool) → (enact_all t (cond x (ended_for c r ∷ []) []) b).instruments ≡ b.instruments
+      go true = ended_instruments t c r b
+      go false = refl
+
+  -- of the first so many orders those are withdrawn of which p is true, and all others are as they were
+  pub record Swept {M : Type 0} (did : M → Asked → M → Type 0) (k : ℕ) (x y : Over Books M) : Type 0 where
+    pub done : Enacts did t (withdrawals p c (take k x.state.rows)) x y
+    pub instruments : y.state.instruments ≡ x.state.instruments
+    pub rest : (n : ℕ) → k < n → under y.state.rows n ≡ under x.state.rows n
+
+  module _ {M : Type 0} {did : M → Asked → M → Type 0} where
+    pub swept_none : (x : Over Books M) → Swept did 0 x x
+    swept_none x = record { done = enacts_none t x; instruments = refl; rest = λ n h. refl }
+
+    pub swept_more : (k : ℕ) (x y z : Over Books M) → kept_from 1 x.state.rows ≡ true → Swept did k x y
+        → Enacts did t (withdrawal p c (under y.state.rows (suc k))) y z → Swept did (suc k) x z
+    swept_more k x y z numbered h one =
+        let same = h.rest (suc k) (omega arith) in
+        let next = subst (λ o. Enacts did t (withdrawal p c o) y z) same one in
+        let number = λ (r : Row) (e : under x.state.rows (suc k) ≡ Some r). (kept_at x.state.rows (suc k) r numbered e).0 in
+        record {
+          done = subst (λ acts. Enacts did t acts x z) (sym (one_more p c k x.state.rows))
+              (enacts_append t _ _ x y z h.done next);
+          instruments = ap (λ (b : Books). b.instruments) next.books
+              ∙ withdrawn_instruments (under x.state.rows (suc k)) y.state ∙ h.instruments;
+          rest = λ n lt. ap (λ (b : Books). under b.rows n) next.books
+              ∙ withdrawn_apart (under x.state.rows (suc k)) (suc k) n y.state number (omega arith)
+              ∙ h.rest n (omega arith);
+        }
+
+    pub swept_all : (k : ℕ) (x y : Over Books M) → k ≡ length x.state.rows → Swept did k x y
+        → Enacts did t (withdrawals p c x.state.rows) x y
+    swept_all k x y e h =
+        subst (λ rows. Enacts did t (withdrawals p c rows) x y)
+        (ap (λ n. take n x.state.rows) e ∙ take-length x.state.rows) h.done

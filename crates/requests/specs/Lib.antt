@@ -1,8 +1,9 @@
-pub mod Outcomes
+pub mod Deciding
 pub mod Instruments
 pub mod Checks
-pub mod NewOrders
 pub mod Naming
+pub mod Selection
+pub mod NewOrders
 pub mod Cancels
 pub mod Replaces
 pub mod MassCancels

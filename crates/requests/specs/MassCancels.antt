@@ -1,5 +1,5 @@
--- What a Mass Cancel Request gets. Assumes nothing.
-use Rattle.std.specs.Prelude.{ℕ, ◌+◌, ◌-◌, Bool, true, false, ◌&&◌, List, slice_get, Some, None, Option, ◌==◌, nat_lt, if◌then◌else◌}
+-- What a Mass Cancel Request is decided to be. Assumes nothing.
+use Rattle.std.specs.Prelude.{ℕ, Bool, false, not, List, [], ◌∷◌, ◌++◌, Ok, nat_lt, if◌then◌else◌}
 use Rattle.std.specs.List.{list_any}
 use Rattle.std.specs.Str.{bytes_eq}
 use Rattle.codes.specs.declared.order.Book.{Book}
@@ -10,43 +10,23 @@ use Rattle.matching.specs.Meaning.{serves}
 use Rattle.order_messages.specs.declared.order_mass_cancel_request.OrderMassCancelRequest.{OrderMassCancelRequest}
 use Rattle.order_messages.specs.declared.order_mass_cancel_request.Scope.{Scope}
 use Rattle.order_messages.specs.declared.order_mass_cancel_request.Scope.TheVariants.{FirmInstrument, FirmSegment, CompId, Firm, CompIdInstrument, CompIdSegment}
-use Rattle.orders.specs.Tables.{open_count}
 use Rattle.orders.specs.declared.row.Row.{Row}
 use Rattle.reports.specs.declared.report.Entry.{Entry}
 use Rattle.reports.specs.declared.report.MassAnswer.{MassAnswer}
 use Rattle.reports.specs.declared.report.MassAnswer.TheVariants.{Accepted, Rejected}
 use Rattle.reports.specs.declared.report.Report.TheVariants.{MassCancel}
+use Rattle.requests.specs.Deciding.{Decision, told, turned_if, with_listing}
 use Rattle.requests.specs.Instruments.{look_up}
-use Rattle.requests.specs.Outcomes.{Outcome, spare}
-use Rattle.requests.specs.Outcomes.Outcome.{Refused, Done}
+use Rattle.requests.specs.Selection.{anywhere, meant, of_firm, of_instrument, of_line, of_segment, withdrawals}
 use Rattle.requests.specs.declared.listing.Listing.{Listing}
 use Rattle.refusals.specs.declared.Refusal.TheVariants.{BookNotServed}
 use Rattle.refusals.specs.declared.Turned.TheVariants.{UnknownInstrument, NoPlace}
+use Rattle.requests.specs.declared.selection.Cause.TheVariants.{Request}
 use Rattle.texts.specs.Bytes.{said}
 use Rattle.texts.specs.Says.{says, kept}
 use Rattle.texts.specs.declared.values.Time.{Time}
-use Rattle.venue.specs.Flags.{is_book, is_firm, is_segment}
-use Rattle.venue.specs.Selection.{meant, withdrawn_all}
-use Rattle.venue.specs.Steps.{noted}
-use Rattle.venue.specs.View.{View}
-use Rattle.venue.specs.declared.selection.Cause.TheVariants.{Request}
-
--- ---- which orders: whose, and where
-
-abbrev pub of_line : ℕ → ℕ → Bool
-of_line line owner = owner == line
-
-abbrev pub of_firm : List Participant → ℕ → ℕ → Bool
-of_firm ps firm owner = is_firm firm (slice_get ps owner)
-
-abbrev pub anywhere : Row → Bool
-anywhere r = true
-
-abbrev pub of_instrument : Listing → Book → Row → Bool
-of_instrument l b r = r.terms.instrument == l.place && is_book r.terms.book b
-
-abbrev pub of_segment : List Instrument → List ℕ → Row → Bool
-of_segment is s r = is_segment s (slice_get is r.terms.instrument)
+use Rattle.venue.specs.Acts.{Act, Note}
+use Rattle.venue.specs.Books.{Books}
 
 -- an instrument of the segment is there
 abbrev pub has_segment : List Instrument → List ℕ → Bool
@@ -66,48 +46,46 @@ accepted line m t = mass_entry line m Accepted t
 abbrev pub refused : ℕ → OrderMassCancelRequest → Time → Entry
 refused line m t = mass_entry line m (Rejected BookNotServed) t
 
--- in each partition
-abbrev pub told_everywhere : Entry → View → View
-told_everywhere e v = noted Three e (noted Two e (noted One e v))
+-- all that is told in each partition, and then the orders of which p is true end, each told under the request's client
+-- order id
+abbrev pub told_everywhere : Entry → List Act
+told_everywhere e = Note One e ∷ Note Two e ∷ Note Three e ∷ []
 
--- the orders of which p is true, each told under the request's client order id; so many reports were told before
-abbrev pub swept : ℕ → (Row → Bool) → OrderMassCancelRequest → Time → View → Outcome
-swept told p m t v =
-    let u = withdrawn_all p (Request (kept m.client_order_id.text)) t v in
-    Done (told + (open_count v.rows - open_count u.rows)) u
+abbrev pub swept : (Row → Bool) → OrderMassCancelRequest → Books → List Act
+swept p m b = withdrawals p (Request (kept m.client_order_id.text)) b.rows
 
 -- ---- each scope
 
 -- an instrument's orders in a book
-abbrev pub in_instrument : Option Listing → (ℕ → Bool) → Book → ℕ → OrderMassCancelRequest → Time → View → Outcome
-in_instrument None owner b line m t v = Refused UnknownInstrument
-in_instrument (Some l) owner b line m t v =
-    if nat_lt (spare v) 1 then Refused NoPlace
-    else if serves v.market b
-    then swept 1 (meant owner (of_instrument l b) false) m t (noted l.instrument.partition (accepted line m t) v)
-    else Done 1 (noted l.instrument.partition (refused line m t) v)
+abbrev pub in_instrument : (ℕ → Bool) → Book → ℕ → OrderMassCancelRequest → Time → Books → Listing → Decision
+in_instrument owner k line m t b l =
+    if serves b.market k
+    then Ok (Note l.instrument.partition (accepted line m t) ∷ swept (meant owner (of_instrument l.place k) false) m b)
+    else told l.instrument.partition (refused line m t)
+
+abbrev pub in_listing : List ℕ → (ℕ → Bool) → Book → ℕ → OrderMassCancelRequest → Time → Books → ℕ → Decision
+in_listing s owner k line m t b spare =
+    with_listing (look_up b.instruments s) (λ l. turned_if (nat_lt spare 1) NoPlace (in_instrument owner k line m t b l))
 
 -- orders of all partitions
-abbrev pub in_all : (ℕ → Bool) → (Row → Bool) → ℕ → OrderMassCancelRequest → Time → View → Outcome
-in_all owner within line m t v =
-    if nat_lt (spare v) 3 then Refused NoPlace
-    else swept 3 (meant owner within false) m t (told_everywhere (accepted line m t) v)
+abbrev pub in_all : (ℕ → Bool) → (Row → Bool) → ℕ → OrderMassCancelRequest → Time → Books → ℕ → Decision
+in_all owner within line m t b spare =
+    turned_if (nat_lt spare 3) NoPlace
+    (Ok (told_everywhere (accepted line m t) ++ swept (meant owner within false) m b))
 
-abbrev pub in_segment : List ℕ → (ℕ → Bool) → ℕ → OrderMassCancelRequest → Time → View → Outcome
-in_segment s owner line m t v =
-    if has_segment v.instruments s then in_all owner (of_segment v.instruments s) line m t v
-    else Refused UnknownInstrument
+abbrev pub in_segment : List ℕ → (ℕ → Bool) → ℕ → OrderMassCancelRequest → Time → Books → ℕ → Decision
+in_segment s owner line m t b spare =
+    turned_if (not (has_segment b.instruments s)) UnknownInstrument
+    (in_all owner (of_segment b.instruments s) line m t b spare)
 
-abbrev pub in_scope : Scope → List Participant → ℕ → ℕ → OrderMassCancelRequest → Time → View → Outcome
-in_scope (FirmInstrument s b) ps firm line m t v =
-    in_instrument (look_up v.instruments (says s)) (of_firm ps firm) b line m t v
-in_scope (CompIdInstrument s b) ps firm line m t v =
-    in_instrument (look_up v.instruments (says s)) (of_line line) b line m t v
-in_scope (FirmSegment s) ps firm line m t v = in_segment (says s) (of_firm ps firm) line m t v
-in_scope (CompIdSegment s) ps firm line m t v = in_segment (says s) (of_line line) line m t v
-in_scope Firm ps firm line m t v = in_all (of_firm ps firm) anywhere line m t v
-in_scope CompId ps firm line m t v = in_all (of_line line) anywhere line m t v
+abbrev pub in_scope : Scope → List Participant → ℕ → ℕ → OrderMassCancelRequest → Time → Books → ℕ → Decision
+in_scope (FirmInstrument s k) ps firm line m t b spare = in_listing (says s) (of_firm ps firm) k line m t b spare
+in_scope (CompIdInstrument s k) ps firm line m t b spare = in_listing (says s) (of_line line) k line m t b spare
+in_scope (FirmSegment s) ps firm line m t b spare = in_segment (says s) (of_firm ps firm) line m t b spare
+in_scope (CompIdSegment s) ps firm line m t b spare = in_segment (says s) (of_line line) line m t b spare
+in_scope Firm ps firm line m t b spare = in_all (of_firm ps firm) anywhere line m t b spare
+in_scope CompId ps firm line m t b spare = in_all (of_line line) anywhere line m t b spare
 
--- of a firm among the participants, and one of its lines
-abbrev pub mass_cancel : List Participant → ℕ → ℕ → OrderMassCancelRequest → Time → View → Outcome
-mass_cancel ps firm line m t v = in_scope m.scope ps firm line m t v
+-- of a firm among the participants, and one of its lines, over the books and the spare places
+abbrev pub mass_cancel : List Participant → ℕ → ℕ → OrderMassCancelRequest → Time → Books → ℕ → Decision
+mass_cancel ps firm line m t b spare = in_scope m.scope ps firm line m t b spare

@@ -1,6 +1,8 @@
--- What a New Order gets. Assumes nothing.
-use Rattle.std.specs.Prelude.{ℕ, ◌&&◌, pos, Some, None, Ok, Err, Option, Result, nat_lt, if◌then◌else◌}
-use Rattle.std.specs.Option.{ok_or}
+-- What a New Order is decided to be. Assumes nothing.
+use Rattle.std.specs.Prelude.{ℕ, ◌&&◌, pos, [], ◌∷◌, length, Some, None, Ok, Err, Option, Result, nat_le, nat_lt, if◌then◌else◌}
+use Rattle.std.specs.FinMap.{len}
+use Rattle.limits.specs.declared.TheConstants.{ORDERS}
+use Rattle.std.specs.Option.{option_map_or, ok_or}
 use Rattle.codes.specs.declared.report.Status.TheVariants as status
 use Rattle.matching.specs.Meaning.{serves}
 use Rattle.order_messages.specs.declared.new_order.NewOrder.{NewOrder}
@@ -11,24 +13,21 @@ use Rattle.reports.specs.declared.report.ExecutionReport.{ExecutionReport}
 use Rattle.reports.specs.declared.report.Report.TheVariants.{Execution}
 use Rattle.requests.specs.Checks.{shown, is_plain, is_priced, is_own, told_capacity}
 use Rattle.requests.specs.Instruments.{look_up}
-use Rattle.requests.specs.Outcomes.{Outcome, spare}
-use Rattle.requests.specs.Outcomes.Outcome.{Refused, Done}
+use Rattle.requests.specs.Deciding.{Decision, told, turned_if, with_listing}
 use Rattle.requests.specs.declared.listing.Listing.{Listing}
 use Rattle.refusals.specs.declared.Refusal.{Refusal}
 use Rattle.refusals.specs.declared.Refusal.TheVariants.{BookNotServed, BadTerms, OrdersFull, MatcherFull}
-use Rattle.refusals.specs.declared.Turned.TheVariants.{UnknownInstrument, NoPlace}
+use Rattle.refusals.specs.declared.Turned.TheVariants.{NoPlace}
 use Rattle.requests.specs.declared.new_order.Placement.{Placement}
 use Rattle.terms.specs.Lifetime.{lifetime_of}
+use Rattle.terms.specs.declared.lifetime.Lifetime.{Lifetime}
 use Rattle.terms.specs.Pricing.{order_type_of, price_of}
 use Rattle.terms.specs.Target.{book_of}
 use Rattle.terms.specs.declared.execution.Execution.TheVariants.{Rejected}
-use Rattle.terms.specs.declared.lifetime.Lifetime.{Lifetime}
 use Rattle.texts.specs.Says.{says, kept}
 use Rattle.texts.specs.declared.values.Time.{Time}
-use Rattle.venue.specs.declared.refusal.AcceptRefusal.{AcceptRefusal}
-use Rattle.venue.specs.declared.refusal.AcceptRefusal.TheVariants as accept
-use Rattle.venue.specs.Steps.{accept_fault, accepted_to, noted}
-use Rattle.venue.specs.View.{View}
+use Rattle.venue.specs.Acts.{Open}
+use Rattle.venue.specs.Books.{Books}
 
 -- what it asks for, in shares that can be ordered
 abbrev pub asks : NewOrder → ℕ → Ask
@@ -50,9 +49,21 @@ placement_of m =
     then placed m (lifetime_of m.time_in_force) (shown m.quantity m.display_quantity)
     else None
 
--- why it is not accepted, before the orders and the matcher are asked for room
-abbrev pub asked : NewOrder → View → Result Placement Refusal
-asked m v = if serves v.market (book_of m.target) then ok_or (placement_of m) BadTerms else Err BookNotServed
+-- why there is no room for it, tried in this order
+abbrev pub room_fault : Books → Option Refusal
+room_fault b =
+    if nat_lt (length b.rows) ORDERS
+    then (if nat_le b.market.capacity (len b.market.orders) then Some MatcherFull else None)
+    else Some OrdersFull
+
+-- what it asks for, where there is room
+abbrev pub with_room : Books → Result Placement Refusal → Result Placement Refusal
+with_room b (Err e) = Err e
+with_room b (Ok p) = option_map_or Err (room_fault b) (Ok p)
+
+-- why it is not accepted; else how long it waits, and what it asks for
+abbrev pub judged : NewOrder → Books → Result Placement Refusal
+judged m b = if serves b.market (book_of m.target) then with_room b (ok_or (placement_of m) BadTerms) else Err BookNotServed
 
 abbrev pub terms_of : ℕ → ℕ → Lifetime → NewOrder → Terms
 terms_of line place lifetime m = record {
@@ -89,25 +100,12 @@ rejected e l m t = record {
 abbrev pub rejection : ℕ → Refusal → Listing → NewOrder → Time → Entry
 rejection line e l m t = record { owner = line; report = Execution (rejected e l m t) }
 
-abbrev pub rejects : ℕ → Refusal → Listing → NewOrder → Time → View → Outcome
-rejects line e l m t v = Done 1 (noted l.instrument.partition (rejection line e l m t) v)
+abbrev pub ordered : ℕ → NewOrder → Time → Listing → Result Placement Refusal → Decision
+ordered line m t l (Err e) = told l.instrument.partition (rejection line e l m t)
+ordered line m t l (Ok p) = Ok (Open (terms_of line l.place p.lifetime m) p.ask ∷ [])
 
--- no place among the orders, or in the matcher
-abbrev pub refusal_of : AcceptRefusal → Refusal
-refusal_of accept.OrdersFull = OrdersFull
-refusal_of accept.MatcherFull = MatcherFull
-
-abbrev pub accepts : Option AcceptRefusal → ℕ → Placement → Listing → NewOrder → Time → View → Outcome
-accepts (Some e) line p l m t v = rejects line (refusal_of e) l m t v
-accepts None line p l m t v = Done 1 (accepted_to t (terms_of line l.place p.lifetime m) p.ask v)
-
-abbrev pub ordered : Result Placement Refusal → ℕ → Listing → NewOrder → Time → View → Outcome
-ordered (Err e) line l m t v = rejects line e l m t v
-ordered (Ok p) line l m t v = accepts (accept_fault v) line p l m t v
-
-abbrev pub new_order_in : Option Listing → ℕ → NewOrder → Time → View → Outcome
-new_order_in None line m t v = Refused UnknownInstrument
-new_order_in (Some l) line m t v = if nat_lt (spare v) 2 then Refused NoPlace else ordered (asked m v) line l m t v
-
-abbrev pub new_order : ℕ → NewOrder → Time → View → Outcome
-new_order line m t v = new_order_in (look_up v.instruments (says m.symbol)) line m t v
+-- by a line's CompID, over the books and the spare places
+abbrev pub new_order : ℕ → NewOrder → Time → Books → ℕ → Decision
+new_order line m t b spare =
+    with_listing (look_up b.instruments (says m.symbol))
+    (λ l. turned_if (nat_lt spare 2) NoPlace (ordered line m t l (judged m b)))

@@ -1,26 +1,26 @@
--- What a Cancel/Replace Request gets. Assumes nothing.
-use Rattle.std.specs.Prelude.{ℕ, ◌&&◌, Some, None, Ok, Err, Option, Result, nat_le, nat_lt, if◌then◌else◌}
+-- What a Cancel/Replace Request is decided to be. Assumes nothing.
+use Rattle.std.specs.Prelude.{ℕ, ◌&&◌, [], ◌∷◌, Some, None, Ok, Err, Option, Result, nat_le, nat_lt, if◌then◌else◌}
 use Rattle.std.specs.Option.{option_map}
 use Rattle.order_messages.specs.declared.order_cancel_replace_request.OrderCancelReplaceRequest.{OrderCancelReplaceRequest}
 use Rattle.orders.specs.declared.row.Ask.{Ask}
 use Rattle.orders.specs.declared.row.Row.{Row}
-use Rattle.requests.specs.Cancels.{served, refuses}
+use Rattle.changes.specs.declared.change.Change.TheVariants.{Replace}
+use Rattle.requests.specs.Cancels.{served, refused}
 use Rattle.requests.specs.Checks.{shown, is_plain, may_cost}
 use Rattle.requests.specs.Instruments.{look_up}
-use Rattle.requests.specs.Outcomes.{Outcome, spare}
-use Rattle.requests.specs.Outcomes.Outcome.{Refused, Done}
+use Rattle.requests.specs.Deciding.{Decision, turned_if, with_listing}
 use Rattle.requests.specs.declared.listing.Listing.{Listing}
 use Rattle.requests.specs.declared.naming.Naming.{Naming}
 use Rattle.refusals.specs.declared.Refusal.{Refusal}
 use Rattle.refusals.specs.declared.Refusal.TheVariants.{BadTerms, NotAboveExecuted, TimeInForceDiffers}
-use Rattle.refusals.specs.declared.Turned.TheVariants.{UnknownInstrument, NoPlace}
+use Rattle.refusals.specs.declared.Turned.TheVariants.{NoPlace}
 use Rattle.requests.specs.declared.replace.Replacement.{Replacement}
 use Rattle.terms.specs.Lifetime.{is_asked}
 use Rattle.terms.specs.Target.{book_of}
 use Rattle.texts.specs.Says.{says, kept}
 use Rattle.texts.specs.declared.values.Time.{Time}
-use Rattle.venue.specs.Steps.{replaced_to}
-use Rattle.venue.specs.View.{View}
+use Rattle.venue.specs.Acts.{Alter}
+use Rattle.venue.specs.Books.{Books}
 
 abbrev pub asks : OrderCancelReplaceRequest → ℕ → Ask
 asks m q = record {
@@ -41,7 +41,7 @@ ask_of m r =
 abbrev pub above : Row → Option Ask → Result Replacement Refusal
 above r None = Err BadTerms
 above r (Some a) =
-    if nat_le a.quantity r.executed then Err NotAboveExecuted else Ok (record { number = r.number; ask = a })
+    if nat_le a.quantity r.executed then Err NotAboveExecuted else Ok (record { order = r; ask = a })
 
 abbrev pub of_row : OrderCancelReplaceRequest → Result Row Refusal → Result Replacement Refusal
 of_row m (Err e) = Err e
@@ -59,17 +59,15 @@ named_by line l m = record {
 }
 
 -- the order and what it becomes, or why not
-abbrev pub judged : ℕ → Listing → OrderCancelReplaceRequest → View → Result Replacement Refusal
-judged line l m v = of_row m (served (book_of m.target) (named_by line l m) v)
+abbrev pub judged : ℕ → Listing → OrderCancelReplaceRequest → Books → Result Replacement Refusal
+judged line l m b = of_row m (served (book_of m.target) (named_by line l m) b)
 
-abbrev pub replaced : Result Replacement Refusal → ℕ → Listing → OrderCancelReplaceRequest → Time → View → Outcome
-replaced (Err e) line l m t v = refuses line e (kept m.client_order_id.text) l t v
-replaced (Ok r) line l m t v = Done 1 (replaced_to t r.number r.ask v)
+abbrev pub replaced : ℕ → OrderCancelReplaceRequest → Time → Listing → Result Replacement Refusal → Decision
+replaced line m t l (Err e) = refused line e (kept m.client_order_id.text) l t
+replaced line m t l (Ok r) = Ok (Alter r.order.number (Replace r.ask) ∷ [])
 
-abbrev pub replace_in : Option Listing → ℕ → OrderCancelReplaceRequest → Time → View → Outcome
-replace_in None line m t v = Refused UnknownInstrument
-replace_in (Some l) line m t v =
-    if nat_lt (spare v) 1 then Refused NoPlace else replaced (judged line l m v) line l m t v
-
-abbrev pub replace : ℕ → OrderCancelReplaceRequest → Time → View → Outcome
-replace line m t v = replace_in (look_up v.instruments (says m.symbol)) line m t v
+-- by a line's CompID, over the books and the spare places
+abbrev pub replace : ℕ → OrderCancelReplaceRequest → Time → Books → ℕ → Decision
+replace line m t b spare =
+    with_listing (look_up b.instruments (says m.symbol))
+    (λ l. turned_if (nat_lt spare 1) NoPlace (replaced line m t l (judged line l m b)))

@@ -2,15 +2,16 @@
 ghost use Rattle.std.specs.Prelude.{◌≡◌, ◌≤◌, ◌<◌, ◌+◌, Some, IfOk};
 ghost use Rattle.keyed.specs.Numbers.{under};
 ghost use Rattle.orders.specs.Tables.{open_count};
-ghost use Rattle.requests.specs.Cancels.{served, refuses, named_by, cancel};
-ghost use Rattle.requests.specs.Outcomes.{Gives};
+ghost use Rattle.requests.specs.Cancels.{cancel, named_by, refused, served};
+ghost use Rattle.requests.specs.Deciding.{Does, spare};
 
 use crate::listing::{Listing, look_up};
 use crate::naming::Naming;
 use codes::order::Book;
 use matching::matcher::Matcher;
 use order_messages::order_cancel_request::OrderCancelRequest;
-use orders::row::Row;
+use orders::order::Order;
+use orders::row::Ending;
 use refusals::{Refusal, Turned};
 use reports::report::{CancelReject, Entry, Report};
 use store::Store;
@@ -23,10 +24,10 @@ pub(crate) fn served<M: Matcher, S: Store>(
     venue: &Venue<M, S>,
     book: Book,
     naming: &Naming,
-) -> Result<Row, Refusal>
-    ensures value { result ≡ served book naming.now venue.now }
-    ensures there { IfOk result (λ r. under venue.now.rows r.number ≡ Some r) }
-    ensures leaves { IfOk result (λ r. 0 < r.leaves) }
+) -> Result<Order, Refusal>
+    ensures value { result ≡ served book naming.now venue.now.state }
+    ensures there { IfOk result (λ r. under venue.now.state.rows r.number ≡ Some r) }
+    ensures unfinished { IfOk result (λ r. 0 < r.leaves) }
 {
     if !venue.matcher().serves(book) {
         return Err(Refusal::BookNotServed);
@@ -43,8 +44,8 @@ pub(crate) fn refuse<M: Matcher, S: Store>(
     listing: &Listing,
     time: Time,
 ) -> Result<(), Turned>
-    requires { open_count venue.old.rows + 1 ≤ venue.old.free }
-    ensures { Gives (refuses line refusal client listing.now time venue.old) venue.old result venue.new }
+    requires { open_count venue.old.state.rows + 1 ≤ venue.old.free }
+    ensures { Does M.Did time (refused line refusal client listing.now time) venue.old result venue.new }
 {
     let report = Report::CancelReject(CancelReject {
         client,
@@ -73,22 +74,21 @@ fn named_by(line: usize, listing: &Listing, m: &OrderCancelRequest<'_>) -> Namin
 }
 
 /// Cancels an open order of a line's CompID, or reports why not. Turned down, nothing changes.
-#[tactic(auto, using(crate::proofs::Found::opened))]
 pub fn cancel<M: Matcher, S: Store>(
     venue: &mut Venue<M, S>,
     line: usize,
     m: &OrderCancelRequest<'_>,
     time: Time,
 ) -> Result<(), Turned>
-    ensures { Gives (cancel line m.now time venue.old) venue.old result venue.new }
+    ensures { Does M.Did time (cancel line m.now time venue.old.state (spare venue.old)) venue.old result venue.new }
 {
     let Some(listing) = look_up(venue.instruments(), m.symbol.as_bytes()) else {
         return Err(Turned::UnknownInstrument);
     };
     let client = m.client_order_id.text.keep();
     match served(venue, m.book, &named_by(line, &listing, m)) {
-        Ok(row) => {
-            venue.cancel(row.number, client, time);
+        Ok(order) => {
+            venue.withdraw(order, Ending::Cancelled, client, time);
             Ok(())
         }
         Err(_) if venue.spare() < 1 => Err(Turned::NoPlace),

@@ -8,3 +8,4 @@ pub mod mass_cancel;
 pub mod naming;
 pub mod new_order;
 pub mod replace;
+pub mod selection;

@@ -29,26 +29,23 @@ pub struct Naming {
 }
 
 // An order, where it is the line's.
-fn owned(line: usize, order: Option<Order>) -> Option<Row>
+fn owned(line: usize, order: Option<Order>) -> Option<Order>
     ensures { result ≡ owned line order }
 {
-    let row = order?.row();
-    if row.terms.owner != line {
+    let order = order?;
+    if order.row().terms.owner != line {
         return None;
     }
-    Some(row)
+    Some(order)
 }
 
 impl Naming {
-    fn found<M: Matcher, S: Store>(&self, venue: &Venue<M, S>) -> Option<Row>
-        ensures { result ≡ found self.now.line self.now.order self.now.original venue.now.rows }
+    fn found<M: Matcher, S: Store>(&self, venue: &Venue<M, S>) -> Option<Order>
+        ensures { result ≡ found self.now.line self.now.order self.now.original venue.now.state.rows }
     {
         match self.order {
             Some(id) => owned(self.line, venue.order(id.number)),
-            None => {
-                let order = venue.named(self.line, self.original)?;
-                Some(order.row())
-            }
+            None => venue.named(self.line, self.original),
         }
     }
 
@@ -62,19 +59,20 @@ impl Naming {
 
     /// The order that is named, if it is there, agrees and is open.
     #[tactic(auto, using(crate::proofs::Found::named_there))]
-    pub fn order<M: Matcher, S: Store>(&self, venue: &Venue<M, S>) -> Result<Row, Refusal>
-        ensures value { result ≡ named self.now venue.now.rows }
-        ensures there { IfOk result (λ r. under venue.now.rows r.number ≡ Some r) }
-        ensures leaves { IfOk result (λ r. 0 < r.leaves) }
+    pub fn order<M: Matcher, S: Store>(&self, venue: &Venue<M, S>) -> Result<Order, Refusal>
+        ensures value { result ≡ named self.now venue.now.state.rows }
+        ensures there { IfOk result (λ r. under venue.now.state.rows r.number ≡ Some r) }
+        ensures unfinished { IfOk result (λ r. 0 < r.leaves) }
     {
         venue.sound();
-        let row = self.found(venue).ok_or(Refusal::NoSuchOrder)?;
+        let order = self.found(venue).ok_or(Refusal::NoSuchOrder)?;
+        let row = order.row();
         if !self.agrees(&row) {
             return Err(Refusal::NoSuchOrder);
         }
         if row.leaves == 0 {
             return Err(Refusal::NotOpen);
         }
-        Ok(row)
+        Ok(order)
     }
 }

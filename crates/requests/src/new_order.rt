@@ -1,13 +1,15 @@
 // A New Order.
-ghost use Rattle.std.specs.Prelude.{◌≡◌, ◌≤◌, ◌<◌, ◌+◌, true, IfSome, IfOk};
+ghost use Rattle.std.specs.Prelude.{◌≡◌, ◌≤◌, ◌+◌, true, None, Err, IfSome, IfOk};
+ghost use Rattle.std.specs.Result.{result_err};
 ghost use Rattle.orders.specs.Rows.{orderable};
 ghost use Rattle.orders.specs.Tables.{open_count};
-ghost use Rattle.requests.specs.NewOrders.{placement_of, asked, terms_of, refusal_of, rejected, rejects, new_order};
-ghost use Rattle.requests.specs.Outcomes.{Gives};
+ghost use Rattle.requests.specs.Deciding.{Does, spare};
+ghost use Rattle.requests.specs.NewOrders.{judged, new_order, ordered, placement_of, rejected, room_fault, terms_of};
 
 use crate::checks::{is_own, is_plain, is_priced, shown, told_capacity};
 use crate::listing::{Listing, look_up};
 use codes::report::Status;
+use limits::ORDERS;
 use matching::matcher::Matcher;
 use order_messages::new_order::NewOrder;
 use orders::row::{Ask, Terms};
@@ -17,7 +19,6 @@ use store::Store;
 use terms::execution::Execution;
 use terms::lifetime::Lifetime;
 use texts::values::{Price, Time};
-use venue::refusal::AcceptRefusal;
 use venue::venue::Venue;
 
 /// How long a New Order that is taken waits, and what it asks for.
@@ -86,16 +87,6 @@ fn rejected(refusal: Refusal, listing: &Listing, m: &NewOrder<'_>, time: Time) -
     }
 }
 
-// Why an order is not accepted, where it has no place.
-fn refusal_of(refusal: AcceptRefusal) -> Refusal
-    ensures { result ≡ refusal_of refusal }
-{
-    match refusal {
-        AcceptRefusal::OrdersFull => Refusal::OrdersFull,
-        AcceptRefusal::MatcherFull => Refusal::MatcherFull,
-    }
-}
-
 // Tells that an order is not accepted.
 fn reject<M: Matcher, S: Store>(
     venue: &mut Venue<M, S>,
@@ -105,8 +96,8 @@ fn reject<M: Matcher, S: Store>(
     m: &NewOrder<'_>,
     time: Time,
 ) -> Result<(), Turned>
-    requires { open_count venue.old.rows + 1 ≤ venue.old.free }
-    ensures { Gives (rejects line refusal listing.now m.now time venue.old) venue.old result venue.new }
+    requires { open_count venue.old.state.rows + 1 ≤ venue.old.free }
+    ensures { Does M.Did time (ordered line m.now time listing.now (Err refusal)) venue.old result venue.new }
 {
     let report = Report::Execution(rejected(refusal, listing, m, time));
     let entry = Entry {
@@ -117,15 +108,32 @@ fn reject<M: Matcher, S: Store>(
     Ok(())
 }
 
-// Why it is not accepted, before there is a place for it; else what it asks for.
-fn asked<M: Matcher, S: Store>(venue: &Venue<M, S>, m: &NewOrder<'_>) -> Result<Placement, Refusal>
-    ensures value { result ≡ asked m.now venue.now }
+// Why there is no room for one order more.
+fn check_room<M: Matcher, S: Store>(venue: &Venue<M, S>) -> Result<(), Refusal>
+    ensures { result_err result ≡ room_fault venue.now.state }
+{
+    if venue.order_count() >= ORDERS as u64 {
+        return Err(Refusal::OrdersFull);
+    }
+    let matcher = venue.matcher();
+    if matcher.open_count() >= matcher.capacity() {
+        return Err(Refusal::MatcherFull);
+    }
+    Ok(())
+}
+
+// Why it is not accepted; else what it asks for.
+fn judge<M: Matcher, S: Store>(venue: &Venue<M, S>, m: &NewOrder<'_>) -> Result<Placement, Refusal>
+    ensures value { result ≡ judged m.now venue.now.state }
     ensures orderable { IfOk result (λ p. orderable p.ask.quantity ≡ true) }
+    ensures room { IfOk result (λ p. room_fault venue.now.state ≡ None) }
 {
     if !venue.matcher().serves(m.target.book()) {
         return Err(Refusal::BookNotServed);
     }
-    placement_of(m).ok_or(Refusal::BadTerms)
+    let placement = placement_of(m).ok_or(Refusal::BadTerms)?;
+    check_room(venue)?;
+    Ok(placement)
 }
 
 /// Accepts an order of a line's CompID, or reports why not. Turned down, nothing changes.
@@ -135,7 +143,7 @@ pub fn new_order<M: Matcher, S: Store>(
     m: &NewOrder<'_>,
     time: Time,
 ) -> Result<(), Turned>
-    ensures { Gives (new_order line m.now time venue.old) venue.old result venue.new }
+    ensures { Does M.Did time (new_order line m.now time venue.old.state (spare venue.old)) venue.old result venue.new }
 {
     let Some(listing) = look_up(venue.instruments(), m.symbol.as_bytes()) else {
         return Err(Turned::UnknownInstrument);
@@ -143,14 +151,11 @@ pub fn new_order<M: Matcher, S: Store>(
     if venue.spare() < 2 {
         return Err(Turned::NoPlace);
     }
-    match asked(venue, m) {
-        Err(refusal) => reject(venue, line, refusal, &listing, m, time),
-        Ok(placement) => {
-            let terms = terms_of(line, listing.place, placement.lifetime, m);
-            match venue.accept(terms, placement.ask, time) {
-                Ok(_) => Ok(()),
-                Err(e) => reject(venue, line, refusal_of(e), &listing, m, time),
-            }
+    match judge(venue, m) {
+        Ok(Placement { lifetime, ask }) => {
+            venue.open(terms_of(line, listing.place, lifetime, m), ask, time);
+            Ok(())
         }
+        Err(refusal) => reject(venue, line, refusal, &listing, m, time),
     }
 }

@@ -1,9 +1,10 @@
 // A Cancel/Replace Request.
-ghost use Rattle.std.specs.Prelude.{◌≡◌, ◌<◌, true, Some, IfOk, IfSome};
+ghost use Rattle.std.specs.Prelude.{◌≡◌, true, Some, is_none, IfOk, IfSome};
+ghost use Rattle.keyed.specs.Numbers.{under};
+ghost use Rattle.orders.specs.Orders.{replace_fault};
 ghost use Rattle.orders.specs.Rows.{orderable};
 ghost use Rattle.requests.specs.Replaces.{ask_of, named_by, judged, replace};
-ghost use Rattle.requests.specs.Outcomes.{Gives};
-ghost use Rattle.venue.specs.Steps.{Replaceable};
+ghost use Rattle.requests.specs.Deciding.{Does, spare};
 
 use crate::cancel::{refuse, served};
 use crate::checks::{is_plain, may_cost, shown};
@@ -11,20 +12,21 @@ use crate::listing::{Listing, look_up};
 use crate::naming::Naming;
 use matching::matcher::Matcher;
 use order_messages::order_cancel_replace_request::OrderCancelReplaceRequest;
+use orders::order::Order;
 use orders::row::{Ask, Row};
 use refusals::{Refusal, Turned};
 use store::Store;
 use texts::values::Time;
 use venue::venue::Venue;
 
-/// An order's number, and what it is to become.
+/// An order, and what it is to become.
 #[derive(Clone, Copy)]
 pub struct Replacement {
-    pub number: u64,
+    pub order: Order,
     pub ask: Ask,
 }
 
-// What it asks for of an order, whose time in force it has; none where that is not taken.
+// What it asks for of an order whose time in force it has; none where that is not taken.
 fn ask_of(m: &OrderCancelReplaceRequest<'_>, row: &Row) -> Option<Ask>
     ensures value { result ≡ ask_of m.now row.now }
     ensures orderable { IfSome result (λ a. orderable a.quantity ≡ true) }
@@ -63,10 +65,12 @@ fn judge<M: Matcher, S: Store>(
     listing: &Listing,
     m: &OrderCancelReplaceRequest<'_>,
 ) -> Result<Replacement, Refusal>
-    ensures value { result ≡ judged line listing.now m.now venue.now }
-    ensures allowed { IfOk result (λ r. Replaceable venue.now r.number r.ask) }
+    ensures value { result ≡ judged line listing.now m.now venue.now.state }
+    ensures there { IfOk result (λ r. under venue.now.state.rows r.order.number ≡ Some r.order) }
+    ensures allowed { IfOk result (λ r. is_none (replace_fault r.ask.quantity r.order) ≡ true) }
 {
-    let row = served(venue, m.target.book(), &named_by(line, listing, m))?;
+    let order = served(venue, m.target.book(), &named_by(line, listing, m))?;
+    let row = order.row();
     if !row.terms.lifetime.is_asked(m.time_in_force) {
         return Err(Refusal::TimeInForceDiffers);
     }
@@ -74,10 +78,7 @@ fn judge<M: Matcher, S: Store>(
     if ask.quantity <= row.executed {
         return Err(Refusal::NotAboveExecuted);
     }
-    Ok(Replacement {
-        number: row.number,
-        ask,
-    })
+    Ok(Replacement { order, ask })
 }
 
 /// Replaces quantity, price and client order id of an open order of a line's CompID, or reports why not. Turned down,
@@ -88,7 +89,7 @@ pub fn replace<M: Matcher, S: Store>(
     m: &OrderCancelReplaceRequest<'_>,
     time: Time,
 ) -> Result<(), Turned>
-    ensures { Gives (replace line m.now time venue.old) venue.old result venue.new }
+    ensures { Does M.Did time (replace line m.now time venue.old.state (spare venue.old)) venue.old result venue.new }
 {
     let Some(listing) = look_up(venue.instruments(), m.symbol.as_bytes()) else {
         return Err(Turned::UnknownInstrument);
@@ -98,7 +99,7 @@ pub fn replace<M: Matcher, S: Store>(
     }
     match judge(venue, line, &listing, m) {
         Ok(r) => {
-            venue.replace(r.number, r.ask, time);
+            venue.replace(r.order, r.ask, time);
             Ok(())
         }
         Err(refusal) => {

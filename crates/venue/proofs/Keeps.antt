@@ -1,7 +1,7 @@
 -- Every call keeps a venue sound. Assumes nothing.
-use Rattle.std.specs.Prelude.{if◌then◌else◌, slice_get, is_none, nat_le, nat_lt}
+use Rattle.std.specs.Prelude.{slice_get, is_none, nat_le, nat_lt}
 use Rattle.std.proofs.Common.{◌≡◌, ℕ, zero, suc, ◌+◌, ◌-◌, ◌<◌, ◌≤◌, ◌⊎◌, Bool, true, false, cond, eqb, List, [], ◌∷◌, ◌++◌, length, Some, None, Ok, Option, inl, inr, is_some, refl, sym, ap, ◌∙◌, subst, arith, ltb-true, lt-ltb}
-use Rattle.std.proofs.lemmas.Bool.{and_parts, cond-true, cond-false, cases_eq, ne_eqb, le-ltb}
+use Rattle.std.proofs.lemmas.Bool.{and_parts, cond-true, cond-false, cases_eq, le-ltb}
 use Rattle.std.proofs.lemmas.List.Sums.{fold-append, sum_by-cons, sum_by_push}
 use Rattle.std.specs.Option.{option_map}
 use Rattle.std.specs.FinMap.{get, len, get-empty, len-empty, empty_of_len}
@@ -16,11 +16,8 @@ use Rattle.keyed.specs.Numbers.{under, put_under}
 use Rattle.keyed.proofs.Keyed.{put-here, put-apart}
 use Rattle.keyed.proofs.Under.{none-some, under-others}
 use Rattle.limits.specs.declared.TheConstants.{ORDERS, SHARES}
-use Rattle.matching.specs.Meaning.{Meaning, opened, closed, resized, enter_refusal}
-use Rattle.matching.specs.declared.event.Event.{Event}
+use Rattle.matching.specs.Meaning.{Meaning}
 use Rattle.matching.specs.declared.matcher.Held.{Held}
-use Rattle.matching.specs.declared.matcher.Refusal.{Refusal}
-use Rattle.matching.specs.declared.matcher.Refusal.TheVariants.{Full}
 use Rattle.orders.specs.declared.row.Row.{Row}
 use Rattle.orders.specs.declared.row.Ask.{Ask}
 use Rattle.orders.specs.declared.row.Terms.{Terms}
@@ -40,15 +37,15 @@ use Rattle.store.specs.Kept.{Kept, empty}
 use Rattle.changes.specs.declared.change.Change.{Change}
 use Rattle.changes.specs.declared.change.Change.TheVariants.{Accept, Replace, Withdraw}
 use Rattle.changes.specs.Changes.{after}
-use Rattle.changes.specs.Changes.{after as made_of, where_allowed}
+use Rattle.changes.specs.Changes.{after as made_of}
 use Rattle.changes.specs.Laws.{reports_of}
 use Rattle.changes.proofs.Orderly.{replaceable}
 use Rattle.configuration.specs.declared.instrument.Instrument.{Instrument}
 use Rattle.limits.specs.declared.TheConstants.{INSTRUMENTS}
-use Rattle.venue.specs.Ledger.{Ledger, told_at, told_in, appended, entries_of, rewritten, changed, entered, standing, told_one, all_told, Recorded}
-use Rattle.venue.specs.View.{View, Sound, Booked, Filling, Summed, held_as, open_of, executed_of, traded}
-use Rattle.venue.specs.declared.refusal.AcceptRefusal.TheVariants.{MatcherFull}
-use Rattle.venue.specs.Steps.{Silent, ledger_of, accept_fault}
+use Rattle.venue.specs.Ledger.{Ledger, told_at, told_in, appended, entries_of, rewritten, changed, standing, told_one, all_told, Recorded}
+use Rattle.venue.specs.Acts.{Open, Alter, Note, enact, ledger_of}
+use Rattle.venue.specs.Books.{Books, Sound, Booked, held_as, open_of, executed_of, traded}
+use Rattle.venue.specs.Enacting.{Silent}
 use Rattle.venue.proofs.Recording.{Rewrites, recorded, same_or_apart, appended-here, appended-apart, tally-told}
 use Rattle.venue.proofs.Rows.{put-here as put-row-here, push_here, push_apart, past_none, keeps, rewrites_there, rewrites_new}
 
@@ -82,15 +79,14 @@ recorded-empty is = record {
   room = nothing_counted;
 }
 
-pub sound-fresh : (v : View) → length v.instruments ≤ INSTRUMENTS → v.rows ≡ [] → v.trades ≡ [] → v.kept ≡ empty
-    → len v.market.orders ≡ 0 → Sound v
-sound-fresh v listed rows trades kept none = record {
+pub sound-fresh : (b : Books) → length b.instruments ≤ INSTRUMENTS → b.rows ≡ [] → b.trades ≡ [] → b.kept ≡ empty
+    → len b.market.orders ≡ 0 → Sound b
+sound-fresh b listed rows trades kept none = record {
   listed = listed;
-  recorded = subst (λ x. Recorded v.instruments x v.kept) (sym rows)
-      (subst (Recorded v.instruments []) (sym kept) (recorded-empty v.instruments));
-  booked = λ n. ap (λ m. get m n) (empty_of_len v.market.orders none) ∙ get-empty nat_cmp n ∙ sym
+  recorded = subst (λ x. Recorded b.instruments x b.kept) (sym rows)
+      (subst (Recorded b.instruments []) (sym kept) (recorded-empty b.instruments));
+  booked = λ n. ap (λ m. get m n) (empty_of_len b.market.orders none) ∙ get-empty nat_cmp n ∙ sym
       (ap (λ x. open_of (under x n)) rows ∙ ap open_of (under-nil n));
-  spare = let e = ap open_count rows in omega arith;
   filling = λ n t e. none-some t (sym (ap (λ x. under x n) trades ∙ under-nil n) ∙ e);
   summed = λ n. ap (traded n) trades ∙ sym (ap (λ x. executed_of (under x n)) rows ∙ ap executed_of (under-nil n));
 }
@@ -205,29 +201,20 @@ module _ (is : List Instrument) (t : Time) (n : ℕ) (c : Change) (l : Ledger) (
           (ap executed_of changed-here ∙ e ∙ sym (ap executed_of was))
       go (inr ne) = ap executed_of (changed-apart k ne)
 
--- a call that changes one order, of which as much stays executed
-pub sound-changed : (v w : View) (t : Time) (n : ℕ) (c : Change) (b r : Row) → Sound v → under v.rows n ≡ Some b
-    → after n c (Some b) ≡ Some r → w.instruments ≡ v.instruments
-    → ledger_of w ≡ changed v.instruments t n c (ledger_of v) → w.trades ≡ v.trades → w.market.orders
-    ≡ put v.market.orders n (open_of (Some r)) → r.executed ≡ b.executed
-    → open_count w.rows ≤ w.free → Sound w
-sound-changed v w t n c b r s was made instruments after trades market executed spare =
-    let is = v.instruments in
-    let l = ledger_of v in
-    let rows : w.rows ≡ (changed is t n c l).rows = ap (λ (x : Ledger). x.rows) after in
-    let kept : w.kept ≡ (changed is t n c l).kept = ap (λ (x : Ledger). x.kept) after in
+-- a change of one order, of which as much stays executed
+pub sound-changed : (b : Books) (t : Time) (n : ℕ) (c : Change) (x r : Row) → Sound b → under b.rows n ≡ Some x
+    → after n c (Some x) ≡ Some r → r.executed ≡ x.executed → Sound (enact t (Alter n c) b)
+sound-changed b t n c x r s was made executed =
+    let is = b.instruments in
+    let l = ledger_of b in
+    let here = changed-here is t n c l x r s.recorded was made in
     record {
-      listed = subst (λ x. length x ≤ INSTRUMENTS) (sym instruments) s.listed;
-      recorded = subst (λ x. Recorded x w.rows w.kept) (sym instruments)
-          (subst (λ x. Recorded is x w.kept) (sym rows) (subst (Recorded is (changed is t n c l).rows) (sym kept)
-          (recorded-changed is t n c l b r s.recorded was made)));
-      booked = subst (λ x. Booked x w.market) (sym rows)
-          (booked-changed v.rows _ v.market w.market n r s.booked (changed-here is t n c l b r s.recorded was made)
-          (changed-apart is t n c l b r s.recorded was made) market);
-      spare = spare;
-      filling = subst Filling (sym trades) s.filling;
-      summed = λ k. ap (traded k) trades ∙ s.summed k ∙ sym
-          (ap (λ x. executed_of (under x k)) rows ∙ executed-same is t n c l b r s.recorded was made executed k);
+      listed = s.listed;
+      recorded = recorded-changed is t n c l x r s.recorded was made;
+      booked = booked-changed b.rows (changed is t n c l).rows b.market (enact t (Alter n c) b).market n r s.booked here
+          (changed-apart is t n c l x r s.recorded was made) (ap (λ o. put b.market.orders n (open_of o)) here);
+      filling = s.filling;
+      summed = λ k. s.summed k ∙ sym (executed-same is t n c l x r s.recorded was made executed k);
     }
 
 -- ---- the end of an order
@@ -246,28 +233,36 @@ open_row rows n h = go (under rows n) refl h
     go (Some b) e h = (b, e, test b (nat_lt 0 b.leaves) refl h)
 
 -- an open order has a place for the report of its end
-pub open_place : (v : View) (n : ℕ) → Sound v → is_some (open_of (under v.rows n)) ≡ true → 1 ≤ v.free
-open_place v n s h =
-    let (b, was, some) = open_row v.rows n h in
-    let c = open-some v.rows n b was in
-    let y = one_open b some in
-    let p = s.spare in
+pub open_place : (b : Books) (n free : ℕ) → open_count b.rows ≤ free → is_some (open_of (under b.rows n)) ≡ true
+    → 1 ≤ free
+open_place b n free spare h =
+    let (r, was, some) = open_row b.rows n h in
+    let c = open-some b.rows n r was in
+    let y = one_open r some in
     omega arith
 
-pub sound-withdrawn : (v w : View) (t : Time) (n : ℕ) (e : Ending) (i : FixedText 20) → Sound v
-    → is_some (open_of (under v.rows n)) ≡ true → w.instruments ≡ v.instruments
-    → ledger_of w ≡ changed v.instruments t n (Withdraw e i) (ledger_of v) → w.trades ≡ v.trades → w.market
-    ≡ closed v.market n → v.free ≤ w.free + 1 → Sound w
-sound-withdrawn v w t n e i s h instruments after trades market free =
-    let (b, was, some) = open_row v.rows n h in
-    let made : made_of n (Withdraw e i) (Some b) ≡ Some (ended e b) = cond-true _ _ _ (lt-ltb 0 b.leaves some) in
-    let count = changed-open v.instruments t n (Withdraw e i) (ledger_of v) b (ended e b) s.recorded was made in
-    let rows = ap (λ (x : Ledger). open_count x.rows) after in
-    let y = one_open b some in
-    let z = one_done (ended e b) refl in
-    let p = s.spare in
-    sound-changed v w t n (Withdraw e i) b (ended e b) s was made instruments after trades
-    (ap (λ (m : Meaning). m.orders) market) refl (omega arith)
+module _ (b : Books) (t : Time) (n : ℕ) (e : Ending) (i : FixedText 20) (x : Row) (s : Sound b)
+    (was : under b.rows n ≡ Some x) (some : 0 < x.leaves) where
+  withdrawn-made : made_of n (Withdraw e i) (Some x) ≡ Some (ended e x)
+  withdrawn-made = cond-true _ _ _ (lt-ltb 0 x.leaves some)
+
+  pub sound-withdrawn : Sound (enact t (Alter n (Withdraw e i)) b)
+  sound-withdrawn = sound-changed b t n (Withdraw e i) x (ended e x) s was withdrawn-made refl
+
+  -- nothing is open of it
+  pub gone-withdrawn : open_of (under (changed b.instruments t n (Withdraw e i) (ledger_of b)).rows n) ≡ None
+  gone-withdrawn = ap open_of (changed-here b.instruments t n (Withdraw e i) (ledger_of b) x (ended e x) s.recorded was
+      withdrawn-made)
+
+  -- one order less is open
+  pub count-withdrawn : open_count (changed b.instruments t n (Withdraw e i) (ledger_of b)).rows + 1
+      ≡ open_count b.rows
+  count-withdrawn =
+      let count = changed-open b.instruments t n (Withdraw e i) (ledger_of b) x (ended e x) s.recorded was
+      withdrawn-made in
+      let y = one_open x some in
+      let z = one_done (ended e x) refl in
+      omega arith
 
 -- ---- a new order
 
@@ -281,112 +276,73 @@ executed-new rows r e j = go (cases_eq j (length rows + 1))
     go (inr ne) = ap executed_of (push_apart rows j r ne)
 
 -- the next number is not open
-pub next_free : (v : View) → Sound v → get v.market.orders (length v.rows + 1) ≡ None
-next_free v s = s.booked (length v.rows + 1) ∙ ap open_of (past_none v.rows (length v.rows + 1) (omega arith))
+pub next_free : (b : Books) → Sound b → get b.market.orders (length b.rows + 1) ≡ None
+next_free b s = s.booked (length b.rows + 1) ∙ ap open_of (past_none b.rows (length b.rows + 1) (omega arith))
 
--- so that only a full matcher refuses it
-pub enter_full : (v : View) (q : ℕ) → Sound v → orderable q ≡ true → enter_refusal v.market (length v.rows + 1) q
-    ≡ (if nat_le v.market.capacity (len v.market.orders) then Some Full else None)
-enter_full v q s h =
-    let some = ltb-true 0 q (and_parts (nat_lt 0 q) (nat_le q SHARES) h).0 in
-    cond-false _ _ _ (ne_eqb q 0 (λ e. absurd (let no : ⊥ = omega arith in no))) ∙ cond-false _ _ _
-    (ap is_some (next_free v s))
+module _ (b : Books) (t : Time) (s : Terms) (a : Ask) (k : Sound b) (q : orderable a.quantity ≡ true) where
+  pub some_ordered : 0 < a.quantity
+  some_ordered = ltb-true 0 a.quantity (and_parts (nat_lt 0 a.quantity) (nat_le a.quantity SHARES) q).0
 
-pub sound-accepted : (v w : View) (t : Time) (s : Terms) (a : Ask) → Sound v → orderable a.quantity ≡ true
-    → s.instrument < length v.instruments → length v.rows < ORDERS → open_count v.rows + 2 ≤ v.free
-    → w.instruments ≡ v.instruments → ledger_of w ≡ entered v.instruments t s a (ledger_of v) → w.trades ≡ v.trades
-    → w.market ≡ opened v.market (length v.rows + 1) (record { instrument = s.instrument; quantity = a.quantity })
-    → v.free ≤ w.free + 1 → Sound w
-sound-accepted v w t s a k q inside room spare instruments after trades market free =
-    let is = v.instruments in
-    let n = length v.rows + 1 in
-    let r = accepted (length v.rows + 1) s a in
-    let some = ltb-true 0 a.quantity (and_parts (nat_lt 0 a.quantity) (nat_le a.quantity SHARES) q).0 in
-    let (i, e) = instrument_there is s.instrument inside in
-    let rows : w.rows ≡ v.rows ++ r ∷ [] = ap (λ (x : Ledger). x.rows) after in
-    let kept : w.kept ≡ appended v.kept i.partition (entries_of s.owner (reports_of (told_at i t) (Accept s a) r)) = ap
-    (λ (x : Ledger). x.kept) after ∙ ap (λ x. told_in t (Accept s a) r x v.kept) e in
-    let count = open-push v.rows r in
-    let rows_open = ap open_count rows in
-    let y = one_open r some in
-    record {
-      listed = subst (λ x. length x ≤ INSTRUMENTS) (sym instruments) k.listed;
-      recorded = subst (λ x. Recorded x w.rows w.kept) (sym instruments)
-          (subst (λ x. Recorded is x w.kept) (sym rows) (subst (Recorded is (v.rows ++ r ∷ [])) (sym kept)
-          (recorded is (length v.rows + 1) (Accept s a) v.rows r i (v.rows ++ r ∷ []) v.kept t k.recorded
-          (rewrites_new is v.rows s a i k.recorded.numbered room q inside e))));
-      booked = subst (λ x. Booked x w.market) (sym rows)
-          (booked-changed v.rows (v.rows ++ r ∷ []) v.market w.market (length v.rows + 1) r k.booked
-          (push_here v.rows (length v.rows + 1) r refl) (λ j ne. push_apart v.rows j r ne)
-          (ap (λ (m : Meaning). m.orders) market ∙ ap (put v.market.orders (length v.rows + 1))
-          (sym (cond-true _ _ _ (lt-ltb 0 a.quantity some)))));
-      spare = omega arith;
-      filling = subst Filling (sym trades) k.filling;
-      summed = λ j. ap (traded j) trades ∙ k.summed j ∙ sym
-          (ap (λ x. executed_of (under x j)) rows ∙ executed-new v.rows r refl j);
-    }
+  pub sound-opened : s.instrument < length b.instruments → length b.rows < ORDERS → Sound (enact t (Open s a) b)
+  sound-opened inside room =
+      let is = b.instruments in
+      let n = length b.rows + 1 in
+      let r = accepted (length b.rows + 1) s a in
+      let (i, e) = instrument_there is s.instrument inside in
+      let told = ap (λ x. told_in t (Accept s a) r x b.kept) e in
+      record {
+        listed = k.listed;
+        recorded = subst (Recorded is (b.rows ++ r ∷ [])) (sym told)
+            (recorded is (length b.rows + 1) (Accept s a) b.rows r i (b.rows ++ r ∷ []) b.kept t k.recorded
+            (rewrites_new is b.rows s a i k.recorded.numbered room q inside e));
+        booked = booked-changed b.rows (b.rows ++ r ∷ []) b.market (enact t (Open s a) b).market (length b.rows + 1) r
+            k.booked
+            (push_here b.rows (length b.rows + 1) r refl) (λ j ne. push_apart b.rows j r ne)
+            (ap (put b.market.orders (length b.rows + 1)) (sym (cond-true _ _ _ (lt-ltb 0 a.quantity some_ordered))));
+        filling = k.filling;
+        summed = λ j. k.summed j ∙ sym (executed-new b.rows r refl j);
+      }
 
--- what is answered where the matcher refused it
-pub full_fault : (v : View) (q len' : ℕ) (e : Refusal) → Sound v → orderable q ≡ true → len' ≡ length v.rows
-    → len' + 1 ≤ ORDERS → Some e ≡ enter_refusal v.market (len' + 1) q → accept_fault v ≡ Some MatcherFull
-full_fault v q len' e s h is room refused =
-    cond-true _ _ _ (lt-ltb (length v.rows) ORDERS (omega arith))
-    ∙ full (nat_le v.market.capacity (len v.market.orders))
-    (refused ∙ ap (λ k. enter_refusal v.market (k + 1) q) is ∙ enter_full v q s h)
-  where
-    full : (b : Bool) → Some e ≡ cond b (Some Full) None → cond b (Some MatcherFull) None ≡ Some MatcherFull
-    full true x = refl
-    full false x = absurd (cc)
-
--- a matcher that refused is as it was
-pub same_asked : (v : View) (m : Meaning) (e : Event) → m ≡ v.market → e ≡ v.next
-    → record v { market = m; next = e } ≡ v
-same_asked v m e same still =
-    ap (λ (x : Meaning). record v { market = x; next = e }) same ∙ ap (λ (x : Event). record v { next = x }) still
+  -- one order more is open
+  pub count-opened : open_count (b.rows ++ accepted (length b.rows + 1) s a ∷ []) ≡ open_count b.rows + 1
+  count-opened =
+      let r = accepted (length b.rows + 1) s a in
+      let count = open-push b.rows r in
+      let y = one_open r some_ordered in
+      omega arith
 
 -- ---- another quantity and price
 
-pub replace_fits : (rows : List Row) (n : ℕ) (a : Ask) → is_some (made_of n (Replace a) (under rows n)) ≡ true
-    → (b : Row) × (under rows n ≡ Some b) × (made_of n (Replace a) (Some b) ≡ Some (replaced a b)) × (0 < b.leaves)
-    × (b.executed < a.quantity)
-replace_fits rows n a h = go (under rows n) refl h
-  where
-    test : (b : Row) (x : Bool) → is_none (replace_fault a.quantity b) ≡ x → is_some (where_allowed x (replaced a b))
-        ≡ true → is_none (replace_fault a.quantity b) ≡ true
-    test b true e h = e
-    test b false e h = absurd (cc)
+module _ (b : Books) (t : Time) (n : ℕ) (a : Ask) (x : Row) (s : Sound b) (was : under b.rows n ≡ Some x)
+    (fits : is_none (replace_fault a.quantity x) ≡ true) where
+  replaced-made : made_of n (Replace a) (Some x) ≡ Some (replaced a x)
+  replaced-made = cond-true _ _ _ fits
 
-    go : (x : Option Row) → under rows n ≡ x → is_some (made_of n (Replace a) x) ≡ true → (b : Row)
-        × (under rows n ≡ Some b) × (made_of n (Replace a) (Some b) ≡ Some (replaced a b)) × (0 < b.leaves)
-        × (b.executed < a.quantity)
-    go None e h = absurd (cc)
-    go (Some b) e h =
-        let t = test b (is_none (replace_fault a.quantity b)) refl h in
-        let f = replaceable a.quantity b t in
-        (b, e, cond-true _ _ _ t, f.0, f.1)
+  pub sound-replaced : Sound (enact t (Alter n (Replace a)) b)
+  sound-replaced = sound-changed b t n (Replace a) x (replaced a x) s was replaced-made refl
 
-pub sound-replaced : (v w : View) (t : Time) (n q : ℕ) (a : Ask) → Sound v
-    → is_some (made_of n (Replace a) (under v.rows n)) ≡ true → open_count v.rows + 1 ≤ v.free → w.instruments
-    ≡ v.instruments
-    → ledger_of w ≡ changed v.instruments t n (Replace a) (ledger_of v) → w.trades ≡ v.trades → q
-    ≡ a.quantity - executed_of (under v.rows n) → w.market ≡ resized v.market n q → v.free ≤ w.free + 1 → Sound w
-sound-replaced v w t n q a s h spare instruments after trades amount market free =
-    let (b, was, made, some, above) = replace_fits v.rows n a h in
-    let r = replaced a b in
-    let count = changed-open v.instruments t n (Replace a) (ledger_of v) b (replaced a b) s.recorded was made in
-    let rows = ap (λ (x : Ledger). open_count x.rows) after in
-    let y = one_open b some in
-    let z = one_open (replaced a b) (omega arith) in
-    let size : q ≡ a.quantity - b.executed = amount ∙ ap (λ x. a.quantity - executed_of x) was in
-    let held : get v.market.orders n ≡ Some (held_as b) = s.booked n ∙ ap open_of was ∙ cond-true _ _ _
-    (lt-ltb 0 b.leaves some) in
-    let now : option_map (λ (x : Held). record x { quantity = q }) (get v.market.orders n)
-    ≡ open_of (Some (replaced a b)) =
-    ap (option_map (λ (x : Held). record x { quantity = q })) held ∙ ap
-    (λ k. Some (record (held_as b) { quantity = k })) size ∙ sym
-    (cond-true _ _ _ (lt-ltb 0 (a.quantity - b.executed) (omega arith))) in
-    sound-changed v w t n (Replace a) b (replaced a b) s was made instruments after trades
-    (ap (λ (m : Meaning). m.orders) market ∙ ap (put v.market.orders n) now) refl (omega arith)
+  -- as many orders are open
+  pub count-replaced : open_count (changed b.instruments t n (Replace a) (ledger_of b)).rows ≡ open_count b.rows
+  count-replaced =
+      let count = changed-open b.instruments t n (Replace a) (ledger_of b) x (replaced a x) s.recorded was
+      replaced-made in
+      let f = replaceable a.quantity x fits in
+      let y = one_open x f.0 in
+      let g = f.1 in
+      let z = one_open (replaced a x) (omega arith) in
+      omega arith
+
+  -- what the matcher is asked for is what it then holds
+  pub held-replaced : option_map (λ (h : Held). record h { quantity = a.quantity - x.executed }) (get b.market.orders n)
+      ≡ open_of (under (changed b.instruments t n (Replace a) (ledger_of b)).rows n)
+  held-replaced =
+      let f = replaceable a.quantity x fits in
+      let g = f.1 in
+      let holds : get b.market.orders n ≡ Some (held_as x) = s.booked n ∙ ap open_of was ∙ cond-true _ _ _
+      (lt-ltb 0 x.leaves f.0) in
+      ap (option_map (λ (h : Held). record h { quantity = a.quantity - x.executed })) holds
+      ∙ sym (ap open_of (changed-here b.instruments t n (Replace a) (ledger_of b) x (replaced a x) s.recorded was
+      replaced-made) ∙ cond-true _ _ _ (lt-ltb 0 (a.quantity - x.executed) (omega arith)))
 
 -- ---- a report that touches no order
 
@@ -421,16 +377,12 @@ module _ (is : List Instrument) (rows : List Row) (kept : Kept) (p : Partition) 
     room = λ q u. let l = s.room q u in let x = ap len (tally_same q u) in omega arith;
   }
 
-pub sound-noted : (v w : View) (p : Partition) (e : Entry) → Sound v → Silent e.report → w.instruments ≡ v.instruments
-    → w.rows ≡ v.rows → w.trades ≡ v.trades → w.market ≡ v.market → w.kept ≡ grown v.kept p e
-    → open_count w.rows ≤ w.free → Sound w
-sound-noted v w p e s silent instruments rows trades market kept spare = record {
-  listed = subst (λ x. length x ≤ INSTRUMENTS) (sym instruments) s.listed;
-  recorded = subst (λ x. Recorded x w.rows w.kept) (sym instruments)
-      (subst (λ x. Recorded v.instruments x w.kept) (sym rows) (subst (Recorded v.instruments v.rows) (sym kept)
-      (recorded-noted v.instruments v.rows v.kept p e s.recorded silent)));
-  booked = subst (λ x. Booked x w.market) (sym rows) (subst (Booked v.rows) (sym market) s.booked);
-  spare = spare;
-  filling = subst Filling (sym trades) s.filling;
-  summed = subst (λ x. Summed x w.trades) (sym rows) (subst (Summed v.rows) (sym trades) s.summed);
+pub sound-noted : (b : Books) (t : Time) (p : Partition) (e : Entry) → Sound b → Silent e.report
+    → Sound (enact t (Note p e) b)
+sound-noted b t p e s silent = record {
+  listed = s.listed;
+  recorded = recorded-noted b.instruments b.rows b.kept p e s.recorded silent;
+  booked = s.booked;
+  filling = s.filling;
+  summed = s.summed;
 }

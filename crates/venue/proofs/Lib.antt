@@ -2,5 +2,6 @@ pub mod Recording
 pub mod Rows
 pub mod Keeps
 pub mod Summing
-pub mod Withdrawing
 pub mod Owned
+pub mod Rebuilt
+pub mod Chains

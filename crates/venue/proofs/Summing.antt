@@ -9,7 +9,7 @@ use Rattle.keyed.specs.Look.{put}
 use Rattle.keyed.specs.Numbers.{under, put_under}
 use Rattle.keyed.proofs.Keyed.{put-apart}
 use Rattle.keyed.proofs.Under.{none-some, under-others}
-use Rattle.matching.specs.Meaning.{Meaning, Orders, closed, Allowed, Parties, open_quantity, quantity_of, left, filled as taken}
+use Rattle.matching.specs.Meaning.{Meaning, Orders, closed, with_order, Allowed, Parties, open_quantity, quantity_of, left, filled as taken}
 use Rattle.orders.specs.declared.row.Row.{Row}
 use Rattle.orders.specs.declared.trade.Trade.{Trade}
 use Rattle.orders.specs.declared.row.Ending.TheVariants.{Expired}
@@ -24,16 +24,16 @@ use Rattle.changes.specs.declared.change.Change.TheVariants.{Fill, Undo, Withdra
 use Rattle.changes.specs.declared.change.Fill.{Fill as Filled}
 use Rattle.changes.specs.Changes.{after}
 use Rattle.configuration.specs.declared.instrument.Instrument.{Instrument}
-use Rattle.venue.specs.Ledger.{Ledger, changed, Recorded}
-use Rattle.venue.specs.View.{View, Sound, Booked, Filling, held_as, open_of, executed_of, side_of, share_of, traded}
+use Rattle.venue.specs.Ledger.{Ledger, changed, expired, expired_as, Recorded}
+use Rattle.venue.specs.Acts.{Alter, Take, Void, deal_of, enact, ledger_of, voided}
+use Rattle.venue.specs.Books.{Books, Sound, Booked, Filling, held_as, open_of, executed_of, side_of, share_of, traded}
 use Rattle.venue.specs.Trading.{SideExecuted, undoing, side_undone, passive_undone, both_undone, SideAllows, filling, passive_filled, both_filled, trade_of, side_filled, side_told}
 use Rattle.venue.specs.declared.trading.Deal.{Deal}
-use Rattle.limits.specs.declared.TheConstants.{INSTRUMENTS}
-use Rattle.venue.specs.Steps.{ledger_of, ledger_expired, expired_as}
+use Rattle.texts.specs.declared.values.Price.{Price}
 use Rattle.codes.specs.declared.report.Liquidity.TheVariants.{Added, Removed}
 use Rattle.matching.specs.declared.event.Event.TheVariants as event
 use Rattle.venue.proofs.Rows.{put-here as put-row-here, push_here, push_apart}
-use Rattle.venue.proofs.Keeps.{booked-changed, one_of, one_open, at_most_one, open_row, sound-withdrawn, recorded-changed, changed-here, changed-apart, changed-open}
+use Rattle.venue.proofs.Keeps.{booked-changed, one_of, one_open, at_most_one, open_row, count-withdrawn, sound-withdrawn, recorded-changed, changed-here, changed-apart, changed-open}
 
 -- what is open of a side is at least so much
 abbrev pub SideOpen : Orders → ℕ → Option ℕ → Type 0
@@ -179,68 +179,65 @@ told_part : (is : List Instrument) (l : Ledger) (k q : ℕ) (side : Option ℕ) 
 told_part is l k q None = refl
 told_part is l k q (Some n) = refl
 
-pub sound-traded : (v w : View) (t : Time) (d : Deal) (p a : Option ℕ) → Sound v
-    → Allowed v.market.orders (event.Trade p a d.quantity d.price) → open_count v.rows + 2 ≤ v.free → w.instruments
-    ≡ v.instruments
-    → ledger_of w ≡ both_filled v.instruments t d p a (ledger_of v) → w.trades ≡ v.trades
-    ++ trade_of v.instruments t d p a (ledger_of v) ∷ [] → w.market ≡ taken (taken v.market d.quantity p) d.quantity a
-    → v.free ≤ w.free + 2 → Sound w
-sound-traded v w t d p a s allowed spare instruments after trades market free =
-    let is = v.instruments in
-    let l = ledger_of v in
-    let q = d.quantity in
-    let l' = passive_filled is t d p l in
-    let m' = taken v.market d.quantity p in
-    let tied : Tied is (ledger_of v) v.market = record { recorded = s.recorded; booked = s.booked } in
-    let first = first_open v.market.orders d.quantity p a allowed.1 in
-    let second = second_open v.market d.quantity p a allowed.1 in
-    let between = side-tied is t (filling d Added) (ledger_of v) v.market tied allowed.0 p first in
-    let tr = trade_of is t d p a (ledger_of v) in
-    let done = side-tied is t (filling d Removed) (passive_filled is t d p (ledger_of v))
-    (taken v.market d.quantity p) between allowed.0 a second in
-    let rows : w.rows ≡ (both_filled is t d p a (ledger_of v)).rows = ap (λ (x : Ledger). x.rows) after in
-    let kept : w.kept ≡ (both_filled is t d p a (ledger_of v)).kept = ap (λ (x : Ledger). x.kept) after in
-    let count = side-count is t (filling d Added) (ledger_of v) v.market tied allowed.0 p first in
-    let count' = side-count is t (filling d Removed) (passive_filled is t d p (ledger_of v))
-    (taken v.market d.quantity p) between allowed.0 a second in
-    let rows_open = ap open_count rows in
-    record {
-      listed = subst (λ x. length x ≤ INSTRUMENTS) (sym instruments) s.listed;
-      recorded = subst (λ x. Recorded x w.rows w.kept) (sym instruments)
-          (subst (λ x. Recorded is x w.kept) (sym rows)
-          (subst (Recorded is (both_filled is t d p a (ledger_of v)).rows) (sym kept) done.recorded));
-      booked = subst (λ x. Booked x w.market) (sym rows)
-          (subst (Booked (both_filled is t d p a (ledger_of v)).rows) (sym market) done.booked);
-      spare = omega arith;
-      filling = subst Filling (sym trades) (filling-push v.trades
-          (trade_of is t d p a (ledger_of v)) s.filling allowed.0);
-      summed = λ k.
-          let old = s.summed k in
-          let pushed = ap (traded k) trades ∙ sum_by_push (share_of k) v.trades (trade_of is t d p a (ledger_of v)) in
-          let x = told_part is (ledger_of v) k d.quantity p in
-          let y = told_part is (passive_filled is t d p (ledger_of v)) k d.quantity a in
-          let e = side-executed is t (filling d Added) (ledger_of v) v.market tied allowed.0 p first k in
-          let f = side-executed is t (filling d Removed) (passive_filled is t d p (ledger_of v))
-          (taken v.market d.quantity p) between allowed.0 a second k in
-          let r = ap (λ u. executed_of (under u k)) rows in
-          omega arith;
-    }
+-- a trade of the matcher
+module _ (b : Books) (t : Time) (p a : Option ℕ) (q : ℕ) (x : Price) (s : Sound b)
+    (allowed : Allowed b.market.orders (event.Trade p a q x)) where
+  abbrev d : Deal
+  d = deal_of b q x
 
-pub trade_between : (v : View) (d : Deal) (p a : Option ℕ) (t : Time) → Sound v
-    → Allowed v.market.orders (event.Trade p a d.quantity d.price)
-    → Tied v.instruments (passive_filled v.instruments t d p (ledger_of v)) (taken v.market d.quantity p)
-trade_between v d p a t s allowed =
-    side-tied v.instruments t (filling d Added) (ledger_of v) v.market
-    (record { recorded = s.recorded; booked = s.booked }) allowed.0 p
-    (first_open v.market.orders d.quantity p a allowed.1)
+  abbrev l : Ledger
+  l = ledger_of b
 
-pub trade_second : (v : View) (d : Deal) (p a : Option ℕ) (t : Time) → Sound v
-    → Allowed v.market.orders (event.Trade p a d.quantity d.price)
-    → SideAllows (filling d Removed) a (passive_filled v.instruments t d p (ledger_of v)).rows
-trade_second v d p a t s allowed =
-    side-allows v.instruments t (filling d Removed) (passive_filled v.instruments t d p (ledger_of v))
-    (taken v.market d.quantity p) (trade_between v d p a t s allowed) allowed.0 a
-    (second_open v.market d.quantity p a allowed.1)
+  abbrev between-ledger : Ledger
+  between-ledger = passive_filled b.instruments t (deal_of b q x) p (ledger_of b)
+
+  tied : Tied b.instruments (ledger_of b) b.market
+  tied = record { recorded = s.recorded; booked = s.booked }
+
+  first : SideOpen b.market.orders q p
+  first = first_open b.market.orders q p a allowed.1
+
+  second : SideOpen (taken b.market q p).orders q a
+  second = second_open b.market q p a allowed.1
+
+  pub trade_first : SideAllows (filling d Added) p b.rows
+  trade_first = side-allows b.instruments t (filling d Added) l b.market tied allowed.0 p first
+
+  pub trade_between : Tied b.instruments between-ledger (taken b.market q p)
+  trade_between = side-tied b.instruments t (filling d Added) l b.market tied allowed.0 p first
+
+  pub trade_second : SideAllows (filling d Removed) a between-ledger.rows
+  trade_second = side-allows b.instruments t (filling d Removed) between-ledger (taken b.market q p) trade_between
+      allowed.0 a second
+
+  done : Tied b.instruments (both_filled b.instruments t d p a l) (taken (taken b.market q p) q a)
+  done = side-tied b.instruments t (filling d Removed) between-ledger (taken b.market q p) trade_between allowed.0 a
+      second
+
+  -- a trade opens nothing
+  pub count-traded : open_count (both_filled b.instruments t d p a l).rows ≤ open_count b.rows
+  count-traded =
+      let x = side-count b.instruments t (filling d Added) l b.market tied allowed.0 p first in
+      let y = side-count b.instruments t (filling d Removed) between-ledger (taken b.market q p) trade_between
+      allowed.0 a second in
+      omega arith
+
+  pub sound-traded : Sound (enact t (Take (event.Trade p a q x)) b)
+  sound-traded = record {
+    listed = s.listed;
+    recorded = done.recorded;
+    booked = done.booked;
+    filling = filling-push b.trades (trade_of b.instruments t d p a l) s.filling allowed.0;
+    summed = λ k.
+        let old = s.summed k in
+        let pushed = sum_by_push (share_of k) b.trades (trade_of b.instruments t d p a l) in
+        let x = told_part b.instruments l k q p in
+        let y = told_part b.instruments between-ledger k q a in
+        let e = side-executed b.instruments t (filling d Added) l b.market tied allowed.0 p first k in
+        let f = side-executed b.instruments t (filling d Removed) between-ledger (taken b.market q p) trade_between
+        allowed.0 a second k in
+        omega arith;
+  }
 
 pub trade_noted : (ts ts' : List Trade) (tr : Trade) (out : Option ℕ) → length ts < TRADES → Notes ts tr out ts' → ts'
     ≡ ts ++ tr ∷ []
@@ -248,22 +245,37 @@ trade_noted ts ts' tr None room h = absurd (let l = h.0 in let no : ⊥ = omega 
 trade_noted ts ts' tr (Some n) room h = h.2
 
 -- an order that ends in the matcher is open
-pub ends_open : (v : View) (n : ℕ) → Sound v → is_some (get v.market.orders n) ≡ true
-    → is_some (open_of (under v.rows n)) ≡ true
-ends_open v n s h = sym (ap is_some (s.booked n)) ∙ h
+pub ends_open : (b : Books) (n : ℕ) → Sound b → is_some (get b.market.orders n) ≡ true
+    → is_some (open_of (under b.rows n)) ≡ true
+ends_open b n s h = sym (ap is_some (s.booked n)) ∙ h
 
 pub expiry_told : (is : List Instrument) (t : Time) (n : ℕ) (l : Ledger) (r : Row) → under l.rows n ≡ Some r
-    → ledger_expired is t n l ≡ changed is t n (Withdraw Expired r.client) l
+    → expired is t n l ≡ changed is t n (Withdraw Expired r.client) l
 expiry_told is t n l r e = ap (λ x. expired_as is t n x l) e
 
-pub sound-expired : (v w : View) (t : Time) (n : ℕ) → Sound v → is_some (open_of (under v.rows n)) ≡ true
-    → w.instruments ≡ v.instruments
-    → ledger_of w ≡ ledger_expired v.instruments t n (ledger_of v) → w.trades ≡ v.trades → w.market ≡ closed v.market n
-    → v.free ≤ w.free + 1 → Sound w
-sound-expired v w t n s h instruments after trades market free =
-    let (b, was, some) = open_row v.rows n h in
-    sound-withdrawn v w t n Expired b.client s h instruments
-    (after ∙ expiry_told v.instruments t n (ledger_of v) b was) trades market free
+module _ (b : Books) (t : Time) (n : ℕ) (s : Sound b) (h : is_some (open_of (under b.rows n)) ≡ true) where
+  pub sound-expired : Sound (enact t (Take (event.Expired n)) b)
+  sound-expired =
+      let (x, was, some) = open_row b.rows n h in
+      let c = Withdraw Expired x.client in
+      let ended = sound-withdrawn b t n Expired x.client x s was some in
+      let told = expiry_told b.instruments t n (ledger_of b) x was in
+      let gone = ap open_of (changed-here b.instruments t n c (ledger_of b) x _ s.recorded was
+      (cond-true _ _ _ (lt-ltb 0 x.leaves some))) in
+      let same : enact t (Alter n c) b ≡ enact t (Take (event.Expired n)) b =
+      ap (λ o. record b {
+        rows = (changed b.instruments t n c (ledger_of b)).rows;
+        kept = (changed b.instruments t n c (ledger_of b)).kept;
+        market = with_order b.market n o;
+      }) gone
+      ∙ ap (λ (z : Ledger). record b { rows = z.rows; kept = z.kept; market = closed b.market n }) (sym told) in
+      subst Sound same ended
+
+  pub count-expired : open_count (expired b.instruments t n (ledger_of b)).rows + 1 ≡ open_count b.rows
+  count-expired =
+      let (x, was, some) = open_row b.rows n h in
+      ap (λ (z : Ledger). open_count z.rows + 1) (expiry_told b.instruments t n (ledger_of b) x was)
+      ∙ count-withdrawn b t n Expired x.client x s was some
 
 -- ---- a trade is cancelled
 
@@ -385,78 +397,74 @@ module _ (is : List Instrument) (t : Time) (q : ℕ) (l : Ledger) (s : Recorded 
           omega arith
 
 -- the sides of a trade that stands have as much executed, one after the other
-module _ (v : View) (t : Time) (n : ℕ) (tr : Trade) (s : Sound v) (was : under v.trades n ≡ Some tr)
+module _ (b : Books) (t : Time) (n : ℕ) (tr : Trade) (s : Sound b) (was : under b.trades n ≡ Some tr)
     (stands : tr.cancelled ≡ false) where
   some_shares : 1 ≤ tr.quantity
   some_shares = let h = s.filling n tr was in omega arith
 
   sides_executed : (k : ℕ) → side_of k tr.quantity tr.passive + side_of k tr.quantity tr.aggressive ≤ executed_of
-      (under v.rows k)
-  sides_executed k = let h = void_left k v.trades n tr was stands in let e = s.summed k in omega arith
+      (under b.rows k)
+  sides_executed k = let h = void_left k b.trades n tr was stands in let e = s.summed k in omega arith
 
   side_self : (f : Side) → side_of f.order tr.quantity (Some f) ≡ tr.quantity
   side_self f = cond-true _ _ _ (eq-eqb f.order f.order refl)
 
-  passive_at : (side : Option Side) → tr.passive ≡ side → SideExecuted tr.quantity side v.rows
+  passive_at : (side : Option Side) → tr.passive ≡ side → SideExecuted tr.quantity side b.rows
   passive_at None e = tt
   passive_at (Some f) e =
       let h = sides_executed f.order in
       let x = ap (side_of f.order tr.quantity) e ∙ side_self f in
       (some_shares, omega arith)
 
-  pub undo_first : SideExecuted tr.quantity tr.passive v.rows
+  pub undo_first : SideExecuted tr.quantity tr.passive b.rows
   undo_first = passive_at tr.passive refl
 
-  pub undo_between : Recorded v.instruments (passive_undone v.instruments t tr (ledger_of v)).rows
-      (passive_undone v.instruments t tr (ledger_of v)).kept
-  undo_between = undone-recorded v.instruments t tr.quantity (ledger_of v) s.recorded tr.passive undo_first
+  pub undo_between : Recorded b.instruments (passive_undone b.instruments t tr (ledger_of b)).rows
+      (passive_undone b.instruments t tr (ledger_of b)).kept
+  undo_between = undone-recorded b.instruments t tr.quantity (ledger_of b) s.recorded tr.passive undo_first
 
   aggressive_at : (side : Option Side) → tr.aggressive ≡ side
-      → SideExecuted tr.quantity side (passive_undone v.instruments t tr (ledger_of v)).rows
+      → SideExecuted tr.quantity side (passive_undone b.instruments t tr (ledger_of b)).rows
   aggressive_at None e = tt
   aggressive_at (Some f) e =
       let h = sides_executed f.order in
       let x = ap (side_of f.order tr.quantity) e ∙ side_self f in
-      let u = undone-executed v.instruments t tr.quantity (ledger_of v) s.recorded tr.passive undo_first f.order in
+      let u = undone-executed b.instruments t tr.quantity (ledger_of b) s.recorded tr.passive undo_first f.order in
       (some_shares, omega arith)
 
-  pub undo_second : SideExecuted tr.quantity tr.aggressive (passive_undone v.instruments t tr (ledger_of v)).rows
+  pub undo_second : SideExecuted tr.quantity tr.aggressive (passive_undone b.instruments t tr (ledger_of b)).rows
   undo_second = aggressive_at tr.aggressive refl
 
-  pub sound-undone : (w : View) → open_count v.rows + 4 ≤ v.free → w.instruments ≡ v.instruments → ledger_of w
-      ≡ both_undone v.instruments t tr (ledger_of v)
-      → w.trades ≡ put_under v.trades n (void tr) → w.market ≡ v.market → v.free ≤ w.free + 4 → Sound w
-  sound-undone w spare instruments after trades market free =
-      let is = v.instruments in
-      let rows : w.rows ≡ (both_undone is t tr (ledger_of v)).rows = ap (λ (x : Ledger). x.rows) after in
-      let kept : w.kept ≡ (both_undone is t tr (ledger_of v)).kept = ap (λ (x : Ledger). x.kept) after in
-      let rows_open = ap open_count rows in
-      let count = undone-count is t tr.quantity (ledger_of v) s.recorded tr.passive undo_first in
-      let count' = undone-count is t tr.quantity
-      (passive_undone is t tr (ledger_of v)) undo_between tr.aggressive undo_second in
+  -- open stays as it is
+  pub count-undone : open_count (both_undone b.instruments t tr (ledger_of b)).rows ≡ open_count b.rows
+  count-undone =
+      undone-count b.instruments t tr.quantity (passive_undone b.instruments t tr (ledger_of b)) undo_between
+      tr.aggressive undo_second
+      ∙ undone-count b.instruments t tr.quantity (ledger_of b) s.recorded tr.passive undo_first
+
+  sound-voided : Sound (voided t n (Some tr) b)
+  sound-voided =
+      let is = b.instruments in
+      let l = passive_undone is t tr (ledger_of b) in
       record {
-        listed = subst (λ x. length x ≤ INSTRUMENTS) (sym instruments) s.listed;
-        recorded = subst (λ x. Recorded x w.rows w.kept) (sym instruments)
-            (subst (λ x. Recorded is x w.kept) (sym rows)
-            (subst (Recorded is (both_undone is t tr (ledger_of v)).rows) (sym kept)
-            (undone-recorded is t tr.quantity
-            (passive_undone is t tr (ledger_of v)) undo_between tr.aggressive undo_second)));
-        booked = λ k. ap (λ (m : Meaning). get m.orders k) market ∙ s.booked k
-            ∙ sym (ap (λ x. open_of (under x k)) rows ∙ undone-open is t tr.quantity
-            (passive_undone is t tr (ledger_of v)) undo_between tr.aggressive undo_second k ∙ undone-open is t
-            tr.quantity (ledger_of v) s.recorded tr.passive undo_first k);
-        spare = omega arith;
-        filling = subst Filling (sym trades) (filling-put v.trades n tr (void tr) was s.filling (s.filling n tr was));
+        listed = s.listed;
+        recorded = undone-recorded is t tr.quantity (passive_undone is t tr (ledger_of b)) undo_between tr.aggressive
+            undo_second;
+        booked = λ k. s.booked k
+            ∙ sym (undone-open is t tr.quantity (passive_undone is t tr (ledger_of b)) undo_between tr.aggressive
+            undo_second k ∙ undone-open is t tr.quantity (ledger_of b) s.recorded tr.passive undo_first k);
+        filling = filling-put b.trades n tr (void tr) was s.filling (s.filling n tr was);
         summed = λ k.
             let old = s.summed k in
-            let left = void_left k v.trades n tr was stands in
-            let e = undone-executed is t tr.quantity (ledger_of v) s.recorded tr.passive undo_first k in
-            let f = undone-executed is t tr.quantity
-            (passive_undone is t tr (ledger_of v)) undo_between tr.aggressive undo_second k in
-            let r = ap (λ u. executed_of (under u k)) rows in
-            let x = ap (traded k) trades in
+            let left = void_left k b.trades n tr was stands in
+            let e = undone-executed is t tr.quantity (ledger_of b) s.recorded tr.passive undo_first k in
+            let f = undone-executed is t tr.quantity (passive_undone is t tr (ledger_of b)) undo_between tr.aggressive
+            undo_second k in
             omega arith;
       }
+
+  pub sound-undone : Sound (enact t (Void n) b)
+  sound-undone = subst (λ o. Sound (voided t n o b)) (sym was) sound-voided
 
 pub stands_from : (tr : Trade) → void_fault (Some tr) ≡ None → tr.cancelled ≡ false
 stands_from tr h = go tr.cancelled h

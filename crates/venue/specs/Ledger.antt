@@ -10,6 +10,7 @@ use Rattle.keyed.specs.Numbers.{under, put_under}
 use Rattle.orders.specs.declared.row.Row.{Row}
 use Rattle.orders.specs.declared.row.Terms.{Terms}
 use Rattle.orders.specs.declared.row.Ask.{Ask}
+use Rattle.orders.specs.declared.row.Ending.TheVariants.{Expired}
 use Rattle.orders.specs.Rows.{accepted}
 use Rattle.orders.specs.Kept.{kept_from}
 use Rattle.partitions.specs.PerPartition.{at}
@@ -65,6 +66,14 @@ rewritten is t n c (Some r) l =
 -- a change of the order of a number; nothing, where it may not be made
 abbrev pub changed : List Instrument → Time → ℕ → Change → Ledger → Ledger
 changed is t n c l = rewritten is t n c (after n c (under l.rows n)) l
+
+-- an open order that ends at nobody's request, under the client order id that it has
+abbrev pub expired_as : List Instrument → Time → ℕ → Option Row → Ledger → Ledger
+expired_as is t n None l = l
+expired_as is t n (Some r) l = changed is t n (Withdraw Expired r.client) l
+
+abbrev pub expired : List Instrument → Time → ℕ → Ledger → Ledger
+expired is t n l = expired_as is t n (under l.rows n) l
 
 -- a new row, and the change that made it told
 abbrev pub added : List Instrument → Time → Change → Row → Ledger → Ledger

@@ -1,9 +1,8 @@
 pub mod Ledger
-pub mod View
-pub mod Steps
+pub mod Books
 pub mod Trading
-pub mod Flags
-pub mod Selection
+pub mod Asking
+pub mod Acts
+pub mod Enacting
 pub mod Inside
 pub mod Laws
-pub mod Asking

@@ -1,29 +1,22 @@
 -- What a trade of the matcher does to the orders. Assumes nothing.
-use Rattle.std.specs.Prelude.{◌≡◌, ℕ, ◌+◌, ◌≤◌, slice_get, true, List, [], ◌∷◌, ◌++◌, length, is_some, Some, None, Option, false}
+use Rattle.std.specs.Prelude.{◌≡◌, ℕ, ◌≤◌, slice_get, true, List, is_some, Some, None, Option, false}
 use Rattle.std.specs.Option.{option_map_or}
 use Rattle.codes.specs.Session.{partition_code}
 use Rattle.codes.specs.declared.report.Liquidity.{Liquidity}
 use Rattle.codes.specs.declared.report.Liquidity.TheVariants.{Added, Removed}
-use Rattle.texts.specs.declared.values.Price.{Price}
 use Rattle.texts.specs.declared.values.Time.{Time}
-use Rattle.keyed.specs.Numbers.{under, put_under}
-use Rattle.matching.specs.Meaning.{Allowed, happened}
-use Rattle.matching.specs.declared.event.Event.TheVariants as event
+use Rattle.keyed.specs.Numbers.{under}
 use Rattle.orders.specs.declared.row.Row.{Row}
 use Rattle.orders.specs.declared.trade.Fill.{Fill as Side}
 use Rattle.orders.specs.declared.trade.Trade.{Trade}
-use Rattle.orders.specs.Trades.{void}
 use Rattle.changes.specs.declared.change.Change.TheVariants.{Fill, Undo}
 use Rattle.changes.specs.declared.change.Undone.{Undone}
 use Rattle.changes.specs.declared.change.Fill.{Fill as Filling}
 use Rattle.changes.specs.Changes.{after}
 use Rattle.configuration.specs.declared.instrument.Instrument.{Instrument}
 use Rattle.venue.specs.declared.trading.Deal.{Deal}
-use Rattle.venue.specs.declared.step.Step.{Step}
-use Rattle.venue.specs.declared.step.Step.TheVariants.{Nothing, Expired, Traded}
 use Rattle.venue.specs.Ledger.{Ledger, changed, next_report}
-use Rattle.venue.specs.View.{View, IsOpen, executed_of}
-use Rattle.venue.specs.Steps.{Leaves, expired, ledger_of, with_ledger}
+use Rattle.venue.specs.Books.{executed_of}
 
 abbrev pub filling : Deal → Liquidity → Filling
 filling d liquidity = record {
@@ -64,25 +57,6 @@ trade_of is t d p a l = record {
   cancelled = false;
 }
 
--- ---- an event of the matcher
-
-abbrev pub traded_to : Time → Deal → Option ℕ → Option ℕ → View → View
-traded_to t d p a v = record (with_ledger v (both_filled v.instruments t d p a (ledger_of v))) {
-  trades = v.trades ++ trade_of v.instruments t d p a (ledger_of v) ∷ [];
-  market = happened v.market (event.Trade p a d.quantity d.price);
-}
-
-abbrev pub next_deal : View → ℕ → Price → Deal
-next_deal v q x = record { number = length v.trades + 1; quantity = q; price = x }
-
--- each answer stands for what the matcher did next
-abbrev pub Stepped : Time → View → Step → View → Type 0
-Stepped t v Nothing w = (v.next ≡ event.Nothing) × (w ≡ v)
-Stepped t v (Expired n) w = (v.next ≡ event.Expired n) × IsOpen v n × Leaves 1 (expired t n v) w
-Stepped t v (Traded n p a q x) w =
-    (v.next ≡ event.Trade p a q x) × (n ≡ length v.trades + 1) × Allowed v.market.orders (event.Trade p a q x)
-    × Leaves 2 (traded_to t (next_deal v q x) p a v) w
-
 -- ---- a trade is cancelled
 
 -- the number of the partition of an order's instrument
@@ -114,12 +88,3 @@ passive_undone is t tr l = side_undone is t tr.quantity tr.passive l
 
 abbrev pub both_undone : List Instrument → Time → Trade → Ledger → Ledger
 both_undone is t tr l = side_undone is t tr.quantity tr.aggressive (passive_undone is t tr l)
-
-abbrev pub trade_undone : Time → ℕ → Option Trade → View → View
-trade_undone t n None v = v
-trade_undone t n (Some tr) v = record (with_ledger v (both_undone v.instruments t tr (ledger_of v))) {
-  trades = put_under v.trades n (void tr);
-}
-
-abbrev pub undone_to : Time → ℕ → View → View
-undone_to t n v = trade_undone t n (under v.trades n) v

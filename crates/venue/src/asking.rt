@@ -1,8 +1,9 @@
 // What a venue asks of its matcher, where the matcher is sure to do it.
-ghost use Rattle.std.specs.Prelude.{◌≡◌, ◌<◌, true, is_some};
-ghost use Rattle.std.specs.FinMap.{get};
+ghost use Rattle.std.specs.Prelude.{◌≡◌, ◌<◌, true, None, is_some};
+ghost use Rattle.std.specs.FinMap.{get, len};
 ghost use Rattle.limits.specs.declared.TheConstants.{INSTRUMENTS};
-ghost use Rattle.matching.specs.Meaning.{closed, resized};
+ghost use Rattle.matching.specs.Meaning.{closed, held_of, opened, resized};
+ghost use Rattle.matching.specs.Asked.{Enter, Cancel, Amend};
 ghost use Rattle.venue.specs.Asking.{request_of};
 
 use matching::matcher::{Matcher, Terms as Request};
@@ -25,10 +26,22 @@ pub(crate) fn request_of(terms: &Terms, ask: &Ask) -> Request
     }
 }
 
+// Opens an order under a number that has none, where there is room.
+pub(crate) fn enter<M: Matcher>(matcher: &mut M, number: u64, terms: Request)
+    requires free { get (M.meaning matcher.old).orders number ≡ None }
+    requires some { 0 < terms.quantity }
+    requires room { len (M.meaning matcher.old).orders < (M.meaning matcher.old).capacity }
+    ensures after { M.meaning matcher.new ≡ opened (M.meaning matcher.old) number (held_of terms) }
+    ensures did { M.Did matcher.old (Enter number terms) matcher.new }
+{
+    let _ = matcher.enter(number, terms);
+}
+
 // Ends an open order.
 pub(crate) fn take_out<M: Matcher>(matcher: &mut M, number: u64)
     requires { is_some (get (M.meaning matcher.old).orders number) ≡ true }
-    ensures { M.meaning matcher.new ≡ closed (M.meaning matcher.old) number }
+    ensures after { M.meaning matcher.new ≡ closed (M.meaning matcher.old) number }
+    ensures did { M.Did matcher.old (Cancel number) matcher.new }
 {
     let _ = matcher.cancel(number);
 }
@@ -37,7 +50,8 @@ pub(crate) fn take_out<M: Matcher>(matcher: &mut M, number: u64)
 pub(crate) fn resize<M: Matcher>(matcher: &mut M, number: u64, quantity: u32, price: Price)
     requires opened { is_some (get (M.meaning matcher.old).orders number) ≡ true }
     requires some { 0 < quantity }
-    ensures { M.meaning matcher.new ≡ resized (M.meaning matcher.old) number quantity }
+    ensures after { M.meaning matcher.new ≡ resized (M.meaning matcher.old) number quantity }
+    ensures did { M.Did matcher.old (Amend number quantity price) matcher.new }
 {
     let _ = matcher.amend(number, quantity, price);
 }

@@ -3,9 +3,7 @@
 
 mod asking;
 pub mod laws;
-pub mod refusal;
-pub mod selection;
+pub mod ledger;
 pub mod step;
-mod telling;
 mod trading;
 pub mod venue;

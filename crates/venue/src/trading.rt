@@ -6,13 +6,11 @@ ghost use Rattle.venue.specs.Trading.{SideAllows, SideExecuted, both_undone, pas
 ghost use Rattle.codes.specs.Session.{partition_code};
 ghost use Rattle.codes.specs.declared.report.Liquidity.TheVariants.{Added, Removed};
 
+use crate::ledger::Ledger;
 use crate::step::Step;
-use crate::telling::change;
 use changes::change::{Change, Fill, Undone};
 use codes::report::Liquidity;
 use codes::session::Partition;
-use configuration::instrument::Instrument;
-use orders::table::Table;
 use orders::trade::{Fill as Side, Trade, Trades};
 use store::Store;
 use texts::identifiers::ExecutionId;
@@ -65,140 +63,110 @@ impl Deal {
     }
 }
 
-// Fills one side of a trade, where it is named.
-fn fill_side<S: Store>(
-    table: &mut Table,
-    store: &mut S,
-    instruments: &[Instrument],
-    side: Option<u64>,
-    fill: Fill,
-    time: Time,
-) -> Option<Side>
-    requires recorded { Recorded instruments.now table.old (S.kept store.old) }
-    requires allowed { SideAllows fill side table.old }
-    requires place { 1 ≤ S.free store.old }
-    ensures side { result ≡ side_told instruments.now side (ledger table.old (S.kept store.old)) }
-    ensures after { ledger table.new (S.kept store.new)
-        ≡ side_filled instruments.now time fill side (ledger table.old (S.kept store.old)) }
-    ensures free { Uses 1 (S.free store.old) (S.free store.new) }
-{
-    match side {
-        None => None,
-        Some(order) => {
-            let report = change(table, store, instruments, order, &Change::Fill(fill), time);
-            Some(Side { order, report })
-        }
-    }
-}
-
-// Fills both sides of a trade.
-pub(crate) fn trade<S: Store>(
-    table: &mut Table,
-    store: &mut S,
-    instruments: &[Instrument],
-    deal: Deal,
-    passive: Option<u64>,
-    aggressive: Option<u64>,
-    time: Time,
-) -> Trade
-    requires recorded { Recorded instruments.now table.old (S.kept store.old) }
-    requires first { SideAllows (filling deal Added) passive table.old }
-    requires between { Recorded instruments.now
-        (passive_filled instruments.now time deal passive (ledger table.old (S.kept store.old))).rows
-        (passive_filled instruments.now time deal passive (ledger table.old (S.kept store.old))).kept }
-    requires second { SideAllows (filling deal Removed) aggressive
-        (passive_filled instruments.now time deal passive (ledger table.old (S.kept store.old))).rows }
-    requires places { 2 ≤ S.free store.old }
-    ensures trade { result ≡ trade_of instruments.now time deal passive aggressive (ledger table.old (S.kept store.old)) }
-    ensures after { ledger table.new (S.kept store.new)
-        ≡ both_filled instruments.now time deal passive aggressive (ledger table.old (S.kept store.old)) }
-    ensures free { Uses 2 (S.free store.old) (S.free store.new) }
-{
-    let at_rest = deal.fill(Liquidity::Added);
-    let arriving = deal.fill(Liquidity::Removed);
-    let passive = fill_side(table, store, instruments, passive, at_rest, time);
-    let aggressive = fill_side(table, store, instruments, aggressive, arriving, time);
-    Trade {
-        quantity: deal.quantity,
-        price: deal.price,
-        passive,
-        aggressive,
-        cancelled: false,
-    }
-}
-
 fn partition_number(partition: Partition) -> u8
     ensures { result ≡ partition_code partition }
 {
     partition as u8
 }
 
-// Undoes the fill of one side of a trade, where it is named.
-fn undo_side<S: Store>(
-    table: &mut Table,
-    store: &mut S,
-    instruments: &[Instrument],
-    side: Option<Side>,
-    quantity: u32,
-    time: Time,
-)
-    requires recorded { Recorded instruments.now table.old (S.kept store.old) }
-    requires executed { SideExecuted quantity side table.old }
-    requires places { 2 ≤ S.free store.old }
-    ensures after { ledger table.new (S.kept store.new)
-        ≡ side_undone instruments.now time quantity side (ledger table.old (S.kept store.old)) }
-    ensures free { Uses 2 (S.free store.old) (S.free store.new) }
-{
-    if let Some(side) = side {
-        let Some(order) = table.order(side.order) else {
+impl<S: Store> Ledger<S> {
+    // Fills one side of a trade, where it is named.
+    fn fill_side(&mut self, side: Option<u64>, fill: Fill, time: Time) -> Option<Side>
+        requires recorded { Recorded self.old.instruments.items self.old.table (S.kept self.old.store) }
+        requires allowed { SideAllows fill side self.old.table }
+        requires place { 1 ≤ S.free self.old.store }
+        ensures side { result ≡ side_told self.old.instruments.items side (ledger self.old.table (S.kept self.old.store)) }
+        ensures after { ledger self.new.table (S.kept self.new.store)
+            ≡ side_filled self.old.instruments.items time fill side (ledger self.old.table (S.kept self.old.store)) }
+        ensures same { self.new.instruments ≡ self.old.instruments }
+        ensures free { Uses 1 (S.free self.old.store) (S.free self.new.store) }
+    {
+        let number = side?;
+        let Some(order) = self.table.order(number) else {
             unreachable!()
         };
-        let instrument = instruments[order.row().terms.instrument];
-        let partition = partition_number(instrument.partition);
-        let sequence = side.report;
-        let report = ExecutionId {
-            partition,
-            sequence,
-        };
-        let undoing = Change::Undo(Undone { quantity, report });
-        change(table, store, instruments, side.order, &undoing, time);
+        let report = self.change(order, &Change::Fill(fill), time);
+        Some(Side {
+            order: number,
+            report,
+        })
     }
-}
 
-// Undoes both fills of a trade.
-pub(crate) fn undo<S: Store>(
-    table: &mut Table,
-    store: &mut S,
-    instruments: &[Instrument],
-    trade: Trade,
-    time: Time,
-)
-    requires recorded { Recorded instruments.now table.old (S.kept store.old) }
-    requires first { SideExecuted trade.quantity trade.passive table.old }
-    requires between { Recorded instruments.now
-        (passive_undone instruments.now time trade (ledger table.old (S.kept store.old))).rows
-        (passive_undone instruments.now time trade (ledger table.old (S.kept store.old))).kept }
-    requires second { SideExecuted trade.quantity trade.aggressive
-        (passive_undone instruments.now time trade (ledger table.old (S.kept store.old))).rows }
-    requires places { 4 ≤ S.free store.old }
-    ensures after { ledger table.new (S.kept store.new)
-        ≡ both_undone instruments.now time trade (ledger table.old (S.kept store.old)) }
-    ensures free { Uses 4 (S.free store.old) (S.free store.new) }
-{
-    undo_side(
-        table,
-        store,
-        instruments,
-        trade.passive,
-        trade.quantity,
-        time,
-    );
-    undo_side(
-        table,
-        store,
-        instruments,
-        trade.aggressive,
-        trade.quantity,
-        time,
-    );
+    // Fills both sides of a trade.
+    pub(crate) fn trade(
+        &mut self,
+        deal: Deal,
+        passive: Option<u64>,
+        aggressive: Option<u64>,
+        time: Time,
+    ) -> Trade
+        requires recorded { Recorded self.old.instruments.items self.old.table (S.kept self.old.store) }
+        requires first { SideAllows (filling deal Added) passive self.old.table }
+        requires between { let l = passive_filled self.old.instruments.items time deal passive
+            (ledger self.old.table (S.kept self.old.store)) in Recorded self.old.instruments.items l.rows l.kept }
+        requires second { SideAllows (filling deal Removed) aggressive
+            (passive_filled self.old.instruments.items time deal passive
+            (ledger self.old.table (S.kept self.old.store))).rows }
+        requires places { 2 ≤ S.free self.old.store }
+        ensures trade { result ≡ trade_of self.old.instruments.items time deal passive aggressive
+            (ledger self.old.table (S.kept self.old.store)) }
+        ensures after { ledger self.new.table (S.kept self.new.store)
+            ≡ both_filled self.old.instruments.items time deal passive aggressive
+            (ledger self.old.table (S.kept self.old.store)) }
+        ensures same { self.new.instruments ≡ self.old.instruments }
+        ensures free { Uses 2 (S.free self.old.store) (S.free self.new.store) }
+    {
+        let passive = self.fill_side(passive, deal.fill(Liquidity::Added), time);
+        let aggressive = self.fill_side(aggressive, deal.fill(Liquidity::Removed), time);
+        Trade {
+            quantity: deal.quantity,
+            price: deal.price,
+            passive,
+            aggressive,
+            cancelled: false,
+        }
+    }
+
+    // Undoes the fill of one side of a trade, where it is named.
+    fn undo_side(&mut self, side: Option<Side>, quantity: u32, time: Time)
+        requires recorded { Recorded self.old.instruments.items self.old.table (S.kept self.old.store) }
+        requires executed { SideExecuted quantity side self.old.table }
+        requires places { 2 ≤ S.free self.old.store }
+        ensures after { ledger self.new.table (S.kept self.new.store)
+            ≡ side_undone self.old.instruments.items time quantity side (ledger self.old.table (S.kept self.old.store)) }
+        ensures same { self.new.instruments ≡ self.old.instruments }
+        ensures free { Uses 2 (S.free self.old.store) (S.free self.new.store) }
+    {
+        if let Some(side) = side {
+            let Some(order) = self.table.order(side.order) else {
+                unreachable!()
+            };
+            let instrument = self.instruments[order.row().terms.instrument];
+            let partition = partition_number(instrument.partition);
+            let sequence = side.report;
+            let report = ExecutionId {
+                partition,
+                sequence,
+            };
+            self.change(order, &Change::Undo(Undone { quantity, report }), time);
+        }
+    }
+
+    // Undoes both fills of a trade.
+    pub(crate) fn undo(&mut self, trade: Trade, time: Time)
+        requires recorded { Recorded self.old.instruments.items self.old.table (S.kept self.old.store) }
+        requires first { SideExecuted trade.quantity trade.passive self.old.table }
+        requires between { let l = passive_undone self.old.instruments.items time trade
+            (ledger self.old.table (S.kept self.old.store)) in Recorded self.old.instruments.items l.rows l.kept }
+        requires second { SideExecuted trade.quantity trade.aggressive
+            (passive_undone self.old.instruments.items time trade (ledger self.old.table (S.kept self.old.store))).rows }
+        requires places { 4 ≤ S.free self.old.store }
+        ensures after { ledger self.new.table (S.kept self.new.store)
+            ≡ both_undone self.old.instruments.items time trade (ledger self.old.table (S.kept self.old.store)) }
+        ensures same { self.new.instruments ≡ self.old.instruments }
+        ensures free { Uses 4 (S.free self.old.store) (S.free self.new.store) }
+    {
+        self.undo_side(trade.passive, trade.quantity, time);
+        self.undo_side(trade.aggressive, trade.quantity, time);
+    }
 }

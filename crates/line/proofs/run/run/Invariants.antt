@@ -6,7 +6,7 @@ use Rattle.line.proofs.run.run.Given as goal
 abbrev pub invariant-loop-call : goal.invariant-loop-call
 invariant-loop-call g l = record {
   calls : map call_of l.log.items ≡ take l.call-index l.calls;
-  runs : Runs l.fn.gateway l.log.items l.gateway;
+  runs : Runs g.M.Matcher.Did l.fn.gateway l.log.items l.gateway;
   long : vec_len l.log ≡ l.call-index;
   room : length l.calls ≤ vec_capacity l.log;
 }

@@ -7,6 +7,7 @@ use Rattle.gateway.proofs.Stored.{number_fits}
 use Rattle.keyed.specs.Numbers.{under}
 use Rattle.partitions.specs.PerPartition.{at}
 use Rattle.store.specs.Kept.{Kept}
+use Rattle.venue.specs.Books.{Over}
 use Rattle.gateway.proofs.gateway.Gateway.write_stored.Goals as goal
 
 pub write_report-requires-clause-few : goal.write_report-requires-clause-few
@@ -19,9 +20,9 @@ pub returns-in-Some : goal.returns-in-Some
 returns-in-Some g c =
     let p = c.args.partition in
     let n = c.args.number in
-    let kept : g.S.Store.kept c.store.result.now ≡ c.args.self.now.venue.kept =
-    c.store.ensures.kept ∙ ap (λ (s : State). s.venue.kept) c.self.view_is in
-    let there : Some c.in-Some.entry ≡ under (at c.args.self.now.venue.kept p) n =
+    let kept : g.S.Store.kept c.store.result.now ≡ c.args.self.now.state.venue.kept =
+    c.store.ensures.kept ∙ ap (λ (x : Over State g.row.M.Denot). x.state.venue.kept) c.self.view_is in
+    let there : Some c.in-Some.entry ≡ under (at c.args.self.now.state.venue.kept p) n =
     c.in-Some.ensures ∙ ap (λ (k : Kept). under (at k p) n) kept in
     record {
       sent = subst (λ x. Sent (entry_bytes p n x) c.args.out.now c.write_report.new.out c.write_report.result) there

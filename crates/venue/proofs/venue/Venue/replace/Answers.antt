@@ -1,23 +1,64 @@
-use Rattle.std.specs.Prelude.{◌≤◌, ◌+◌, ◌-◌, refl}
+use Rattle.std.specs.Prelude.{◌≡◌, ◌≤◌, ◌+◌, ◌-◌, [], ◌∷◌, Some, refl, vec_items}
 use Rattle.std.proofs.Common.{sym, ap, ◌∙◌, subst, arith}
+use Rattle.keyed.specs.Numbers.{under}
+use Rattle.matching.specs.Asked.{Amend, Asks}
+use Rattle.matching.specs.Meaning.{resized, with_order}
 use Rattle.orders.specs.Tables.{open_count}
-use Rattle.changes.specs.declared.change.Change.TheVariants.{Replace}
 use Rattle.orders.specs.declared.row.Row.{Row}
-use Rattle.venue.specs.Ledger.{changed, ledger}
-use Rattle.venue.specs.Steps.{Replaceable}
-use Rattle.venue.specs.View.{View, executed_of}
-use Rattle.venue.specs.Inside.{view}
-use Rattle.venue.proofs.Keeps.{sound-replaced}
+use Rattle.changes.specs.declared.change.Change.TheVariants.{Replace}
+use Rattle.venue.specs.Acts.{Alter}
+use Rattle.venue.specs.Books.{Books, Over, Sound, executed_of}
+use Rattle.venue.specs.Enacting.{Enacts}
+use Rattle.venue.specs.Inside.{shown}
+use Rattle.venue.specs.Ledger.{Ledger}
+use Rattle.venue.proofs.Keeps.{count-replaced, held-replaced, sound-replaced}
+use Rattle.venue.proofs.Rebuilt.{same_books}
 use Rattle.venue.proofs.venue.Venue.replace.Goals as goal
 
 pub invariant_of-self : goal.invariant_of-self
 invariant_of-self g c =
-    let v : View = view g.M.Matcher g.S.Store c.self.inside in
-    let h = subst (λ (x : View). Replaceable x c.args.number c.args.ask) (sym c.self.view_is) c.requires.allowed in
-    let spare = subst (λ (x : View). open_count x.rows + 1 ≤ x.free) (sym c.self.view_is) c.requires.spare in
-    let amount = ap (λ (x : Row). c.args.ask.quantity - x.executed) c.row.ensures.is ∙ ap
-    (λ x. c.args.ask.quantity - executed_of x) c.in-Some.ensures in
-    sound-replaced v _ c.args.time c.args.number _ c.args.ask c.self.invariant h spare refl
-    (c.change.ensures.after ∙ ap (λ is. changed is c.args.time c.args.number (Replace c.args.ask)
-    (ledger v.rows v.kept)) c.deref.ensures.value) refl
-    amount c.resize.ensures (omega arith)
+    let b = (shown g.M.Matcher g.S.Store c.self.inside).state in
+    let n = c.args.order.number in
+    let a = c.args.ask in
+    let t = c.args.time in
+    let s = c.self.invariant.sound in
+    let was = subst (λ (x : Over Books _). under x.state.rows n ≡ Some c.args.order) (sym c.self.view_is)
+    c.requires.there in
+    let spare = subst (λ (x : Over Books _). open_count x.state.rows + 1 ≤ x.free) (sym c.self.view_is)
+    c.requires.spare in
+    let market = c.resize.ensures.after
+    ∙ ap (λ (r : Row). resized b.market r.number (a.quantity - r.executed)) c.row-row.ensures.is
+    ∙ ap (with_order b.market n) (held-replaced b t n a c.args.order s was c.requires.allowed) in
+    let made = same_books _ _ _ _ _ _ _ _ _ (ap vec_items c.change.ensures.same) c.change.ensures.after refl market in
+    let count = count-replaced b t n a c.args.order s was c.requires.allowed in
+    let rows = ap (λ (l : Ledger). open_count l.rows) c.change.ensures.after in
+    record {
+      sound = subst Sound (sym made) (sound-replaced b t n a c.args.order s was c.requires.allowed);
+      spare = omega arith;
+    }
+
+pub returns : goal.returns
+returns g c =
+    let b = (shown g.M.Matcher g.S.Store c.self.inside).state in
+    let n = c.args.order.number in
+    let a = c.args.ask in
+    let t = c.args.time in
+    let s = c.self.invariant.sound in
+    let did = g.M.Matcher.Did in
+    let was = subst (λ (x : Over Books _). under x.state.rows n ≡ Some c.args.order) (sym c.self.view_is)
+    c.requires.there in
+    let market = c.resize.ensures.after
+    ∙ ap (λ (r : Row). resized b.market r.number (a.quantity - r.executed)) c.row-row.ensures.is
+    ∙ ap (with_order b.market n) (held-replaced b t n a c.args.order s was c.requires.allowed) in
+    let made = same_books _ _ _ _ _ _ _ _ _ (ap vec_items c.change.ensures.same) c.change.ensures.after refl market in
+    let one = subst (λ (r : Row). did c.self.inside.matcher (Amend r.number (a.quantity - r.executed) a.price)
+    c.resize.new.matcher) c.row-row.ensures.is c.resize.ensures.did in
+    let asked = subst (λ o. Asks did (Amend n (a.quantity - executed_of o) a.price ∷ []) c.self.inside.matcher
+    c.resize.new.matcher) (sym was) (_, one, refl) in
+    let y = shown g.M.Matcher g.S.Store (record {
+      ledger = c.change.new.self;
+      trades = c.self.inside.trades;
+      matcher = c.resize.new.matcher;
+    }) in
+    subst (λ (x : Over Books _). Enacts did t (Alter n (Replace a) ∷ []) x y) c.self.view_is
+    (record { books = made; asked = asked; places = c.change.ensures.free })
