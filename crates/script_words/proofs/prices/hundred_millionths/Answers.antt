@@ -10,5 +10,5 @@ pub returns-in-None : goal.returns-in-None
 unfolding raw_of lib.Utf8.encode
 returns-in-None c =
     let none : starts_with_minus c.args.word.now ≡ false =
-      no_minus c.args.word.now (λ rest. c.in-None.ensures.cases rest) in
+    no_minus c.args.word.now (λ rest. c.in-None.ensures.cases rest) in
     grind (arith, common_steps, none)
