@@ -1,0 +1,143 @@
+-- Each call on a gateway over the lit book: the book follows it, and a trade that it reports is fair. Assumes nothing.
+use Rattle.std.specs.FinMap.{len}
+use Rattle.std.specs.List.{AllByRecursion}
+use Rattle.std.proofs.lemmas.Bool.{and_parts, eqb-true}
+use Rattle.std.proofs.Common.{◌≡◌, ℕ, zero, suc, true, eqb, arith, List, [], ◌∷◌, ◌++◌, Some, None, Option, Ok, Err, Result, length, refl, sym, ap, ◌∙◌, subst}
+use Rattle.call.specs.declared.venue_side.Done.{Done}
+use Rattle.call.specs.declared.venue_side.Done.TheVariants as done
+use Rattle.gateway.specs.Calls.{Handed, Hands, Loses, Steps, Undoes, live_handed, recovery_handed, send_fault}
+use Rattle.gateway.specs.Doing.{Comes, Stays}
+use Rattle.gateway.specs.Hearing.{Checked, Given, Hears, Read, call_fault, outcome_of, reader_of}
+use Rattle.gateway.specs.Starting.{is_new, is_unused}
+use Rattle.gateway.specs.State.{State, venue_of}
+use Rattle.gateway.specs.declared.fault.GatewayFault.{GatewayFault}
+use Rattle.keyed.specs.Numbers.{under}
+use Rattle.layout.specs.declared.fault.Fault.{Fault}
+use Rattle.line.proofs.Fitting.{outcome_fits}
+use Rattle.line.specs.Runs.{Does, blank, giving}
+use Rattle.lit_book.proofs.Fairs.{served}
+use Rattle.lit_book.proofs.Tables.{count}
+use Rattle.lit_book.specs.Books.{LitDid, lit, lit_meaning, table}
+use Rattle.lit_book.specs.Lists.{order_in, orders_of}
+use Rattle.lit_book.specs.declared.book.LitBook.{LitBook}
+use Rattle.lit_book.specs.declared.order.Order.{Order}
+use Rattle.lit_day.proofs.Acting.{MayDo, acts_follow, all_of, apart_in}
+use Rattle.lit_day.proofs.Sending.{ends_may, outcome_may}
+use Rattle.lit_day.proofs.Taking.{within}
+use Rattle.lit_day.specs.Trading.{Answered, Fairly, Mirrors, Trades, open_order}
+use Rattle.orders.specs.declared.row.Row.{Row}
+use Rattle.requests.specs.Deciding.{spare}
+use Rattle.sessions.specs.declared.session.Channel.TheVariants.{RealTime, Recovery}
+use Rattle.store.specs.Kept.{Kept}
+use Rattle.texts.specs.declared.values.Time.{Time}
+use Rattle.venue.specs.Acts.{Act, Take, Void}
+use Rattle.venue.specs.Books.{Books, Over}
+use Rattle.venue.specs.declared.step.Step.{Step}
+use Rattle.wire.specs.Messages.{verdict}
+
+abbrev pub Follows : Over State LitBook → Type 0
+Follows x = Mirrors x.state.venue.rows (lit x.engine)
+
+module _ (x y : Over State LitBook) (k : Follows x) where
+  -- acts that may be done, after a change of a session
+  comes : (t : Time) (u : State) (acts : List Act) → u.venue ≡ x.state.venue → AllByRecursion MayDo acts
+      → Comes LitDid t x y u acts → Follows y
+  comes t u acts same may c =
+      subst (λ (z : State). Mirrors z.venue.rows (lit y.engine)) (sym c.state)
+      (acts_follow t acts u.venue x.engine y.engine may c.asked
+      (subst (λ (v : Books). Mirrors v.rows (lit x.engine)) (sym same) k))
+
+  idle : (t : Time) → Comes LitDid t x y x.state [] → Follows y
+  idle t c = comes t x.state [] refl tt c
+
+  module _ (g : Given) (r : Result ℕ GatewayFault) (out : List ℕ) where
+    reads : (o : Option Fault) → Read (Comes LitDid g.time x y) o g x.state r out → Follows y
+    reads (Some f) h = idle g.time h.1
+    reads None (m, read, h) =
+        let o = outcome_of g.channel g.line m g.time g.spare x.state in
+        comes g.time o.changed o.acts (outcome_fits x.state g.line g.channel m g.time g.spare).same
+        (outcome_may x.state g.line g.channel m g.time g.spare) h.1
+
+    checks : (o : Option GatewayFault) → Checked (Comes LitDid g.time x y) o g x.state r out → Follows y
+    checks (Some f) h = idle g.time h.1
+    checks None h = reads (verdict (reader_of g.channel) g.bytes) h
+
+    hears : Hears (Comes LitDid g.time x y) g x.state r out → Follows y
+    hears h = checks (call_fault (length g.buffer) g.line x.state) h
+
+  steps : (t : Time) (n : ℕ) (r : Result Step GatewayFault) → Steps (Comes LitDid t x y) n x.state r → Follows y
+  steps t n (Ok r) (f, e, may, is, c) = comes t x.state (Take e ∷ []) refl (tt, tt) c
+  steps t n (Err f) h = idle t h.1
+
+  undoes : (t : Time) (m n : ℕ) (r : Result (Unit {0}) GatewayFault) → Undoes (Comes LitDid t x y) m n x.state r
+      → Follows y
+  undoes t m n (Ok u) h = comes t x.state (Void m ∷ []) refl (tt, tt) h.1
+  undoes t m n (Err f) h = idle t h.1
+
+  loses : (t : Time) (line : ℕ) (r : Result (Unit {0}) GatewayFault) → Loses (Comes LitDid t x y) line x.state r
+      → Follows y
+  loses t line (Ok u) h = comes t _ _ refl (ends_may x.state line) h.1
+  loses t line (Err f) h = idle t h.1
+
+  stays : (u : State) → u.venue ≡ x.state.venue → Stays x y u [] → Follows y
+  stays u same e =
+      subst Follows (sym e) (subst (λ (v : Books). Mirrors v.rows (lit x.engine)) (sym same) k)
+
+  hands : (o : Option GatewayFault) (h : Handed) (r : Result ℕ GatewayFault) (out : List ℕ)
+      → h.after.venue ≡ x.state.venue → Hands (Stays x y) o h x.state blank r out → Follows y
+  hands (Some f) h r out same d = stays x.state refl d.1
+  hands None h r out same d = stays h.after same d.1
+
+  pub follows : (d : Done) → Does LitDid x d y → Follows y
+  follows (done.RealTime line m t r) h =
+      hears (giving RealTime line m.now t (spare (venue_of x))) r.answer r.buffer h
+  follows (done.Recovery line m t r) h =
+      hears (giving Recovery line m.now t (spare (venue_of x))) r.answer r.buffer h
+  follows (done.Step t r) h = steps t (spare (venue_of x)) r h
+  follows (done.CancelTrade n t r) h = undoes t n (spare (venue_of x)) r h
+  follows (done.LineLost line t r) h = loses t line r h
+  follows (done.Send line r) h =
+      hands (send_fault RealTime (length blank) line x.state) (live_handed line x.state) r.answer r.buffer refl h
+  follows (done.SendRecovered line r) h =
+      hands (send_fault Recovery (length blank) line x.state) (recovery_handed line x.state) r.answer r.buffer refl h
+
+  -- ---- a trade
+
+  answers : (t : Time) (n : ℕ) (r : Result Step GatewayFault) → Steps (Comes LitDid t x y) n x.state r
+      → Answered x.state.venue.rows (lit x.engine) r
+  answers t n (Ok r) (f, e, may, is, c) =
+      let did = c.asked.1 in
+      subst (λ q. Answered x.state.venue.rows (lit x.engine) (Ok q)) (sym is)
+      (within x.state.venue (lit x.engine) e k (apart_in x.engine) did.0
+      (served (table x.engine) x.engine.resting e x.engine.apart x.engine.uncrossed did.0))
+  answers t n (Err f) h = tt
+
+  pub fairly : (d : Done) → Does LitDid x d y → Fairly x.state.venue.rows (lit x.engine) d
+  fairly (done.Step t r) h = answers t (spare (venue_of x)) r h
+  fairly d h = tt
+
+-- ---- calls in turn
+
+pub trades_more : (x : Over State LitBook) (ds : List Done) (y : Over State LitBook) (d : Done) (z : Over State LitBook)
+    → Trades x ds y → Follows y → Does LitDid y d z → Trades x (ds ++ d ∷ []) z
+trades_more x [] y d z e k h =
+    subst (λ (a : Over State LitBook). Trades a (d ∷ []) z) e (z, h, k, fairly y z k d h, refl)
+trades_more x (b ∷ ds) y d z (a, f, g, i, r) k h = (a, f, g, i, trades_more a ds y d z r k h)
+
+-- ---- a day that begins
+
+none_in : (xs : List Order) (n : ℕ) → length xs ≡ 0 → order_in xs n ≡ None
+none_in [] n e = refl
+none_in (x ∷ xs) n e = absurd (let no : ⊥ = omega arith in no)
+
+none_under : (n : ℕ) → under {X = Row} [] n ≡ None
+none_under zero = refl
+none_under (suc n) = refl
+
+pub begins : (b : LitBook) (k : Kept) → is_new (lit_meaning b) k ≡ true → Mirrors [] (lit b)
+begins b k h n =
+    let none = eqb-true _ 0 (and_parts (eqb (len (orders_of (table b))) 0) (is_unused k) h).0 in
+    let many = count (table b) b.apart in
+    ap (λ (l : List Order). order_in l n) (all_of b)
+    ∙ none_in (table b) n (omega arith)
+    ∙ ap (open_order n) (sym (none_under n))

@@ -1,0 +1,6 @@
+pub mod Finding
+pub mod Mirroring
+pub mod Taking
+pub mod Acting
+pub mod Sending
+pub mod Calling

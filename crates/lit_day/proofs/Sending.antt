@@ -1,0 +1,178 @@
+-- The acts of a line: each new quantity is one that can be ordered, and none fills an order. Assumes nothing.
+use Rattle.std.specs.Prelude.{nat_le, nat_lt}
+use Rattle.std.specs.List.{AllByRecursion}
+use Rattle.std.specs.Option.{option_map}
+use Rattle.std.specs.Ordering.{int_eq}
+use Rattle.std.proofs.Common.{◌≡◌, ℕ, ℤ, pos, negsuc, Bool, true, false, cond, List, [], ◌∷◌, Some, None, Option, Ok, Err, Result, refl, sym, ap, ◌∙◌, subst}
+use Rattle.changes.specs.declared.change.Change.{Change}
+use Rattle.changes.specs.declared.change.Change.TheVariants.{Accept, Replace, Withdraw, Fill, Undo}
+use Rattle.gateway.specs.Doing.{Outcome}
+use Rattle.gateway.specs.Hearing.{answered, outcome_of, rejection, requested_as}
+use Rattle.gateway.specs.Lines.{ends_of}
+use Rattle.gateway.specs.State.{State, session}
+use Rattle.answers.specs.declared.answer.Reason.TheVariants as reason
+use Rattle.keyed.proofs.Under.{none-some}
+use Rattle.line.proofs.Fitting.{Fits, ends_fit, outcome_fits}
+use Rattle.line.specs.Conservation.{MayBy, MayLose}
+use Rattle.lit_day.proofs.Acting.{MayAlter, MayDo}
+use Rattle.order_messages.specs.declared.order_cancel_replace_request.OrderCancelReplaceRequest.{OrderCancelReplaceRequest}
+use Rattle.orders.specs.Rows.{orderable}
+use Rattle.orders.specs.declared.row.Ask.{Ask}
+use Rattle.orders.specs.declared.row.Row.{Row}
+use Rattle.refusals.specs.declared.Refusal.{Refusal}
+use Rattle.refusals.specs.declared.Turned.{Turned}
+use Rattle.refusals.specs.declared.Turned.TheVariants.{NoPlace}
+use Rattle.requests.specs.Checks.{shares, shown}
+use Rattle.requests.specs.Deciding.{Decision, turned_if, with_listing}
+use Rattle.requests.specs.Instruments.{look_up}
+use Rattle.requests.specs.Replaces as replaces
+use Rattle.requests.specs.declared.listing.Listing.{Listing}
+use Rattle.requests.specs.declared.replace.Replacement.{Replacement}
+use Rattle.sessions.specs.Sessions.{on}
+use Rattle.sessions.specs.declared.session.Channel.{Channel}
+use Rattle.terms.specs.Lifetime.{is_asked}
+use Rattle.texts.specs.Says.{says}
+use Rattle.texts.specs.declared.values.Time.{Time}
+use Rattle.venue.specs.Acts.{Act, Open, Alter, Note, Take, Void}
+use Rattle.wire.specs.declared.message.Message.{Message}
+use Rattle.wire.specs.declared.message.Message.TheVariants as message
+
+-- ---- a Replace asks for a quantity that can be ordered
+
+if_orderable : (k n : ℕ) (b : Bool) → orderable k ≡ b → cond b (Some k) None ≡ Some n → orderable n ≡ true
+if_orderable k n true o h = let is : k ≡ n = cc in ap orderable (sym is) ∙ o
+if_orderable k n false o h = none-some n h
+
+of_shares : (q : ℤ) (n : ℕ) → shares q ≡ Some n → orderable n ≡ true
+of_shares (pos k) n h = if_orderable k n (orderable k) refl h
+of_shares (negsuc k) n h = none-some n h
+
+of_shown : (q : ℤ) (n : ℕ) (b : Bool) → cond b (shares q) None ≡ Some n → orderable n ≡ true
+of_shown q n true h = of_shares q n h
+of_shown q n false h = none-some n h
+
+module _ (m : OrderCancelReplaceRequest) where
+  abbrev Asked : Ask → Type 0
+  Asked a = orderable a.quantity ≡ true
+
+  of_asks : (o : Option ℕ) (a : Ask) → shown m.quantity m.display_quantity ≡ o → option_map (replaces.asks m) o ≡ Some a
+      → Asked a
+  of_asks None a e h = none-some a h
+  of_asks (Some n) a e h =
+      let is : replaces.asks m n ≡ a = cc in
+      subst Asked is (of_shown m.quantity n (int_eq m.display_quantity m.quantity) e)
+
+  of_ask : (b : Bool) (a : Ask)
+      → cond b (option_map (replaces.asks m) (shown m.quantity m.display_quantity)) None ≡ Some a → Asked a
+  of_ask true a h = of_asks (shown m.quantity m.display_quantity) a refl h
+  of_ask false a h = none-some a h
+
+  of_more : (c : Bool) (r : Row) (a : Ask) (e : Refusal) (x : Replacement) → Asked a
+      → cond c (Err e) (Ok (record { order = r; ask = a })) ≡ Ok x → Asked x.ask
+  of_more true r a e x f h = absurd (cc)
+  of_more false r a e x f h = let is : a ≡ x.ask = cc in subst Asked is f
+
+  of_above : (r : Row) (o : Option Ask) (x : Replacement) → replaces.ask_of m r ≡ o → replaces.above r o ≡ Ok x
+      → Asked x.ask
+  of_above r None x e h = absurd (cc)
+  of_above r (Some a) x e h = of_more (nat_le a.quantity r.executed) r a _ x (of_ask _ a e) h
+
+  of_timed : (r : Row) (c : Bool) (e : Refusal) (x : Replacement)
+      → cond c (replaces.above r (replaces.ask_of m r)) (Err e) ≡ Ok x → Asked x.ask
+  of_timed r true e x h = of_above r (replaces.ask_of m r) x refl h
+  of_timed r false e x h = absurd (cc)
+
+  of_row : (o : Result Row Refusal) (x : Replacement) → replaces.of_row m o ≡ Ok x → Asked x.ask
+  of_row (Err e) x h = absurd (cc)
+  of_row (Ok r) x h = of_timed r (is_asked m.time_in_force r.terms.lifetime) _ x h
+
+-- ---- what is decided
+
+abbrev Decided : Decision → Type 0
+Decided (Err t) = Unit {0}
+Decided (Ok acts) = AllByRecursion MayDo acts
+
+unless : (b : Bool) (t : Turned) (d : Decision) → Decided d → Decided (turned_if b t d)
+unless true t d f = tt
+unless false t d f = f
+
+listed : (o : Option Listing) (f : Listing → Decision) → ((l : Listing) → Decided (f l)) → Decided (with_listing o f)
+listed None f k = tt
+listed (Some l) f k = k l
+
+requested : (m : Message) (s : State) (d : Decision) → Decided d → AllByRecursion MayDo (requested_as m s d).acts
+requested m s (Err t) f = tt
+requested m s (Ok acts) f = f
+
+where_on : (m : Message) (s : State) (b : Bool) (o : Outcome) → AllByRecursion MayDo o.acts
+    → AllByRecursion MayDo (cond b o (answered (rejection reason.NotLoggedOn m, s))).acts
+where_on m s true o f = f
+where_on m s false o f = tt
+
+replace_sends : (m : OrderCancelReplaceRequest) (s : State) (line : ℕ) (t : Time) (spare : ℕ)
+    → Decided (replaces.replace line m t s.venue spare)
+replace_sends m s line t spare =
+    listed (look_up s.venue.instruments (says m.symbol)) _
+    (λ l. unless (nat_lt spare 1) NoPlace _ (replaced l (replaces.judged line l m s.venue) refl))
+  where
+    replaced : (l : Listing) (r : Result Replacement Refusal) → replaces.judged line l m s.venue ≡ r
+        → Decided (replaces.replaced line m t l r)
+    replaced l (Err e) h = (tt, tt)
+    replaced l (Ok r) h = (of_row m _ r h, tt)
+
+-- ---- each act that a message may do
+
+fit_may : (may : Change → Type 0) (s : State) (line : ℕ) → ((c : Change) → may c → MayAlter c) → (a : Act)
+    → Fits may s line a → MayDo a
+fit_may may s line k (Open terms ask) f = f.1
+fit_may may s line k (Alter n c) f = k c f.1
+fit_may may s line k (Note p e) f = tt
+fit_may may s line k (Take e) f = tt
+fit_may may s line k (Void n) f = tt
+
+each_may : (may : Change → Type 0) (s : State) (line : ℕ) → ((c : Change) → may c → MayAlter c) → (acts : List Act)
+    → AllByRecursion (Fits may s line) acts → AllByRecursion MayDo acts
+each_may may s line k [] f = tt
+each_may may s line k (a ∷ acts) (x, f) = (fit_may may s line k a x, each_may may s line k acts f)
+
+lost_may : (c : Change) → MayLose c → MayAlter c
+lost_may (Accept s a) f = tt
+lost_may (Replace a) f = absurd f
+lost_may (Withdraw e c) f = tt
+lost_may (Fill x) f = absurd f
+lost_may (Undo u) f = tt
+
+pub ends_may : (s : State) (line : ℕ) → AllByRecursion MayDo (ends_of line s)
+ends_may s line = each_may MayLose s line lost_may (ends_of line s) (ends_fit s line MayLose (λ e i. tt))
+
+-- a message that is no Replace
+abbrev Plain : Message → Type 0
+Plain m = (a : Ask) → MayBy m (Replace a) → ⊥
+
+no_fill : (m : Message) → (c : Change) → Plain m → MayBy m c → MayAlter c
+no_fill m (Accept s a) p f = tt
+no_fill m (Replace a) p f = absurd (p a f)
+no_fill m (Withdraw e c) p f = tt
+no_fill m (Fill x) p f = absurd (none m f)
+  where
+    none : (m : Message) → MayBy m (Fill x) → ⊥
+    none (message.NewOrder n) f = f
+    none (message.OrderCancelReplaceRequest n) f = f
+    none (message.OrderCancelRequest n) f = f
+    none (message.OrderMassCancelRequest n) f = f
+    none (message.Logout n) f = f
+    none n f = f
+no_fill m (Undo u) p f = tt
+
+plainly : (s : State) (line : ℕ) (ch : Channel) (m : Message) (t : Time) (spare : ℕ) → Plain m
+    → AllByRecursion MayDo (outcome_of ch line m t spare s).acts
+plainly s line ch m t spare p =
+    each_may (MayBy m) s line (λ c. no_fill m c p) (outcome_of ch line m t spare s).acts
+    (outcome_fits s line ch m t spare).acts
+
+pub outcome_may : (s : State) (line : ℕ) (ch : Channel) (m : Message) (t : Time) (spare : ℕ)
+    → AllByRecursion MayDo (outcome_of ch line m t spare s).acts
+outcome_may s line ch (message.OrderCancelReplaceRequest m) t spare =
+    where_on (message.OrderCancelReplaceRequest m) s (on ch (session s line)) _
+    (requested (message.OrderCancelReplaceRequest m) s _ (replace_sends m s line t spare))
+outcome_may s line ch m t spare = plainly s line ch m t spare (λ a f. f)
