@@ -1,3 +1,4 @@
+pub mod Refusing
 pub mod Finding
 pub mod Mirroring
 pub mod Taking

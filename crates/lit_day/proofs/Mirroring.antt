@@ -21,6 +21,7 @@ use Rattle.lit_day.proofs.Finding.{OnceIn, altered_none, altered_other, altered_
 use Rattle.lit_day.specs.Trading.{Mirrors, as_order, open_order}
 use Rattle.orders.specs.Orders.{fillable, undoable}
 use Rattle.orders.specs.Rows.{accepted, ended, filled, orderable, replaced, undone}
+use Rattle.orders.specs.declared.order.ReplaceRefusal.{ReplaceRefusal}
 use Rattle.orders.specs.declared.order.ReplaceRefusal.TheVariants.{NotOpen, BadQuantity, NotAboveExecuted}
 use Rattle.orders.specs.declared.row.Ask.{Ask}
 use Rattle.orders.specs.declared.row.Ending.{Ending}
@@ -203,7 +204,8 @@ enters is t s a l b b' k some f =
         subst (λ i. order_under (entered b (order_of (length l.rows + 1) (request_of s a))) i
         ≡ open_order i (under (opened is t s a l).rows i)) e
         (entered_here b (order_of (length l.rows + 1) (request_of s a)) (length l.rows + 1) refl
-        (k (length l.rows + 1) ∙ ap (open_order (length l.rows + 1)) (past_none l.rows (length l.rows + 1) (omega arith)))
+        (k (length l.rows + 1)
+        ∙ ap (open_order (length l.rows + 1)) (past_none l.rows (length l.rows + 1) (omega arith)))
         ∙ sym (cond-true (nat_lt 0 a.quantity) _ _ (some_ordered a.quantity some))
         ∙ ap (open_order (length l.rows + 1))
         (sym (push_here l.rows (length l.rows + 1) (accepted (length l.rows + 1) s a) refl)))
@@ -267,8 +269,10 @@ unreplaced_now : (n : ℕ) (a : Ask) (r : Row) → nat_lt 0 r.leaves ≡ false
     → open_order n (made (Some r) (after n (Replace a) (Some r))) ≡ None
 unreplaced_now n a r h =
     let none : eqb r.leaves 0 ≡ true = Prim.grind arith in
-    ap (λ (b : Bool). open_order n (made (Some r) (where_allowed (is_none (cond b (Some NotOpen)
-    (cond (not (orderable a.quantity)) (Some BadQuantity) (cond (leb a.quantity r.executed) (Some NotAboveExecuted) None)))) (replaced a r)))) none
+    let later : Option ReplaceRefusal =
+    cond (not (orderable a.quantity)) (Some BadQuantity) (cond (leb a.quantity r.executed) (Some NotAboveExecuted) None) in
+    ap (λ (b : Bool). open_order n (made (Some r)
+    (where_allowed (is_none (cond b (Some NotOpen) later)) (replaced a r)))) none
     ∙ cond-false (nat_lt 0 r.leaves) _ _ h
 
 pub replaces : (is : List Instrument) (t : Time) (n : ℕ) (a : Ask) (l : Ledger) (b b' : Lit)
@@ -278,8 +282,8 @@ pub replaces : (is : List Instrument) (t : Time) (n : ℕ) (a : Ask) (l : Ledger
     → Mirrors (changed is t n (Replace a) l).rows b'
 replaces is t n a l b b' k u may f some = by_row (under l.rows n) refl
   where
-    unmoved : open_order n (made (under l.rows n) (after n (Replace a) (under l.rows n))) ≡ open_order n (under l.rows n)
-        → open_order n (under l.rows n) ≡ None → Mirrors (changed is t n (Replace a) l).rows b'
+    unmoved : open_order n (made (under l.rows n) (after n (Replace a) (under l.rows n)))
+        ≡ open_order n (under l.rows n) → open_order n (under l.rows n) ≡ None → Mirrors (changed is t n (Replace a) l).rows b'
     unmoved same none =
         let is_same : b' ≡ b = f ∙ ap (λ o. amended b o (a.quantity - executed_of (under l.rows n)) a.price)
         (k n ∙ none) in

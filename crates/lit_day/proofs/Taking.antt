@@ -90,7 +90,8 @@ by_end : (t : Time) (b : Books) (rs ws : List Order) (p : Event × Lit)
 by_end t b rs [] p k u h = subst (λ (x : Event × Lit). Mirrors (told_by t x.0 b).rows x.1) (sym h) k
 by_end t b rs (a ∷ ws) p k u (inr h) =
     subst (λ (x : Event × Lit). Mirrors (told_by t x.0 b).rows x.1) (sym h)
-    (expires b.instruments t a.number (ledger_of b) (record { resting = rs; waiting = a ∷ ws }) (under b.rows a.number) k
+    (expires b.instruments t a.number (ledger_of b) (record { resting = rs; waiting = a ∷ ws })
+    (under b.rows a.number) k
     (once_in a.number (record { resting = rs; waiting = a ∷ ws }) (u a.number)) refl)
 by_end t b rs (a ∷ ws) p k u (inl (o, f, h)) =
     let c : Lit = record { resting = rs; waiting = a ∷ ws } in
@@ -109,7 +110,8 @@ by_end t b rs (a ∷ ws) p k u (inl (o, f, h)) =
     let l = changed b.instruments t o.number (Fill (filling d Added)) (ledger_of b) in
     let first = fills b.instruments t o.number (filling d Added) (ledger_of b) c o k (once_in o.number c (u o.number))
     x.passive some fits_one in
-    let second = fills b.instruments t a.number (filling d Removed) l (altered c o.number (left_of q o.quantity)) a first
+    let second = fills b.instruments t a.number (filling d Removed) l (altered c o.number (left_of q o.quantity)) a
+    first
     (once_altered c o.number a.number (left_of q o.quantity) x.apart (once_in a.number c (u a.number)))
     (altered_other c o.number a.number (left_of q o.quantity) x.apart ∙ x.aggressive) some fits_two in
     subst (λ (y : Event × Lit). Mirrors (told_by t y.0 b).rows y.1) (sym h) second
@@ -177,7 +179,8 @@ within_by v x rs (a ∷ ws) p same k u (inr h) served =
     subst (λ (y : Event × Lit). Stepped v.rows x (step_of y.0 v)) (sym h) tt
 within_by v x rs (a ∷ ws) p same k u (inl (o, f, h)) served =
     let m = meets rs ws a o (apart_stopped x rs (a ∷ ws) same u) f in
-    let at_one : order_under x o.number ≡ Some o = ap (λ (l : List Order). order_in l o.number) (sym same) ∙ m.passive in
+    let at_one : order_under x o.number ≡ Some o = ap (λ (l : List Order). order_in l o.number) (sym same)
+    ∙ m.passive in
     let at_two : order_under x a.number ≡ Some a = ap (λ (l : List Order). order_in l a.number) (sym same)
     ∙ m.aggressive in
     let one = opened_by o.number (under v.rows o.number) o (sym (k o.number) ∙ at_one) in

@@ -1,1 +1,2 @@
 pub mod Trading
+pub mod Refusing
