@@ -15,7 +15,7 @@ use Rattle.answers.specs.declared.answer.Answer.TheVariants as answer
 use Rattle.answers.specs.Bytes.{answer_bytes}
 use Rattle.answers.specs.Numbers.{admission_number, reason_number}
 use Rattle.answers.specs.Sent.{Sent}
-use Rattle.answers.specs.Told.{Told, Answers, AnswerTold}
+use Rattle.answers.specs.Told.{Conveys, Answers, AnswerTold}
 use Rattle.answers.proofs.Heard.{heard}
 
 answers_to : (a : Answer) (m : Message) → Answers a m → Answers a (plain m)
@@ -57,7 +57,7 @@ taken_by (answer.Ack r) (message.MissedMessageRequestAck m) h = refl
 taken_by (answer.Reject r) (message.Reject m) h = refl
 taken_by a m h = absurd h
 
-there : (a : Answer) → Told (Answers a) (answer_bytes a) → AnswerTold a
+there : (a : Answer) → Conveys (Answers a) (answer_bytes a) → AnswerTold a
 there answer.Silent t = tt
 there (answer.LogonReply c) t = t
 there (answer.Ack r) t = t

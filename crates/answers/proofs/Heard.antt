@@ -26,7 +26,7 @@ use Rattle.report_messages.specs.Telling.{told_as, kind_told, report_bytes}
 use Rattle.report_messages.proofs.Takes.{follower_takes}
 use Rattle.answers.specs.Bytes.{end_bytes}
 use Rattle.answers.specs.Sent.{Sent}
-use Rattle.answers.specs.Told.{Told, place_in, Reports, ReportTold, Ends, EndTold}
+use Rattle.answers.specs.Told.{Conveys, place_in, Reports, ReportTold, Ends, EndTold}
 
 pub sent : (m : Message) (n : ℕ) (before after : List ℕ) → Holdable m → n ≡ total_of (kind_of m)
     → total_of (kind_of m) ≤ MESSAGE_BYTES → after ≡ written m ++ drop n before → Sent (written m) before after n
@@ -40,7 +40,7 @@ sent m n before after h e s w =
 -- what was written is what a follower reads
 pub heard : (P : Message → Type 0) (bs : List ℕ) (m : Message) → ((a b : Message) → plain a ≡ plain b → P b → P a)
     → takes Follower (letter_of (kind_of m)) ≡ Some (kind_of m) → Holdable m → GivenBack m → P m → written m ≡ bs
-    → Told P bs
+    → Conveys P bs
 heard P bs m same t w g h e =
     let back = g Follower t in
     record {

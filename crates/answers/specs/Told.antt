@@ -16,7 +16,7 @@ use Rattle.answers.specs.Bytes.{answer_bytes, client_said, end_bytes}
 use Rattle.answers.specs.Numbers.{admission_number, reason_number}
 
 -- the bytes are the one form of a message of which P holds, and from them a follower reads such a message and no other
-pub record Told (P : Message → Type 0) (bs : List ℕ) : Type 0 where
+pub record Conveys (P : Message → Type 0) (bs : List ℕ) : Type 0 where
   pub message : Message
   pub form : written message ≡ bs
   pub held : Holdable message
@@ -37,7 +37,7 @@ Answers a m = ⊥
 
 abbrev pub AnswerTold : Answer → Type 0
 AnswerTold Silent = Unit {0}
-AnswerTold a = Told (Answers a) (answer_bytes a)
+AnswerTold a = Conveys (Answers a) (answer_bytes a)
 
 -- where a report's message says that it stands: its partition, and its number there
 abbrev pub place_in : Message → Option (Partition × ℤ)
@@ -54,7 +54,7 @@ pub record Reports (p : Partition) (n : ℕ) (r : Report) (m : Message) : Type 0
   pub contents : contents_of m ≡ told_as p n r
 
 abbrev pub ReportTold : Partition → ℕ → Report → Type 0
-ReportTold p n r = Told (Reports p n r) (report_bytes p n r)
+ReportTold p n r = Conveys (Reports p n r) (report_bytes p n r)
 
 -- the message of the end of a download
 abbrev pub Ends : ReportResponse → Message → Type 0
@@ -62,4 +62,4 @@ Ends r (message.MissedMessageReport m) = m.response ≡ r
 Ends r m = ⊥
 
 abbrev pub EndTold : ReportResponse → Type 0
-EndTold r = Told (Ends r) (end_bytes r)
+EndTold r = Conveys (Ends r) (end_bytes r)

@@ -5,7 +5,7 @@ ghost use Rattle.auction_script.specs.Texts.{misread_text};
 
 use crate::words;
 use codes::order::Book;
-use matching::matcher::Terms;
+use matching::matcher::Ticket;
 use std::fmt;
 use terms::pricing::Pricing;
 use texts::values::Price;
@@ -14,7 +14,7 @@ use texts::values::Price;
 #[derive(Clone, Copy, Debug, PartialEq)]
 pub enum Command {
     /// Enter an order under a number.
-    Enter(u64, Terms),
+    Enter(u64, Ticket),
     /// Cancel the order of a number.
     Cancel(u64),
     /// Give the order of a number another open quantity and price.
@@ -89,7 +89,7 @@ fn enter(
     let quantity = words::quantity(quantity)?;
     Ok(Command::Enter(
         number,
-        Terms {
+        Ticket {
             instrument,
             side,
             pricing: Pricing::new(kind, price),

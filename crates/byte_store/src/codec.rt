@@ -2,7 +2,7 @@
 ghost use Rattle.std.specs.Prelude.{◌≡◌, ℕ, ◌^◌, ◌<◌, ◌≤◌, List, length, take};
 ghost use Rattle.codes.specs.declared.session.Partition.{Partition as Part};
 ghost use Rattle.limits.specs.declared.TheConstants.{MESSAGE_BYTES};
-ghost use Rattle.reports.specs.declared.report.Report.{Report as Told};
+ghost use Rattle.reports.specs.declared.report.Report.{Report as Reported};
 
 use codes::session::Partition;
 use reports::report::Report;
@@ -16,9 +16,9 @@ pub struct Number {
 
 /// `coded` are the bytes of a report under its number in a partition, and `decoded` is the report that bytes hold.
 pub trait Codec {
-    ghost coded: { Part → ℕ → Told → List ℕ };
+    ghost coded: { Part → ℕ → Reported → List ℕ };
 
-    ghost decoded: { List ℕ → Told };
+    ghost decoded: { List ℕ → Reported };
 
     /// Writes a report to the front of a buffer, and answers how many bytes it takes.
     fn encode(&self, partition: Partition, number: Number, report: Report, out: &mut [u8]) -> usize

@@ -17,13 +17,13 @@ use Rattle.orders.specs.Rows.{orderable, accepted, replaced, ended, filled, undo
 use Rattle.orders.specs.Orders.{fillable, undoable, replace_fault}
 use Rattle.reports.specs.declared.report.ExecutionReport.{ExecutionReport}
 use Rattle.reports.specs.declared.standing.Standing.{Standing}
-use Rattle.reports.specs.declared.standing.Told.{Told as Tells}
+use Rattle.reports.specs.declared.standing.Told.{Told}
 use Rattle.reports.specs.Changes.{stands, changed, bounded, natural, filled_to, added}
 use Rattle.reports.specs.Fold.{Knowledge, fold_order, fold_new, fold_known}
 use Rattle.terms.specs.Execution.{kind_of}
 use Rattle.changes.specs.declared.change.Change.{Change}
 use Rattle.changes.specs.declared.change.Change.TheVariants.{Accept, Replace, Withdraw, Fill, Undo}
-use Rattle.changes.specs.declared.change.Told.{Told}
+use Rattle.changes.specs.declared.change.Heading.{Heading}
 use Rattle.changes.specs.Changes.{after}
 use Rattle.changes.specs.Telling.{told_as, report_of}
 use Rattle.changes.specs.Laws.{Knows, Follows, standing_of, reports_of, fold_all}
@@ -42,12 +42,12 @@ insert_again k n s =
 
 -- ---- one report of an order that is known, or is new
 
-known : (p : Partition) (t : Tells) (k : Knowledge) (m n : ℕ) (s s' : Standing) → m ≡ n → get k n ≡ Some s
+known : (p : Partition) (t : Told) (k : Knowledge) (m n : ℕ) (s s' : Standing) → m ≡ n → get k n ≡ Some s
     → changed t s ≡ Some s' → fold_order p t k m (get k m) ≡ Ok (insert k n s')
 known p t k m n s s' e g c = ap (λ i. fold_order p t k i (get k i)) e ∙ ap (fold_order p t k n) g
     ∙ ap (fold_known k n) c
 
-new : (p : Partition) (t : Tells) (k : Knowledge) (n : ℕ) (s : Standing) → get k n ≡ None → added p t ≡ Some s
+new : (p : Partition) (t : Told) (k : Knowledge) (n : ℕ) (s : Standing) → get k n ≡ None → added p t ≡ Some s
     → len k < ORDERS → fold_order p t k n (get k n) ≡ Ok (insert k n s)
 new p t k n s g a l = ap (fold_order p t k n) g ∙ ap (fold_new k n) a ∙ cond-true _ _ _ (lt-ltb (len k) ORDERS l)
 
@@ -69,17 +69,17 @@ given_back q e h = grind (arith, ints)
 
 -- ---- each change
 
-abbrev tells : ExecutionReport → Tells
+abbrev tells : ExecutionReport → Told
 tells e =
     record { order = e.order; kind = kind_of e.execution; status = e.status; quantity = e.quantity; leaves = e.leaves }
 
-accepts : (p : Partition) (t : Told) (n : ℕ) (m : Terms) (a : Ask) (k : Knowledge) → Knows p n None k
+accepts : (p : Partition) (t : Heading) (n : ℕ) (m : Terms) (a : Ask) (k : Knowledge) → Knows p n None k
     → fold_all p (reports_of t (Accept m a) (accepted n m a)) (Ok k) ≡ Ok (insert k n (standing_of p (accepted n m a)))
 accepts p t n m a k w =
     let x = accepted n m a in
     new p (tells (report_of t (Accept m a) x)) k n (standing_of p x) w.stands refl (w.room refl)
 
-changes : (p : Partition) (t : Told) (n : ℕ) (c : Change) (b r : Row) (k : Knowledge) → Knows p n (Some b) k
+changes : (p : Partition) (t : Heading) (n : ℕ) (c : Change) (b r : Row) (k : Knowledge) → Knows p n (Some b) k
     → after n c (Some b) ≡ Some r → fold_all p (reports_of t c r) (Ok k) ≡ Ok (insert k n (standing_of p r))
 changes p t n (Accept m a) b r k w h = absurd (cc)
 changes p t n (Replace a) b r k w h =
@@ -125,7 +125,7 @@ changes p t n (Undo u) b r k w h =
     subst (λ y. fold_all p (reports_of t (Undo u) y) (Ok k) ≡ Ok (insert k n (standing_of p y))) q.1
     (ap (fold_all p (told_as t x.client Restated x ∷ [])) first ∙ second ∙ ap Ok (insert_again k n s))
 
-firsts : (p : Partition) (t : Told) (n : ℕ) (c : Change) (r : Row) (k : Knowledge) → Knows p n None k → after n c None
+firsts : (p : Partition) (t : Heading) (n : ℕ) (c : Change) (r : Row) (k : Knowledge) → Knows p n None k → after n c None
     ≡ Some r → fold_all p (reports_of t c r) (Ok k) ≡ Ok (insert k n (standing_of p r))
 firsts p t n (Accept m a) r k w h =
     let q = allowed (orderable a.quantity) _ _ h in

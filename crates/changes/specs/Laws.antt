@@ -16,7 +16,7 @@ use Rattle.reports.specs.Fold.{Knowledge, fold}
 use Rattle.reports.specs.Told.{told_of}
 use Rattle.changes.specs.declared.change.Change.{Change}
 use Rattle.changes.specs.declared.change.Change.TheVariants.{Accept, Replace, Fill, Undo}
-use Rattle.changes.specs.declared.change.Told.{Told}
+use Rattle.changes.specs.declared.change.Heading.{Heading}
 use Rattle.changes.specs.Changes.{after}
 use Rattle.changes.specs.Telling.{report_of, restated_of}
 
@@ -31,7 +31,7 @@ abbrev pub and_also : ExecutionReport → Option ExecutionReport → List Execut
 and_also e None = e ∷ []
 and_also e (Some f) = e ∷ f ∷ []
 
-abbrev pub reports_of : Told → Change → Row → List ExecutionReport
+abbrev pub reports_of : Heading → Change → Row → List ExecutionReport
 reports_of t c r = and_also (report_of t c r) (restated_of t c r)
 
 -- one report more, where none was refused before
@@ -50,7 +50,7 @@ pub record Knows (p : Partition) (n : ℕ) (b : Option Row) (k : Knowledge) : Ty
   pub room : b ≡ None → len k < ORDERS
 
 abbrev pub Follows : Type 0
-Follows = (p : Partition) (t : Told) (n : ℕ) (c : Change) (b : Option Row) (r : Row) (k : Knowledge) →
+Follows = (p : Partition) (t : Heading) (n : ℕ) (c : Change) (b : Option Row) (r : Row) (k : Knowledge) →
     Knows p n b k → after n c b ≡ Some r → fold_all p (reports_of t c r) (Ok k) ≡ Ok (insert k n (standing_of p r))
 
 -- ---- what is kept over a list of changes of one order

@@ -13,10 +13,10 @@ use Rattle.orders.specs.Rows.{status_of}
 use Rattle.reports.specs.declared.report.ExecutionReport.{ExecutionReport}
 use Rattle.changes.specs.declared.change.Change.{Change}
 use Rattle.changes.specs.declared.change.Change.TheVariants.{Accept, Replace, Withdraw, Fill, Undo}
-use Rattle.changes.specs.declared.change.Told.{Told}
+use Rattle.changes.specs.declared.change.Heading.{Heading}
 
 -- an order's fields under a client order id; what no rule names is null
-abbrev pub told_as : Told → FixedText 20 → Execution Refusal → Row → ExecutionReport
+abbrev pub told_as : Heading → FixedText 20 → Execution Refusal → Row → ExecutionReport
 told_as t c e r = record {
   client = c;
   order = Some (record { number = r.number });
@@ -40,7 +40,7 @@ ending_told Cancelled = execution.Cancelled
 ending_told Expired = execution.Expired
 
 -- the report of a change, by the order after it
-abbrev pub report_of : Told → Change → Row → ExecutionReport
+abbrev pub report_of : Heading → Change → Row → ExecutionReport
 report_of t (Accept s a) r = told_as t r.client execution.New r
 report_of t (Replace a) r = told_as t r.client execution.Replaced r
 report_of t (Withdraw e c) r = told_as t c (ending_told e) r
@@ -55,7 +55,7 @@ report_of t (Undo u) r = record (told_as t r.client (execution.TradeCancel Unspe
 }
 
 -- and a second one behind it, where a fill is undone: the order as it now stands
-abbrev pub restated_of : Told → Change → Row → Option ExecutionReport
+abbrev pub restated_of : Heading → Change → Row → Option ExecutionReport
 restated_of t (Accept s a) r = None
 restated_of t (Replace a) r = None
 restated_of t (Withdraw e c) r = None

@@ -47,7 +47,7 @@ pub enum Change {
 
 /// What is the same in the reports of one day's orders: where an order trades, and when it is told.
 #[derive(Clone, Copy)]
-pub struct Told {
+pub struct Heading {
     pub symbol: FixedText<6>,
     pub time: Time,
 }
@@ -63,7 +63,7 @@ pub struct Made {
 
 // An order's fields, under a client order id.
 fn told_as(
-    told: Told,
+    told: Heading,
     client: FixedText<20>,
     execution: Execution<Refusal>,
     order: Order,
@@ -123,7 +123,7 @@ impl Change {
     }
 
     // The report of the change, by the order after it.
-    fn report(&self, told: Told, order: Order) -> ExecutionReport
+    fn report(&self, told: Heading, order: Order) -> ExecutionReport
         requires { shares_of self.now ≤ SHARES }
         ensures { result ≡ report_of told self.now order }
     {
@@ -155,7 +155,7 @@ impl Change {
     }
 
     // The second report, of an undone fill.
-    fn restated(&self, told: Told, order: Order) -> Option<ExecutionReport>
+    fn restated(&self, told: Heading, order: Order) -> Option<ExecutionReport>
         ensures { result ≡ restated_of told self.now order }
     {
         match self {
@@ -165,7 +165,7 @@ impl Change {
     }
 
     /// Makes the change, and says how it is told; none, and nothing made, where it may not be made.
-    pub fn make(&self, number: u64, order: Option<Order>, told: Told) -> Option<Made>
+    pub fn make(&self, number: u64, order: Option<Order>, told: Heading) -> Option<Made>
         ensures { MatchOption result
             (after number self.now order ≡ None)
             (λ m. (after number self.now order ≡ Some m.order)

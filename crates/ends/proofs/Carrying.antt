@@ -9,7 +9,7 @@ use Rattle.line.proofs.Growing.{Grows}
 use Rattle.ends.proofs.Flights.{Passed, Next, there_within, next_within, stays_under, hers_grown, passed_grown, next_grown, longer, not_passed, passed_on, next_from, next_above, next_either}
 use Rattle.follower.specs.Hearing.{heard_in}
 use Rattle.follower.specs.declared.heard.Heard.TheVariants.{Report, End}
-use Rattle.follower.specs.declared.heard.Held.{Held}
+use Rattle.follower.specs.declared.heard.NumberedReport.{NumberedReport}
 use Rattle.keyed.specs.Numbers.{under}
 use Rattle.partitions.proofs.Written.{at_written, written}
 use Rattle.partitions.specs.PerPartition.{at, with_at}
@@ -22,7 +22,7 @@ use Rattle.sessions.specs.declared.download.Download.{Download}
 use Rattle.store.specs.Kept.{Kept}
 
 -- a report as a follower holds it
-abbrev pub held : ℕ → Entry → Held
+abbrev pub held : ℕ → Entry → NumberedReport
 held n e = record { sequence = pos n; told = told_of e.report }
 
 -- a message that tells the owner's report of a partition under a number
@@ -121,13 +121,13 @@ flows_more c k sent sent' y (x ∷ ms) q n m s b (p, i, b', t, h) =
 -- ---- what is held
 
 -- held reports, of which those above a number are the owner's next ones, up to another
-abbrev pub Holding : ℕ → List Entry → ℕ → List Held → ℕ → Type 0
+abbrev pub Holding : ℕ → List Entry → ℕ → List NumberedReport → ℕ → Type 0
 Holding c l a [] y = Passed c l a y
 Holding c l a (h ∷ hs) y =
     (n : ℕ) × (e : Entry) × (under l n ≡ Some e) × (e.owner ≡ c) × (h ≡ held n e) × (is_of c (under l n) ≡ true)
     × (((n ≤ a) × Holding c l a hs y) ⊎ (Next c l a n × Holding c l n hs y))
 
-pub holding_grown : (c : ℕ) (l l' : List Entry) (a : ℕ) (hs : List Held) (y : ℕ) → Grown l l' → y ≤ length l
+pub holding_grown : (c : ℕ) (l l' : List Entry) (a : ℕ) (hs : List NumberedReport) (y : ℕ) → Grown l l' → y ≤ length l
     → Holding c l a hs y → Holding c l' a hs y
 holding_grown c l l' a [] y g w h = passed_grown c l l' a y g w h
 holding_grown c l l' a (x ∷ hs) y g w (n, e, s, o, i, t, inl (le, h)) = (
@@ -152,11 +152,11 @@ holding_grown c l l' a (x ∷ hs) y g w (n, e, s, o, i, t, inr (q, h)) = (
 )
 
 -- the first that is held, by whether a number has reached it
-abbrev First : ℕ → List Entry → ℕ → List Held → ℕ → ℕ → Type 0
+abbrev First : ℕ → List Entry → ℕ → List NumberedReport → ℕ → ℕ → Type 0
 First c l a hs y n = ((n ≤ a) × Holding c l a hs y) ⊎ (Next c l a n × Holding c l n hs y)
 
 -- a number that is passed takes what is at or below it along
-pub holding_up : (c : ℕ) (l : List Entry) (a a' : ℕ) (hs : List Held) (y : ℕ) → a ≤ a' → Holding c l a hs y
+pub holding_up : (c : ℕ) (l : List Entry) (a a' : ℕ) (hs : List NumberedReport) (y : ℕ) → a ≤ a' → Holding c l a hs y
     → Holding c l a' hs y
 holding_up c l a a' [] y le h = λ j lt q. h j (omega (arith, lt, le)) q
 holding_up c l a a' (x ∷ hs) y le (n, e, s, o, i, t, inl (q, h)) =
@@ -169,7 +169,7 @@ holding_up c l a a' (x ∷ hs) y le (n, e, s, o, i, t, inr (q, h)) =
     by up (inr z) = inl (z, up z)
 
 -- it may also be lower, where no report of the owner parts the two
-pub holding_down : (c : ℕ) (l : List Entry) (k a : ℕ) (hs : List Held) (y : ℕ) → k ≤ a → Passed c l k a
+pub holding_down : (c : ℕ) (l : List Entry) (k a : ℕ) (hs : List NumberedReport) (y : ℕ) → k ≤ a → Passed c l k a
     → Holding c l a hs y → Holding c l k hs y
 holding_down c l k a [] y le p h = passed_on c l k a y p h
 holding_down c l k a (x ∷ hs) y le p (n, e, s, o, i, t, inl (q, h)) =
@@ -182,7 +182,7 @@ holding_down c l k a (x ∷ hs) y le p (n, e, s, o, i, t, inr (q, h)) =
     (n, e, s, o, i, t, inr (next_from c l k a n p le q, h))
 
 -- the next report comes, and is held
-pub holding_more : (c : ℕ) (l : List Entry) (a : ℕ) (hs : List Held) (y n : ℕ) (e : Entry) → under l n ≡ Some e
+pub holding_more : (c : ℕ) (l : List Entry) (a : ℕ) (hs : List NumberedReport) (y n : ℕ) (e : Entry) → under l n ≡ Some e
     → e.owner ≡ c → Next c l y n → Holding c l a hs y → Holding c l a (hs ++ held n e ∷ []) n
 holding_more c l a [] y n e s o x h = (n, e, s, o, refl, x.hers, by (cases_lt a n))
   where
@@ -195,7 +195,7 @@ holding_more c l a (g ∷ hs) y n e s o x (n', e', s', o', i, t, inr (q, h)) =
     (n', e', s', o', i, t, inr (q, holding_more c l n' hs y n e s o x h))
 
 -- the next report comes, and was folded before
-pub holding_on : (c : ℕ) (l : List Entry) (a : ℕ) (hs : List Held) (y n : ℕ) → n ≤ a → Holding c l a hs y
+pub holding_on : (c : ℕ) (l : List Entry) (a : ℕ) (hs : List NumberedReport) (y n : ℕ) → n ≤ a → Holding c l a hs y
     → Holding c l a hs n
 holding_on c l a [] y n le h = λ j lt q. absurd (omega (arith, lt, q, le))
 holding_on c l a (g ∷ hs) y n le (n', e', s', o', i, t, inl (q, h)) =

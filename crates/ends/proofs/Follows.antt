@@ -29,7 +29,7 @@ use Rattle.follower.specs.declared.fault.FollowerFault.{FollowerFault}
 use Rattle.follower.specs.declared.fault.FollowerFault.TheVariants as fault
 use Rattle.follower.specs.declared.heard.Heard.{Heard}
 use Rattle.follower.specs.declared.heard.Heard.TheVariants.{Report, Ack, End, Reject, Nothing}
-use Rattle.follower.specs.declared.heard.Held.{Held}
+use Rattle.follower.specs.declared.heard.NumberedReport.{NumberedReport}
 use Rattle.follower.specs.declared.pending.Pending.{Pending}
 use Rattle.gateway.specs.State.{State, session}
 use Rattle.layout.specs.declared.fault.Fault.{Fault}
@@ -127,7 +127,7 @@ module _ (c : ℕ) (s : State) (d : Desk) (x : Line) (t : Taking) (sound : Sound
   stands u = record { known = k.known; placed = k.placed; up = u }
 
   -- a report comes live
-  module _ (m : List ℕ) (p : Partition) (h : Held) (heard : heard_in m ≡ Ok (Report p h)) (rest : List (List ℕ))
+  module _ (m : List ℕ) (p : Partition) (h : NumberedReport) (heard : heard_in m ≡ Ok (Report p h)) (rest : List (List ℕ))
       (front : x.live ≡ m ∷ rest) where
     abbrev rest_line : Line
     rest_line = record x { live = rest }
@@ -143,11 +143,11 @@ module _ (c : ℕ) (s : State) (d : Desk) (x : Line) (t : Taking) (sound : Sound
     comes : (y : PerPartition ℕ) → Flows c s.venue.kept (session s c).sent y x.live → Comes y
     comes y fl = by (subst (λ z. Flows c s.venue.kept (session s c).sent y z) front fl)
       where
-        part : (i j : Partition) (a b : Held) (r : Result Heard Fault) → r ≡ Ok (Report i a) → r ≡ Ok (Report j b)
+        part : (i j : Partition) (a b : NumberedReport) (r : Result Heard Fault) → r ≡ Ok (Report i a) → r ≡ Ok (Report j b)
             → j ≡ i
         part i j a b r e g = cc
 
-        told : (i j : Partition) (a b : Held) (r : Result Heard Fault) → r ≡ Ok (Report i a) → r ≡ Ok (Report j b)
+        told : (i j : Partition) (a b : NumberedReport) (r : Result Heard Fault) → r ≡ Ok (Report i a) → r ≡ Ok (Report j b)
             → a ≡ b
         told i j a b r e g = cc
 
@@ -307,7 +307,7 @@ module _ (c : ℕ) (s : State) (d : Desk) (x : Line) (t : Taking) (sound : Sound
   full_not true a e = refl
   full_not false a e = absurd cc
 
-  report_live : (m : List ℕ) (p : Partition) (h : Held) → heard_in m ≡ Ok (Report p h) → (o : Option (List (List ℕ)))
+  report_live : (m : List ℕ) (p : Partition) (h : NumberedReport) → heard_in m ≡ Ok (Report p h) → (o : Option (List (List ℕ)))
       → next_of m x.live ≡ o → (x' : Line) (b : Bool) → f.up ≡ b
       → or_lost (is_full (cond b (lived f (Report p h)) (refused fault.NotUp f)).answer) (next_live o x) ≡ Ok x'
       → Goes c s (cond b (lived f (Report p h)) (refused fault.NotUp f)) x'
@@ -492,7 +492,7 @@ module _ (c : ℕ) (s : State) (d : Desk) (x : Line) (t : Taking) (sound : Sound
       empty z = cc
 
   -- a report comes next, or again
-  module _ (m : List ℕ) (p : Partition) (h : Held) (heard : heard_in m ≡ Ok (Report p h)) where
+  module _ (m : List ℕ) (p : Partition) (h : NumberedReport) (heard : heard_in m ≡ Ok (Report p h)) where
     abbrev told : Heard
     told = Report p h
 

@@ -28,7 +28,7 @@ use Rattle.follower.specs.declared.answer.Recovered.TheVariants as recovered
 use Rattle.follower.specs.declared.fault.FollowerFault.TheVariants as fault
 use Rattle.follower.specs.declared.heard.Heard.{Heard}
 use Rattle.follower.specs.declared.heard.Heard.TheVariants.{Report, Ack, End, Reject}
-use Rattle.follower.specs.declared.heard.Held.{Held}
+use Rattle.follower.specs.declared.heard.NumberedReport.{NumberedReport}
 use Rattle.follower.specs.declared.hold.TheConstants.{HOLD}
 use Rattle.follower.specs.declared.side.Side.{Side}
 use Rattle.follower.specs.declared.side.State.{State as Standing}
@@ -290,7 +290,7 @@ module _ (c : ℕ) (v : Books) (s : SessionState) (sound : Sound v) (few : lengt
 
     -- nothing of a download is at the front but its reports and its end
     not_of_download : {X : Type 0} (p : Partition) (z : ℕ) (h : Heard) → heard_in m ≡ Ok h
-        → ((r : ReportResponse) → h ≡ End r → ⊥) → ((q : Partition) (i : Held) → h ≡ Report q i → ⊥)
+        → ((r : ReportResponse) → h ≡ End r → ⊥) → ((q : Partition) (i : NumberedReport) → h ≡ Report q i → ⊥)
         → Loads c (at v.kept p) p (at a.up.b p) s.download z (m ∷ rest) → X
     not_of_download p z h g n1 n2 (inl (r, e, e1, e2, w)) = heard_apart m h (End r) g e (n1 r)
     not_of_download p z h g n1 n2 (inr (n, b, nx, w)) = heard_apart m h (Report p (held n b.entry)) g b.heard
@@ -432,7 +432,7 @@ module _ (c : ℕ) (v : Books) (s : SessionState) (sound : Sound v) (few : lengt
       by rest true q g = (n, subst (λ j. Brings c l p n j) (sym (same_bytes m i q)) b, t, le)
       by rest false q g = rest g
 
-  module _ (f : Following) (x : Line) (m : List ℕ) (t u : Taking) (a : Stands c v s f x t) (q : Partition) (h : Held)
+  module _ (f : Following) (x : Line) (m : List ℕ) (t u : Taking) (a : Stands c v s f x t) (q : Partition) (h : NumberedReport)
       (hd : heard_in m ≡ Ok (Report q h)) (only : Only c v.kept s q (number_of h) u) where
     -- it is the report of the download's partition under its number
     abbrev IsIt : Partition → ℕ → Type 0
@@ -443,10 +443,10 @@ module _ (c : ℕ) (v : Books) (s : SessionState) (sound : Sound v) (few : lengt
         let e = same_heard (Report q h) (Report p (held n b.entry)) (heard_in m) hd b.heard in
         (b, part_of q p h (held n b.entry) e, told_of_it q p h (held n b.entry) e)
       where
-        part_of : (i j : Partition) (y z : Held) → Report i y ≡ Report j z → i ≡ j
+        part_of : (i j : Partition) (y z : NumberedReport) → Report i y ≡ Report j z → i ≡ j
         part_of i j y z e = cc
 
-        told_of_it : (i j : Partition) (y z : Held) → Report i y ≡ Report j z → y ≡ z
+        told_of_it : (i j : Partition) (y z : NumberedReport) → Report i y ≡ Report j z → y ≡ z
         told_of_it i j y z e = cc
 
     only_it : (p : Partition) (n : ℕ) → IsIt p n → Only c v.kept s p n u

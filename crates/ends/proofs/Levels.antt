@@ -25,7 +25,7 @@ use Rattle.follower.specs.declared.fault.FollowerFault.{FollowerFault}
 use Rattle.follower.specs.declared.fault.FollowerFault.TheVariants as fault
 use Rattle.follower.specs.declared.heard.Heard.{Heard}
 use Rattle.follower.specs.declared.heard.Heard.TheVariants.{Report, Ack, End, Reject, Nothing}
-use Rattle.follower.specs.declared.heard.Held.{Held}
+use Rattle.follower.specs.declared.heard.NumberedReport.{NumberedReport}
 use Rattle.follower.specs.declared.hold.TheConstants.{HOLD}
 use Rattle.follower.specs.declared.pending.Pending.{Pending}
 use Rattle.follower.specs.declared.side.Side.{Side}
@@ -60,21 +60,21 @@ module _ {A : Type 0} (p : Partition) where
   either f false x y h g = g
 
 module _ (p : Partition) where
-  held_level : (f : Following) (q : Partition) (h : Held) → LevelAt f p → LevelAt (held f q h).after p
+  held_level : (f : Following) (q : Partition) (h : NumberedReport) → LevelAt f p → LevelAt (held f q h).after p
   held_level f q h l =
       written (λ q y. IsLevel y) f.sides q p _ (λ e. subst (λ u. (at f.sides u).state ≡ Level) (sym e) l) l
 
-  if_room : (b : Bool) (f : Following) (q : Partition) (h : Held) → LevelAt f p
+  if_room : (b : Bool) (f : Following) (q : Partition) (h : NumberedReport) → LevelAt f p
       → is_full (cond b (held f q h) (overrun f)).answer ≡ false → LevelAt (cond b (held f q h) (overrun f)).after p
   if_room true f q h l k = held_level f q h l
   if_room false f q h l k = absurd (let z : true ≡ false = k in cc)
 
-  by_state : (s : Standing) (f : Following) (q : Partition) (h : Held) → LevelAt f p → is_full (live_by s f q h).answer
+  by_state : (s : Standing) (f : Following) (q : Partition) (h : NumberedReport) → LevelAt f p → is_full (live_by s f q h).answer
       ≡ false → LevelAt (live_by s f q h).after p
   by_state Level f q h l k = folded_level p live.Folded f q (number_of h) _ l
   by_state Behind f q h l k = if_room (nat_lt (length (at f.sides q).hold) HOLD) f q h l k
 
-  if_there : (b : Bool) (f : Following) (q : Partition) (h : Held) (s : Standing) → LevelAt f p
+  if_there : (b : Bool) (f : Following) (q : Partition) (h : NumberedReport) (s : Standing) → LevelAt f p
       → is_full (cond b (record { answer = Ok live.Already; after = f }) (live_by s f q h)).answer ≡ false
       → LevelAt (cond b (record { answer = Ok live.Already; after = f }) (live_by s f q h)).after p
   if_there true f q h s l k = l
@@ -111,7 +111,7 @@ module _ (p : Partition) where
   ack_level f (Asked q) r l = acked_level f q r l
   ack_level f (Running q) r l = l
 
-  reported_level : (f : Following) (s : Stage) (q : Partition) (h : Held) → LevelAt f p
+  reported_level : (f : Following) (s : Stage) (q : Partition) (h : NumberedReport) → LevelAt f p
       → LevelAt (reported f s q h).after p
   reported_level f Idle q h l = l
   reported_level f (Asked u) q h l =

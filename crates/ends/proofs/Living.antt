@@ -13,7 +13,7 @@ use Rattle.ends.specs.Allowed.{Line}
 use Rattle.ends.specs.Tallied.{there, Tallied}
 use Rattle.follower.specs.Folding.{Reached, reached, moved, caught_one, caught_next}
 use Rattle.follower.specs.Following.{Following}
-use Rattle.follower.specs.declared.heard.Held.{Held}
+use Rattle.follower.specs.declared.heard.NumberedReport.{NumberedReport}
 use Rattle.follower.specs.declared.side.Side.{Side}
 use Rattle.follower.specs.declared.side.State.{State as Standing}
 use Rattle.follower.specs.declared.side.State.TheVariants.{Level, Behind}
@@ -192,11 +192,11 @@ module _ (c : ℕ) (k : Kept) (s : SessionState) where
   other_mark y p n = by_partition (λ q z. p ≢ q → z ≡ at y q) y p n (λ ne. absurd (ne refl)) (λ q ne z. refl)
 
   -- the next report under way comes, and is held
-  abbrev pub with_hold : Following → Partition → Held → Following
+  abbrev pub with_hold : Following → Partition → NumberedReport → Following
   with_hold f p h =
       record f { sides = with_at f.sides p (record (at f.sides p) { hold = (at f.sides p).hold ++ h ∷ [] }) }
 
-  pub hold_places : (f : Following) (p : Partition) (h : Held) (q : Partition) → place_in (with_hold f p h) q
+  pub hold_places : (f : Following) (p : Partition) (h : NumberedReport) (q : Partition) → place_in (with_hold f p h) q
       ≡ place_in f q
   hold_places f p h =
       or_as_it_was (λ q y. y.place ≡ place_in f q) f.sides p
@@ -270,7 +270,7 @@ moved_other pl Three n Three ne = absurd (ne refl)
 
 module _ (c : ℕ) (v : Books) (sound : Sound v) (few : length v.rows ≤ ORDERS) where
   -- what is known and the place once held reports are folded in their order: none is refused
-  pub record Reaches (w : Knowledge) (pl : Partition → ℕ) (p : Partition) (hs : List Held) (y : ℕ) : Type 0 where
+  pub record Reaches (w : Knowledge) (pl : Partition → ℕ) (p : Partition) (hs : List NumberedReport) (y : ℕ) : Type 0 where
     pub after : Reached
     pub done : fold_each (caught_next p) (Ok (reached w (pl p))) hs ≡ Ok after
     pub known : (pl' : Partition → ℕ) → pl' p ≡ after.place → ((q : Partition) → p ≢ q → pl' q ≡ pl q)
@@ -295,20 +295,20 @@ module _ (c : ℕ) (v : Books) (sound : Sound v) (few : length v.rows ≤ ORDERS
       by Three Three h o = h
 
   -- the first is at or below the place
-  skipped : (w : Knowledge) (k : ℕ) (p : Partition) (g : Held) (n : ℕ) (e : Entry) → g ≡ held n e → n ≤ k
+  skipped : (w : Knowledge) (k : ℕ) (p : Partition) (g : NumberedReport) (n : ℕ) (e : Entry) → g ≡ held n e → n ≤ k
       → caught_one p (reached w k) g ≡ Ok (reached w k)
   skipped w k p g n e i le =
       ap (caught_one p (reached w k)) i ∙ ap (λ b. cond b (Ok (reached w k)) (moved n (fold p (told_of e.report) w)))
       (le-leb n k le)
 
   -- or it is the next
-  folded_next : (w : Knowledge) (k : ℕ) (p : Partition) (g : Held) (n : ℕ) (e : Entry) (w' : Knowledge) → g ≡ held n e
+  folded_next : (w : Knowledge) (k : ℕ) (p : Partition) (g : NumberedReport) (n : ℕ) (e : Entry) (w' : Knowledge) → g ≡ held n e
       → k < n → fold p (told_of e.report) w ≡ Ok w' → caught_one p (reached w k) g ≡ Ok (reached w' n)
   folded_next w k p g n e w' i lt q =
       ap (caught_one p (reached w k)) i ∙ ap (λ b. cond b (Ok (reached w k)) (moved n (fold p (told_of e.report) w)))
       (lt-leb n k lt) ∙ ap (moved n) q
 
-  pub reaches : (w : Knowledge) (pl : Partition → ℕ) (p : Partition) (hs : List Held) (y : ℕ) → Tallied c v.kept w pl
+  pub reaches : (w : Knowledge) (pl : Partition → ℕ) (p : Partition) (hs : List NumberedReport) (y : ℕ) → Tallied c v.kept w pl
       → (pl p ≡ 0) ⊎ (is_of c (under (at v.kept p) (pl p)) ≡ true) → Holding c (at v.kept p) (pl p) hs y
       → Reaches w pl p hs y
   reaches w pl p [] y t z h = record {

@@ -48,8 +48,8 @@ use Rattle.sessions.specs.Downloads.{begun, recovered, handed_out, remaining}
 use Rattle.sessions.specs.Sending.{next_to_send, sent_after}
 use Rattle.sessions.specs.Sessions.{Sound as SoundSession}
 use Rattle.sessions.specs.declared.download.Download.{Download}
-use Rattle.sessions.specs.declared.download.Recovered.{Recovered}
-use Rattle.sessions.specs.declared.download.Recovered.TheVariants as handed
+use Rattle.sessions.specs.declared.download.Handed.{Handed}
+use Rattle.sessions.specs.declared.download.Handed.TheVariants as handed
 use Rattle.store.specs.Kept.{Kept}
 use Rattle.venue.specs.Books.{Sound}
 use Rattle.wire.specs.Messages.{Reads}
@@ -534,7 +534,7 @@ module _ (c : ℕ) (s : State) (d : Desk) (x : Line) (t : Taking) (k : Keeps c s
       )
 
   -- by what it hands out, from a store that stays
-  handed_on : (q : Download) (r : Recovered × Option Download) → (session s c).download ≡ Some q
+  handed_on : (q : Download) (r : Handed × Option Download) → (session s c).download ≡ Some q
       → HandedBy c (at new q.partition) q r → (session w c).sent ≡ (session s c).sent → (session w c).download ≡ r.1
       → RecoveredTold new (Some r.0)
       → Keeps c w d (record x { recovered = behind x.recovered (recovered_bytes new (Some r.0)) }) t

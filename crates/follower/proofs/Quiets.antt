@@ -16,7 +16,7 @@ use Rattle.follower.specs.declared.answer.Live.TheVariants as live
 use Rattle.follower.specs.declared.answer.Recovered.TheVariants as recovered
 use Rattle.follower.specs.declared.fault.FollowerFault.{FollowerFault}
 use Rattle.follower.specs.declared.fault.FollowerFault.TheVariants as fault
-use Rattle.follower.specs.declared.heard.Held.{Held}
+use Rattle.follower.specs.declared.heard.NumberedReport.{NumberedReport}
 use Rattle.follower.specs.declared.heard.Heard.{Heard}
 use Rattle.follower.specs.declared.heard.Heard.TheVariants.{Report, Ack, End, Reject, Nothing}
 use Rattle.follower.specs.declared.hold.TheConstants.{HOLD}
@@ -64,14 +64,14 @@ module _ (f : Following) (u : f.up ≡ true) (quiet : Quiet f) where
       up_quiet (record f { standings = k; sides = with_at f.sides p (record (at f.sides p) { place = n }) }) u
       (or_as_it_was (λ q y. HoldsNothing y) f.sides p (record (at f.sides p) { place = n }) (quiet.level p) quiet.level)
 
-  holds : (p : Partition) (h : Held) → (at f.sides p).state ≡ Behind → Leaves (held f p h)
+  holds : (p : Partition) (h : NumberedReport) → (at f.sides p).state ≡ Behind → Leaves (held f p h)
   holds p h b =
       up_quiet (held f p h).after u
       (or_as_it_was (λ q y. HoldsNothing y) f.sides p (record (at f.sides p) { hold = (at f.sides p).hold ++ h ∷ [] })
       (λ l. absurd (let no : Behind ≡ Level = sym b ∙ l in cc))
       quiet.level)
 
-  live_at : (s : State) (p : Partition) (h : Held) → (at f.sides p).state ≡ s → Leaves (live_by s f p h)
+  live_at : (s : State) (p : Partition) (h : NumberedReport) → (at f.sides p).state ≡ s → Leaves (live_by s f p h)
   live_at Level p h e = folds live.Folded p (number_of h) (fold p h.told f.standings)
   live_at Behind p h e =
       either (nat_lt (length (at f.sides p).hold) HOLD) (held f p h) (overrun f) (holds p h e) (turns f false)
@@ -101,13 +101,13 @@ module _ (f : Following) (u : f.up ≡ true) (quiet : Quiet f) where
   ack (Asked p) r = ack_of p r
   ack (Running p) r = quiet
 
-  recovers_of : (p : Partition) (h : Held) → Leaves (recovered_of f p h)
+  recovers_of : (p : Partition) (h : NumberedReport) → Leaves (recovered_of f p h)
   recovers_of p h =
       either (nat_le (number_of h) (at f.sides p).place) (answered recovered.Already f) (folded recovered.Folded f p h)
       quiet
       (folds recovered.Folded p (number_of h) (fold p h.told f.standings))
 
-  report : (s : Stage) (p : Partition) (h : Held) → Leaves (reported f s p h)
+  report : (s : Stage) (p : Partition) (h : NumberedReport) → Leaves (reported f s p h)
   report Idle p h = quiet
   report (Asked q) p h = either (same_partition p q) (refused fault.OutOfTurn f) (refused fault.Partition f) quiet quiet
   report (Running q) p h =

@@ -12,7 +12,7 @@ use Rattle.reports.specs.declared.standings.FoldRefusal.{FoldRefusal}
 use Rattle.follower.specs.declared.answer.Live.TheVariants as live
 use Rattle.follower.specs.declared.answer.Recovered.TheVariants as recovered
 use Rattle.follower.specs.declared.fault.FollowerFault.TheVariants as fault
-use Rattle.follower.specs.declared.heard.Held.{Held}
+use Rattle.follower.specs.declared.heard.NumberedReport.{NumberedReport}
 use Rattle.follower.specs.declared.heard.Heard.{Heard}
 use Rattle.follower.specs.declared.heard.Heard.TheVariants.{Report, Ack, End, Reject, Nothing}
 use Rattle.follower.specs.declared.hold.TheConstants.{HOLD}
@@ -41,7 +41,7 @@ module _ {A : Type 0} (f : Following) where
   on_folded a p n (Err e) = inl refl
 
 module _ (f : Following) where
-  live_at : (s : State) (p : Partition) (h : Held) → On f (live_by s f p h)
+  live_at : (s : State) (p : Partition) (h : NumberedReport) → On f (live_by s f p h)
   live_at Level p h = on_folded f live.Folded p (number_of h) (fold p h.told f.standings)
   live_at Behind p h =
       on_either f (nat_lt (length (at f.sides p).hold) HOLD) (held f p h) (overrun f) (inl refl) (inr refl)
@@ -66,13 +66,13 @@ module _ (f : Following) where
   ack_on (Asked p) r d = acked_on p r d
   ack_on (Running p) r d = inl refl
 
-  report_of_on : (p : Partition) (h : Held) → On f (recovered_of f p h)
+  report_of_on : (p : Partition) (h : NumberedReport) → On f (recovered_of f p h)
   report_of_on p h =
       on_either f (nat_le (number_of h) (at f.sides p).place) (answered recovered.Already f)
       (folded recovered.Folded f p h) (inl refl)
       (on_folded f recovered.Folded p (number_of h) (fold p h.told f.standings))
 
-  report_on : (s : Stage) (p : Partition) (h : Held) → On f (reported f s p h)
+  report_on : (s : Stage) (p : Partition) (h : NumberedReport) → On f (reported f s p h)
   report_on Idle p h = inl refl
   report_on (Asked q) p h =
       on_either f (same_partition p q) (refused fault.OutOfTurn f) (refused fault.Partition f) (inl refl) (inl refl)

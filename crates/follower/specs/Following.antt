@@ -17,7 +17,7 @@ use Rattle.follower.specs.declared.answer.Recovered.{Recovered}
 use Rattle.follower.specs.declared.answer.Recovered.TheVariants as recovered
 use Rattle.follower.specs.declared.fault.FollowerFault.{FollowerFault}
 use Rattle.follower.specs.declared.fault.FollowerFault.TheVariants as fault
-use Rattle.follower.specs.declared.heard.Held.{Held}
+use Rattle.follower.specs.declared.heard.NumberedReport.{NumberedReport}
 use Rattle.follower.specs.declared.heard.Heard.{Heard}
 use Rattle.follower.specs.declared.heard.Heard.TheVariants.{Report, Ack, End, Reject, Nothing}
 use Rattle.follower.specs.declared.hold.TheConstants.{HOLD}
@@ -67,11 +67,11 @@ module _ {A : Type 0} where
   folded_to a f p n (Ok k) =
       answered a (record f { standings = k; sides = with_at f.sides p (record (at f.sides p) { place = n }) })
 
-  abbrev pub folded : A → Following → Partition → Held → Step A
+  abbrev pub folded : A → Following → Partition → NumberedReport → Step A
   folded a f p h = folded_to a f p (number_of h) (fold p h.told f.standings)
 
 -- one report more is held
-abbrev pub held : Following → Partition → Held → Step Live
+abbrev pub held : Following → Partition → NumberedReport → Step Live
 held f p h =
     let s = at f.sides p in
     answered live.Held (record f { sides = with_at f.sides p (record s { hold = s.hold ++ h ∷ [] }) })
@@ -81,7 +81,7 @@ abbrev pub overrun : Following → Step Live
 overrun f = record { answer = Err fault.HoldFull; after = turned false f }
 
 -- a report above its partition's place: folded where the partition is level, held where it is behind
-abbrev pub live_by : State → Following → Partition → Held → Step Live
+abbrev pub live_by : State → Following → Partition → NumberedReport → Step Live
 live_by Level f p h = folded live.Folded f p h
 live_by Behind f p h = if nat_lt (length (at f.sides p).hold) HOLD then held f p h else overrun f
 
@@ -120,13 +120,13 @@ acked f (Asked p) r = acked_of f p r
 acked f (Running p) r = refused fault.OutOfTurn f
 
 -- a report of a download that runs
-abbrev pub recovered_of : Following → Partition → Held → Step Recovered
+abbrev pub recovered_of : Following → Partition → NumberedReport → Step Recovered
 recovered_of f p h =
     if nat_le (number_of h) (at f.sides p).place then answered recovered.Already f
     else folded recovered.Folded f p h
 
 -- a report: with a download it has to be of its partition, and the download has to run
-abbrev pub reported : Following → Stage → Partition → Held → Step Recovered
+abbrev pub reported : Following → Stage → Partition → NumberedReport → Step Recovered
 reported f Idle p h = refused fault.OutOfTurn f
 reported f (Asked q) p h = if same_partition p q then refused fault.OutOfTurn f else refused fault.Partition f
 reported f (Running q) p h = if same_partition p q then recovered_of f p h else refused fault.Partition f

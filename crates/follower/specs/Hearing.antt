@@ -18,12 +18,12 @@ use Rattle.wire.specs.Kinds.{table_of}
 use Rattle.wire.specs.Messages.{opening}
 use Rattle.reports.specs.declared.standing.Told.{Told}
 use Rattle.report_messages.specs.Back.{order_in, told_in}
-use Rattle.follower.specs.declared.heard.Held.{Held}
+use Rattle.follower.specs.declared.heard.NumberedReport.{NumberedReport}
 use Rattle.follower.specs.declared.heard.Heard.{Heard}
 use Rattle.follower.specs.declared.heard.Heard.TheVariants.{Report, Ack, End, Reject, Nothing}
 
 -- a message under its number, with what it tells of an order
-abbrev pub numbered : ℤ → Message → Held
+abbrev pub numbered : ℤ → Message → NumberedReport
 numbered n m = record { sequence = n; told = told_in m }
 
 -- what is heard in a message: in most of them nothing

@@ -13,7 +13,7 @@ fn fold_one(
     standings: &mut Standings,
     partition: Partition,
     place: Number,
-    report: Held,
+    report: NumberedReport,
 ) -> Result<Number, FoldRefusal>
     ensures { CatchesUp
         (caught_one partition (reached (known standings.old) place) report)
@@ -31,7 +31,7 @@ fn fold_at(
     standings: &mut Standings,
     partition: Partition,
     place: Number,
-    report: Option<Held>,
+    report: Option<NumberedReport>,
 ) -> Result<Number, FoldRefusal>
     ensures { CatchesUp
         (caught_at partition (reached (known standings.old) place) report)
@@ -49,7 +49,7 @@ pub(crate) fn fold_all(
     standings: &mut Standings,
     partition: Partition,
     mut place: Number,
-    held: &Queue<'_, Held>,
+    held: &Queue<'_, NumberedReport>,
 ) -> Result<Number, FoldRefusal>
     ensures { CatchesUp
         (caught_up partition (reached (known standings.old) place) (elements held.now))

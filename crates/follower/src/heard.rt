@@ -6,7 +6,7 @@ use reports::standing::Told;
 /// A numbered report: its sequence number as the message states it, and what it tells of an order, if it tells of
 /// one.
 #[derive(Clone, Copy)]
-pub struct Held {
+pub struct NumberedReport {
     pub sequence: i32,
     pub told: Option<Told>,
 }
@@ -15,14 +15,14 @@ pub struct Held {
 /// download ended, a refusal, or nothing.
 #[derive(Clone, Copy)]
 pub enum Heard {
-    Report(Partition, Held),
+    Report(Partition, NumberedReport),
     Ack(AckResponse),
     End(ReportResponse),
     Reject,
     Nothing,
 }
 
-impl Held {
+impl NumberedReport {
     ghost use Rattle.std.specs.Prelude.{◌≡◌};
     ghost use Rattle.follower.specs.Numbers.{number_of};
 

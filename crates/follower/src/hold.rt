@@ -17,16 +17,16 @@ pub const HOLD: usize = 32;
 /// front.
 #[derive(Drop)]
 pub struct Hold {
-    slots: [Held; HOLD],
+    slots: [NumberedReport; HOLD],
     marks: Marks,
 }
 
 impl Model for Hold {
     ghost use Rattle.std.specs.Prelude.{◌≡◌, List, length};
     ghost use Rattle.queue.specs.Ring.{ring};
-    ghost use Rattle.follower.specs.declared.heard.Held.{Held};
+    ghost use Rattle.follower.specs.declared.heard.NumberedReport.{NumberedReport};
 
-    ghost Value = { List Held };
+    ghost Value = { List NumberedReport };
 
     ghost view = { λ h. ring h.slots h.marks.head h.marks.len };
 
@@ -41,7 +41,7 @@ impl Hold {
     pub fn new() -> Hold
         ensures { result ≡ [] }
     {
-        let nothing = Held {
+        let nothing = NumberedReport {
             sequence: 0,
             told: None,
         };
@@ -59,7 +59,7 @@ impl Hold {
     }
 
     /// Holds one report more, behind the others; where there is no room nothing changes.
-    pub(crate) fn push(&mut self, report: Held) -> Result<(), Held>
+    pub(crate) fn push(&mut self, report: NumberedReport) -> Result<(), NumberedReport>
         ensures test { is_ok result ≡ nat_lt (length self.old) HOLD }
         ensures after { self.new ≡ (if is_ok result then self.old ++ report ∷ [] else self.old) }
     {

@@ -2,16 +2,16 @@
 ghost use Rattle.std.specs.Prelude.{◌≡◌};
 ghost use Rattle.follower.specs.Hearing.{heard, heard_in, numbered};
 
-use crate::heard::{Heard, Held};
+use crate::heard::{Heard, NumberedReport};
 use layout::fault::Fault;
 use report_messages::back::told_by;
 use wire::kinds::Channel;
 use wire::message::{Message, read};
 
-fn numbered(sequence: &i32, message: &Message<'_>) -> Held
+fn numbered(sequence: &i32, message: &Message<'_>) -> NumberedReport
     ensures { result ≡ numbered sequence.now message.now }
 {
-    Held {
+    NumberedReport {
         sequence: *sequence,
         told: told_by(message),
     }

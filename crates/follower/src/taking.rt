@@ -8,7 +8,7 @@ ghost use Rattle.follower.specs.Following.{turned, state_for, lived, live_by, fo
 
 use crate::answer::{Live, Recovered};
 use crate::fault::FollowerFault;
-use crate::heard::{Heard, Held};
+use crate::heard::{Heard, NumberedReport};
 use crate::side::State;
 use crate::stage::Stage;
 use crate::state::Follower;
@@ -43,7 +43,7 @@ impl Follower {
     }
 
     // Whether a report is at or below its partition's place.
-    fn has(&self, partition: Partition, report: &Held) -> bool
+    fn has(&self, partition: Partition, report: &NumberedReport) -> bool
         ensures { result ≡ nat_le (number_of report.now) (at self.now.sides partition).place }
     {
         self.sides.at(partition).place.reaches(&report.number())
@@ -53,7 +53,7 @@ impl Follower {
     fn fold<A: Copy>(
         &mut self,
         partition: Partition,
-        report: &Held,
+        report: &NumberedReport,
         answer: A,
     ) -> Result<A, FollowerFault>
         ensures answer { result ≡ (folded answer self.old partition report.now).answer }
@@ -65,7 +65,7 @@ impl Follower {
     }
 
     // Holds a report of a partition that is behind; where the hold is full, the line counts as lost.
-    fn hold(&mut self, partition: Partition, report: Held) -> Result<Live, FollowerFault>
+    fn hold(&mut self, partition: Partition, report: NumberedReport) -> Result<Live, FollowerFault>
         ensures answer { result ≡ (live_by Behind self.old partition report).answer }
         ensures after { self.new ≡ (live_by Behind self.old partition report).after }
     {
@@ -118,7 +118,11 @@ impl Follower {
         }
     }
 
-    fn report(&mut self, partition: Partition, report: Held) -> Result<Recovered, FollowerFault>
+    fn report(
+        &mut self,
+        partition: Partition,
+        report: NumberedReport,
+    ) -> Result<Recovered, FollowerFault>
         ensures answer { result ≡ (reported self.old self.old.download partition report).answer }
         ensures after { self.new ≡ (reported self.old self.old.download partition report).after }
     {
@@ -131,7 +135,11 @@ impl Follower {
     }
 
     // A report of the download that runs.
-    fn report_of(&mut self, partition: Partition, report: &Held) -> Result<Recovered, FollowerFault>
+    fn report_of(
+        &mut self,
+        partition: Partition,
+        report: &NumberedReport,
+    ) -> Result<Recovered, FollowerFault>
         ensures answer { result ≡ (recovered_of self.old partition report.now).answer }
         ensures after { self.new ≡ (recovered_of self.old partition report.now).after }
     {

@@ -20,8 +20,8 @@ use Rattle.reports.specs.declared.report.Entry.{Entry}
 use Rattle.sessions.specs.Downloads.{recovered}
 use Rattle.sessions.specs.Sending.{next_to_send, sent_after}
 use Rattle.sessions.specs.Sessions.{on, with_download, with_sent}
-use Rattle.sessions.specs.declared.download.Recovered.{Recovered}
-use Rattle.sessions.specs.declared.download.Recovered.TheVariants.{Report, Ended}
+use Rattle.sessions.specs.declared.download.Handed.{Handed}
+use Rattle.sessions.specs.declared.download.Handed.TheVariants.{Report, Ended}
 use Rattle.sessions.specs.declared.session.Channel.{Channel}
 use Rattle.sessions.specs.declared.session.Channel.TheVariants.{RealTime, Recovery}
 use Rattle.store.specs.Kept.{Kept}
@@ -93,7 +93,7 @@ abbrev pub sent_bytes : Kept → Option (Partition × ℕ) → List ℕ
 sent_bytes k None = []
 sent_bytes k (Some (p, n)) = stored_bytes k p n
 
-abbrev pub recovered_bytes : Kept → Option Recovered → List ℕ
+abbrev pub recovered_bytes : Kept → Option Handed → List ℕ
 recovered_bytes k None = []
 recovered_bytes k (Some (Report p n)) = stored_bytes k p n
 recovered_bytes k (Some (Ended r)) = end_bytes r

@@ -17,7 +17,7 @@ use codes::session::Partition;
 use configuration::participant::Participant;
 use limits::TRADES;
 use matching::matcher::Matcher;
-use sessions::download::Recovered;
+use sessions::download::Handed;
 use sessions::session::Channel;
 use store::Store;
 use texts::values::Time;
@@ -150,10 +150,10 @@ impl<M: Matcher, S: Store> Gateway<M, S> {
         let next = session.next_recovered(line, self.venue.store());
         self.set_session(line, session);
         match next {
-            Some(Recovered::Report(partition, number)) => {
+            Some(Handed::Report(partition, number)) => {
                 Ok(self.write_stored(partition, number, out))
             }
-            Some(Recovered::Ended(response)) => Ok(write_end(response, out)),
+            Some(Handed::Ended(response)) => Ok(write_end(response, out)),
             None => Ok(0),
         }
     }

@@ -6,7 +6,7 @@ use Rattle.wire.specs.declared.stream.Next.TheVariants as next
 use Rattle.wire.specs.declared.stream.StreamFault.{StreamFault}
 use Rattle.wire.specs.Streams.{Splitting, answer, end, fresh, given}
 use Rattle.inspector.specs.declared.answer.Answer.{Answer}
-use Rattle.inspector.specs.declared.capture.Told.{Told}
+use Rattle.inspector.specs.declared.capture.Judged.{Judged}
 use Rattle.inspector.specs.Answers.{AnswersFrom, Refuses}
 
 -- a stream as far as it was read, and whether bytes that can be no message have ended it
@@ -28,14 +28,14 @@ captured c chunk =
     else record { splitter = given c.splitter chunk; stopped = stops (answer c.splitter chunk) }
 
 -- the answer to the message that is then handed out, or to what ends the stream; there may be none yet
-abbrev pub Tells : Next → Splitting → ℕ → Option Told → Type 0
+abbrev pub Tells : Next → Splitting → ℕ → Option Judged → Type 0
 Tells next.Unfinished s most told = IsNone told
 Tells (next.Message used) s most None = ⊥
 Tells (next.Message used) s most (Some told) = (told.used ≡ used) × AnswersFrom s.at s.channel s.held told.answer
 Tells (next.Fault e) s most None = ⊥
 Tells (next.Fault e) s most (Some told) = (told.used ≡ most) × Refuses e.fault e.offset told.answer
 
-abbrev pub Answers : Captured → List ℕ → Option Told → Type 0
+abbrev pub Answers : Captured → List ℕ → Option Judged → Type 0
 Answers c chunk told =
     MatchBool c.stopped (IsNone told)
     (Tells (answer c.splitter chunk) (given c.splitter chunk) (length chunk) told)

@@ -11,7 +11,7 @@ use wire::stream::{Next, Splitter};
 /// The answer to the next message of a stream, or to bytes that can be none, and how many bytes of the chunk are done
 /// with.
 #[derive(Drop)]
-pub struct Told {
+pub struct Judged {
     pub answer: Answer,
     pub used: usize,
 }
@@ -45,7 +45,7 @@ impl Capture {
 
     /// Reads from the front of a chunk to the end of the next message, and answers it; none where the chunk ends
     /// before that. Bytes that can be no message are answered once, and nothing is read behind them.
-    pub fn next(&mut self, heap: Global, chunk: &[u8]) -> Result<Option<Told>, AllocError>
+    pub fn next(&mut self, heap: Global, chunk: &[u8]) -> Result<Option<Judged>, AllocError>
         ensures after { self.new ≡ captured self.old chunk.now }
         ensures answers { IfOk result (λ told. Answers self.old chunk.now told) }
         ensures within { IfOk result (λ told. IfSome told (λ t. t.used ≤ length chunk.now)) }
@@ -58,12 +58,12 @@ impl Capture {
             Next::Message(used) => {
                 let s = &self.splitter;
                 let answer = answer_from(heap, s.channel(), s.message(), s.offset())?;
-                Ok(Some(Told { answer, used }))
+                Ok(Some(Judged { answer, used }))
             }
             Next::Fault(fault) => {
                 self.stopped = true;
                 let answer = refusal(heap, fault.fault, fault.offset)?;
-                Ok(Some(Told {
+                Ok(Some(Judged {
                     answer,
                     used: chunk.len(),
                 }))

@@ -86,13 +86,13 @@ fn stamp(time: Time) -> u64
 
 /// What one field holds in bytes that are long enough for it.
 #[derive(Clone, Copy)]
-struct Held<'a> {
+struct FieldText<'a> {
     field: Field,
     reader: Reader<'a>,
     ghost inside: { span field ≤ length reader.src.now },
 }
 
-impl fmt::Display for Held<'_> {
+impl fmt::Display for FieldText<'_> {
     ghost output = { λ held. Some (content_text (form_of held.field) (got held.reader.src.now held.field)) };
 
     fn fmt<W: fmt::Write>(&self, f: &mut fmt::Formatter<W>) -> fmt::Result {
@@ -133,7 +133,7 @@ fn quote<'a>(r: &Reader<'a>, at: usize, width: usize) -> Quoted<'a>
 #[derive(Clone, Copy)]
 struct Named<'a> {
     name: &'static str,
-    held: Held<'a>,
+    held: FieldText<'a>,
 }
 
 impl fmt::Display for Named<'_> {
@@ -162,7 +162,7 @@ impl fmt::Display for Fields<'_> {
 
     fn fmt<W: fmt::Write>(&self, f: &mut fmt::Formatter<W>) -> fmt::Result {
         for (name, field) in self.names.iter().zip(self.table) {
-            let held = Held {
+            let held = FieldText {
                 field: *field,
                 reader: self.reader,
             };

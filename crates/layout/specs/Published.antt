@@ -10,22 +10,22 @@ use Rattle.layout.specs.Layout.{wide}
 use Rattle.layout.specs.Shapes.{Laid}
 
 -- what a field holds
-pub data Held : Type 0 where
-  text : Held
+pub data DataType : Type 0 where
+  text : DataType
   -- text that is not empty
-  name : Held
+  name : DataType
   -- an order's identifier, or null
-  order_id : Held
-  unsigned : Held
-  signed : Held
+  order_id : DataType
+  unsigned : DataType
+  signed : DataType
   -- signed, and not negative
-  sequence : Held
-  price : Held
-  time : Held
+  sequence : DataType
+  price : DataType
+  time : DataType
   -- one of these bytes
-  one_of : List ℕ → Held
-  any_byte : Held
-  reserved : Held
+  one_of : List ℕ → DataType
+  any_byte : DataType
+  reserved : DataType
 
 -- when it is looked at: always, or where the byte at a place is one of these
 pub data When : Type 0 where
@@ -36,13 +36,13 @@ pub data When : Type 0 where
 pub record Row : Type 0 where
   pub at : ℕ
   pub bytes : ℕ
-  pub held : Held
+  pub held : DataType
   pub when : When
 
-abbrev pub row : ℕ → ℕ → Held → Row
+abbrev pub row : ℕ → ℕ → DataType → Row
 row at n h = record { at = at; bytes = n; held = h; when = always }
 
-abbrev pub row_when : ℕ → ℕ → Held → ℕ → List ℕ → Row
+abbrev pub row_when : ℕ → ℕ → DataType → ℕ → List ℕ → Row
 row_when at n h other bs = record { at = at; bytes = n; held = h; when = where_byte other bs }
 
 -- the type byte as a text of one character
@@ -55,7 +55,7 @@ abbrev pub published : List ℕ → ℕ → List Row → Published
 published l n rs = record { letter = l; total = n; rows = rs }
 
 -- what a form holds
-abbrev pub held_of : Form → Held
+abbrev pub held_of : Form → DataType
 held_of (form.Text w) = text
 held_of (form.Name w) = name
 held_of form.Order = order_id

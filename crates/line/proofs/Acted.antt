@@ -25,8 +25,8 @@ abbrev pub OnLine : (Change → Type 0) → State → ℕ → Act → Type 0
 OnLine may s line a = (line < length s.lines) × Fits may s line a
 
 -- and it is what a message of these bytes may do
-abbrev pub Told : Given → State → Act → Type 0
-Told g s a = (m : Message) × Reads (reader_of g.channel) g.bytes m × OnLine (MayBy m) s g.line a
+abbrev pub ByMessage : Given → State → Act → Type 0
+ByMessage g s a = (m : Message) × Reads (reader_of g.channel) g.bytes m × OnLine (MayBy m) s g.line a
 
 each : (p q : Act → Type 0) → ((a : Act) → p a → q a) → (acts : List Act) → AllByRecursion p acts
     → AllByRecursion q acts
@@ -50,14 +50,14 @@ done_by may line t s w o there f e = (
 )
 
 read_by : (g : Given) (m : Message) (s w : State) → Reads (reader_of g.channel) g.bytes m
-    → Acted (OnLine (MayBy m) s g.line) s w → Acted (Told g s) s w
+    → Acted (OnLine (MayBy m) s g.line) s w → Acted (ByMessage g s) s w
 read_by g m s w reads (t, acts, f, e) =
-    (t, acts, each (OnLine (MayBy m) s g.line) (Told g s) (λ a x. (m, reads, x)) acts f, e)
+    (t, acts, each (OnLine (MayBy m) s g.line) (ByMessage g s) (λ a x. (m, reads, x)) acts f, e)
 
 pub hears_acted : (g : Given) (s : State) (r : Result ℕ GatewayFault) (w : State) (out : List ℕ)
-    → Hears (λ u acts. w ≡ acted g.time acts u) g s r out → Acted (Told g s) s w
+    → Hears (λ u acts. w ≡ acted g.time acts u) g s r out → Acted (ByMessage g s) s w
 hears_acted g s r w out h =
-    hears_by (Acted (Told g s) s) s (idle (Told g s) g.time s s refl) g r w out
+    hears_by (Acted (ByMessage g s) s) s (idle (ByMessage g s) g.time s s refl) g r w out
     (λ m k reads d. read_by g m s w reads
     (done_by (MayBy m) g.line g.time s w (outcome_of g.channel g.line m g.time g.spare s) (call_there _ g.line s k)
     (outcome_fits s g.line g.channel m g.time g.spare) d.1)) h

@@ -10,7 +10,7 @@ use Rattle.gateway.specs.Calls.{Hands, Handed, send_fault, live_handed, recovery
 use Rattle.gateway.specs.State.{State}
 use Rattle.gateway.specs.declared.fault.GatewayFault.{GatewayFault}
 use Rattle.keyed.specs.Numbers.{under}
-use Rattle.line.proofs.Acted.{Acted, OnLine, Told, hears_acted, loses_acted}
+use Rattle.line.proofs.Acted.{Acted, OnLine, ByMessage, hears_acted, loses_acted}
 use Rattle.line.proofs.Fitting.{Alters}
 use Rattle.line.proofs.Walking.{hands_by}
 use Rattle.line.proofs.Moving.{Moving, adds, changes, onward, still}
@@ -23,7 +23,7 @@ use Rattle.matching.specs.declared.event.Event.TheVariants as event
 use Rattle.orders.specs.Rows.{orderable}
 use Rattle.orders.specs.declared.row.Ending.TheVariants.{Expired}
 use Rattle.orders.specs.declared.row.Row.{Row}
-use Rattle.orders.specs.declared.trade.Fill.{Fill as Side}
+use Rattle.orders.specs.declared.trade.Leg.{Leg}
 use Rattle.orders.specs.declared.trade.Trade.{Trade}
 use Rattle.sessions.specs.declared.session.Channel.TheVariants.{RealTime, Recovery}
 use Rattle.texts.specs.declared.values.Time.{Time}
@@ -99,7 +99,7 @@ event_moves t (event.Trade p a q x) b =
 
 -- ---- a trade cancelled
 
-undone_moves : (p : Move → Type 0) (is : List Instrument) (t : Time) (q : ℕ) (o : Option Side) (l : Ledger)
+undone_moves : (p : Move → Type 0) (is : List Instrument) (t : Time) (q : ℕ) (o : Option Leg) (l : Ledger)
     → ((n : ℕ) (u : Undone) → u.quantity ≡ q → p (n, Undo u)) → Moving p l.rows (side_undone is t q o l).rows
 undone_moves p is t q None l f = still p l.rows
 undone_moves p is t q (Some s) l f = changes p is t s.order (Undo _) l (λ k. refl) (f s.order _ refl)
@@ -127,12 +127,12 @@ hands_moves p o h s r w out k d =
 pub call_moves : (s : State) (d : Done) (w : State) → Turns s d w → Moving (May s d) s.venue.rows w.venue.rows
 call_moves s (done.RealTime line bs t r) w (n, h) =
     let g = giving RealTime line bs.now t n in
-    acted_moves (May s (done.RealTime line bs t r)) (Told g s) s w
+    acted_moves (May s (done.RealTime line bs t r)) (ByMessage g s) s w
     (λ a (m, reads, x). on_line (May s (done.RealTime line bs t r)) (MayBy m) s line (λ k c may. (m, reads, may)) a x)
     (hears_acted g s r.answer w r.buffer h)
 call_moves s (done.Recovery line bs t r) w (n, h) =
     let g = giving Recovery line bs.now t n in
-    acted_moves (May s (done.Recovery line bs t r)) (Told g s) s w
+    acted_moves (May s (done.Recovery line bs t r)) (ByMessage g s) s w
     (λ a (m, reads, x). on_line (May s (done.Recovery line bs t r)) (MayBy m) s line (λ k c may. (m, reads, may)) a x)
     (hears_acted g s r.answer w r.buffer h)
 call_moves s (done.Step t (Ok r)) w (n, (x, e, y, z, h)) =

@@ -10,7 +10,7 @@ use Rattle.gateway.specs.State.{State}
 use Rattle.gateway.specs.declared.fault.GatewayFault.{GatewayFault}
 use Rattle.keyed.proofs.Under.{none-some, under-others}
 use Rattle.keyed.specs.Numbers.{under}
-use Rattle.line.proofs.Acted.{Acted, OnLine, Told, hears_acted, loses_acted}
+use Rattle.line.proofs.Acted.{Acted, OnLine, ByMessage, hears_acted, loses_acted}
 use Rattle.line.proofs.Walking.{hands_by}
 use Rattle.line.specs.Conservation.{MayBy, MayLose}
 use Rattle.line.specs.Laws.{FirmOf, FirmsApart}
@@ -80,12 +80,12 @@ pub firms_apart : FirmsApart
 firms_apart s (done.RealTime k bs t x) w line n r sound (j, h) e was apart =
     let g = giving RealTime k bs.now t j in
     let far = λ (f : firm s r.terms.owner ≡ firm s k). apart (f ∙ ap (firm s) (the k line e)) in
-    acted_apart s k n r sound was far (Told g s) w
+    acted_apart s k n r sound was far (ByMessage g s) w
     (λ z a b (m, reads, y). act_apart s k n r sound was far (MayBy m) z a b y) (hears_acted g s x.answer w x.buffer h)
 firms_apart s (done.Recovery k bs t x) w line n r sound (j, h) e was apart =
     let g = giving Recovery k bs.now t j in
     let far = λ (f : firm s r.terms.owner ≡ firm s k). apart (f ∙ ap (firm s) (the k line e)) in
-    acted_apart s k n r sound was far (Told g s) w
+    acted_apart s k n r sound was far (ByMessage g s) w
     (λ z a b (m, reads, y). act_apart s k n r sound was far (MayBy m) z a b y) (hears_acted g s x.answer w x.buffer h)
 firms_apart s (done.Step t x) w line n r sound h e was apart = none-some line e
 firms_apart s (done.CancelTrade k t x) w line n r sound h e was apart = none-some line e

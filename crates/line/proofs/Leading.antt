@@ -11,7 +11,7 @@ use Rattle.gateway.specs.Hearing.{Given}
 use Rattle.gateway.specs.State.{State}
 use Rattle.gateway.specs.declared.fault.GatewayFault.{GatewayFault}
 use Rattle.keyed.specs.Numbers.{under}
-use Rattle.line.proofs.Acted.{Acted, OnLine, Told, hears_acted, loses_acted}
+use Rattle.line.proofs.Acted.{Acted, OnLine, ByMessage, hears_acted, loses_acted}
 use Rattle.line.proofs.Fitting.{Alters}
 use Rattle.line.proofs.Walking.{hands_by}
 use Rattle.line.specs.Conservation.{MayBy, MayLose}
@@ -24,7 +24,7 @@ use Rattle.orders.specs.declared.row.Ask.{Ask}
 use Rattle.orders.specs.declared.row.Ending.TheVariants.{Expired}
 use Rattle.orders.specs.declared.row.Row.{Row}
 use Rattle.orders.specs.declared.row.Terms.{Terms}
-use Rattle.orders.specs.declared.trade.Fill.{Fill as Side}
+use Rattle.orders.specs.declared.trade.Leg.{Leg}
 use Rattle.orders.specs.declared.trade.Trade.{Trade}
 use Rattle.partitions.specs.Series.{grown}
 use Rattle.reports.specs.declared.report.Entry.{Entry}
@@ -76,7 +76,7 @@ module _ (R : Ledger → Ledger → Type 0) (lines : ℕ) (leads : Leads R lines
   ended_leads is t n None l = leads.same l
   ended_leads is t n (Some r) l = leads.change is t n (Withdraw Expired r.client) l (λ k. refl)
 
-  undone_leads : (is : List Instrument) (t : Time) (q : ℕ) (o : Option Side) (l : Ledger)
+  undone_leads : (is : List Instrument) (t : Time) (q : ℕ) (o : Option Leg) (l : Ledger)
       → R l (side_undone is t q o l)
   undone_leads is t q None l = leads.same l
   undone_leads is t q (Some s) l = leads.change is t s.order (Undo _) l (λ k. refl)
@@ -124,8 +124,8 @@ module _ (R : Ledger → Ledger → Type 0) (s : State) (leads : Leads R (length
       subst (λ (b : Books). R (ledger_of s.venue) (ledger_of b)) (sym e)
       (acts_lead R (length s.lines) leads t acts s.venue (to_all p k acts f))
 
-  told_to : (g : Given) (w : State) → Acted (Told g s) s w → To w
-  told_to g w h = acted_to (Told g s) w (λ a (m, reads, x). among (MayBy m) s g.line a x) h
+  told_to : (g : Given) (w : State) → Acted (ByMessage g s) s w → To w
+  told_to g w h = acted_to (ByMessage g s) w (λ a (m, reads, x). among (MayBy m) s g.line a x) h
 
   one_to : (t : Time) (a : Act) (w : State) → Among (length s.lines) a → w.venue ≡ enact t a s.venue → To w
   one_to t a w h e =

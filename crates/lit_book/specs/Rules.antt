@@ -2,7 +2,7 @@
 use Rattle.std.specs.Prelude.{ℕ, ◌-◌, min, if◌then◌else◌, List, [], ◌∷◌, ◌++◌, Some, None, Option, nat_lt}
 use Rattle.matching.specs.declared.event.Event.{Event}
 use Rattle.matching.specs.declared.event.Event.TheVariants.{Nothing, Expired, Trade}
-use Rattle.matching.specs.declared.matcher.Terms.{Terms}
+use Rattle.matching.specs.declared.matcher.Ticket.{Ticket}
 use Rattle.texts.specs.declared.values.Price.{Price}
 use Rattle.lit_book.specs.declared.order.Order.{Order}
 use Rattle.lit_book.specs.Orders.{goes_back, price, rests, with_limit, with_quantity}
@@ -18,7 +18,7 @@ abbrev pub order_under : Lit → ℕ → Option Order
 order_under b n = order_in (b.resting ++ b.waiting) n
 
 -- an order of these terms under a number
-abbrev pub order_of : ℕ → Terms → Order
+abbrev pub order_of : ℕ → Ticket → Order
 order_of n t = record {
   number = n;
   instrument = t.instrument;

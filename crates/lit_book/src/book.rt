@@ -11,7 +11,7 @@ use codes::order::Book;
 use keyed::place_of;
 use limits::ORDERS;
 use matching::event::Event;
-use matching::matcher::{Held, Matcher, Refusal, Terms};
+use matching::matcher::{Held, Matcher, Refusal, Ticket};
 use std::alloc::{AllocError, Global};
 use texts::values::Price;
 
@@ -299,7 +299,7 @@ impl Matcher for LitBook {
     ghost bounded = { lit_bounded };
 
     #[tactic(auto, using(crate::proofs::Tables::count))]
-    fn enter(&mut self, number: u64, terms: Terms) -> Result<(), Refusal>
+    fn enter(&mut self, number: u64, terms: Ticket) -> Result<(), Refusal>
         ensures refusal { result_err result ≡ enter_refusal (lit_meaning self.old) number terms.quantity }
         ensures after { lit_meaning self.new ≡ (if is_ok result
             then opened (lit_meaning self.old) number (held_of terms) else lit_meaning self.old) }

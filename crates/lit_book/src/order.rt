@@ -7,7 +7,7 @@ ghost use Rattle.lit_book.specs.Texts.{order_text, pricing_text};
 
 use codes::order::Side;
 use keyed::Numbered;
-use matching::matcher::Terms;
+use matching::matcher::Ticket;
 use std::fmt;
 use terms::lifetime::Lifetime;
 use terms::pricing::Pricing;
@@ -63,7 +63,7 @@ impl fmt::Display for Asked {
 }
 
 impl Order {
-    pub(crate) fn new(number: u64, terms: Terms) -> Order
+    pub(crate) fn new(number: u64, terms: Ticket) -> Order
         ensures { result ≡ order_of number terms }
     {
         Order {

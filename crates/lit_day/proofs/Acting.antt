@@ -18,11 +18,11 @@ use Rattle.lit_day.proofs.Taking.{Apart, taken}
 use Rattle.lit_day.specs.Trading.{Mirrors}
 use Rattle.matching.specs.Asked.{Asked, Asks, Enter, Cancel, Amend, Next}
 use Rattle.orders.specs.Rows.{orderable}
-use Rattle.orders.specs.declared.trade.Fill.{Fill as Side}
+use Rattle.orders.specs.declared.trade.Leg.{Leg}
 use Rattle.orders.specs.declared.trade.Trade.{Trade}
 use Rattle.texts.specs.declared.values.Time.{Time}
 use Rattle.venue.specs.Acts.{Act, Open, Alter, Note, Take, Void, asked, asked_all, enact, enact_all, ledger_of, voided}
-use Rattle.venue.specs.Asking.{request_of}
+use Rattle.venue.specs.Asking.{ticket_of}
 use Rattle.venue.specs.Books.{Books, executed_of}
 use Rattle.venue.specs.Ledger.{Ledger}
 use Rattle.venue.specs.Trading.{passive_undone, side_undone}
@@ -83,7 +83,7 @@ alters t n (Fill f) b e e' may d k = absurd may
 alters t n (Undo u) b e e' may d k =
     unasked (enact t (Alter n (Undo u)) b) e e' d (undoes b.instruments t n u (ledger_of b) (lit e) k)
 
-side_follows : (is : List Instrument) (t : Time) (q : ℕ) (o : Option Side) (l : Ledger) (b : Lit) → Mirrors l.rows b
+side_follows : (is : List Instrument) (t : Time) (q : ℕ) (o : Option Leg) (l : Ledger) (b : Lit) → Mirrors l.rows b
     → Mirrors (side_undone is t q o l).rows b
 side_follows is t q None l b k = k
 side_follows is t q (Some s) l b k = undoes is t s.order _ l b k
@@ -98,7 +98,7 @@ act_follows : (t : Time) (a : Act) (b : Books) (e e' : LitBook) → MayDo a → 
     → Follows b e → Follows (enact t a b) e'
 act_follows t (Open s a) b e e' may d k =
     enters b.instruments t s a (ledger_of b) (lit e) (lit e') k may
-    (one_asked (Enter (length b.rows + 1) (request_of s a)) e e' d)
+    (one_asked (Enter (length b.rows + 1) (ticket_of s a)) e e' d)
 act_follows t (Alter n c) b e e' may d k = alters t n c b e e' may d k
 act_follows t (Note p x) b e e' may d k = unasked b e e' d k
 act_follows t (Take v) b e e' may d k =

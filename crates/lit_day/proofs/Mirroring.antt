@@ -35,7 +35,7 @@ use Rattle.texts.specs.declared.fixed.FixedText.{FixedText}
 use Rattle.texts.specs.declared.values.Price.{Price}
 use Rattle.texts.specs.declared.values.Time.{Time}
 use Rattle.venue.proofs.Rows.{past_none, push_apart, push_here, put-here}
-use Rattle.venue.specs.Asking.{request_of}
+use Rattle.venue.specs.Asking.{ticket_of}
 use Rattle.venue.specs.Books.{executed_of}
 use Rattle.venue.specs.Ledger.{Ledger, changed, rewritten}
 use Rattle.venue.specs.Ledger.{entered as opened}
@@ -193,24 +193,24 @@ some_ordered q h = (and_parts (nat_lt 0 q) _ h).0
 
 pub enters : (is : List Instrument) (t : Time) (s : Terms) (a : Ask) (l : Ledger) (b b' : Lit)
     → Mirrors l.rows b → orderable a.quantity ≡ true
-    → b' ≡ entered b (order_of (length l.rows + 1) (request_of s a)) → Mirrors (opened is t s a l).rows b'
+    → b' ≡ entered b (order_of (length l.rows + 1) (ticket_of s a)) → Mirrors (opened is t s a l).rows b'
 enters is t s a l b b' k some f =
     subst (Mirrors (opened is t s a l).rows) (sym f) (λ m. go m (cases_eq (length l.rows + 1) m))
   where
     go : (m : ℕ) → (length l.rows + 1 ≡ m) ⊎ (length l.rows + 1 ≡ m → ⊥)
-        → order_under (entered b (order_of (length l.rows + 1) (request_of s a))) m
+        → order_under (entered b (order_of (length l.rows + 1) (ticket_of s a))) m
         ≡ open_order m (under (opened is t s a l).rows m)
     go m (inl e) =
-        subst (λ i. order_under (entered b (order_of (length l.rows + 1) (request_of s a))) i
+        subst (λ i. order_under (entered b (order_of (length l.rows + 1) (ticket_of s a))) i
         ≡ open_order i (under (opened is t s a l).rows i)) e
-        (entered_here b (order_of (length l.rows + 1) (request_of s a)) (length l.rows + 1) refl
+        (entered_here b (order_of (length l.rows + 1) (ticket_of s a)) (length l.rows + 1) refl
         (k (length l.rows + 1)
         ∙ ap (open_order (length l.rows + 1)) (past_none l.rows (length l.rows + 1) (omega arith)))
         ∙ sym (cond-true (nat_lt 0 a.quantity) _ _ (some_ordered a.quantity some))
         ∙ ap (open_order (length l.rows + 1))
         (sym (push_here l.rows (length l.rows + 1) (accepted (length l.rows + 1) s a) refl)))
     go m (inr ne) =
-        entered_other b (order_of (length l.rows + 1) (request_of s a)) m ne
+        entered_other b (order_of (length l.rows + 1) (ticket_of s a)) m ne
         ∙ k m
         ∙ ap (open_order m) (sym (push_apart l.rows m (accepted (length l.rows + 1) s a) (λ e. ne (sym e))))
 

@@ -1,12 +1,12 @@
 -- What an engine is asked, one call after the other. Assumes nothing.
 use Rattle.std.specs.Prelude.{◌≡◌, ℕ, List, [], ◌∷◌}
 use Rattle.matching.specs.declared.event.Event.{Event}
-use Rattle.matching.specs.declared.matcher.Terms.{Terms}
+use Rattle.matching.specs.declared.matcher.Ticket.{Ticket}
 use Rattle.texts.specs.declared.values.Price.{Price}
 
 -- a call that an engine was asked, and did
 pub data Asked : Type 0 where
-  Enter : (number : ℕ) (terms : Terms) → Asked
+  Enter : (number : ℕ) (terms : Ticket) → Asked
   Cancel : (number : ℕ) → Asked
   Amend : (number quantity : ℕ) (price : Price) → Asked
   -- with what was answered

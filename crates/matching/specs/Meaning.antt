@@ -11,7 +11,7 @@ use Rattle.matching.specs.declared.event.Event.TheVariants.{Nothing, Expired, Tr
 use Rattle.matching.specs.declared.matcher.Held.{Held}
 use Rattle.matching.specs.declared.matcher.Refusal.{Refusal}
 use Rattle.matching.specs.declared.matcher.Refusal.TheVariants.{NoQuantity, NumberOpen, Full, NotOpen}
-use Rattle.matching.specs.declared.matcher.Terms.{Terms}
+use Rattle.matching.specs.declared.matcher.Ticket.{Ticket}
 
 -- what is open under each order number
 abbrev pub Orders : Type 0
@@ -47,7 +47,7 @@ instrument_of (Some h) = h.instrument
 abbrev pub with_order : Meaning → ℕ → Option Held → Meaning
 with_order m n w = record m { orders = put m.orders n w }
 
-abbrev pub held_of : Terms → Held
+abbrev pub held_of : Ticket → Held
 held_of t = record { instrument = t.instrument; quantity = t.quantity }
 
 abbrev pub opened : Meaning → ℕ → Held → Meaning

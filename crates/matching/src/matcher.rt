@@ -20,7 +20,7 @@ use texts::values::Price;
 
 /// What an order asks for.
 #[derive(Clone, Copy, Debug, PartialEq)]
-pub struct Terms {
+pub struct Ticket {
     pub instrument: u8,
     pub side: Side,
     pub pricing: Pricing,
@@ -82,7 +82,7 @@ pub trait Matcher {
 
     /// Opens an order under a number. Refused exactly at quantity 0, an open number or a full engine, tried in this
     /// order.
-    fn enter(&mut self, number: u64, terms: Terms) -> Result<(), Refusal>
+    fn enter(&mut self, number: u64, terms: Ticket) -> Result<(), Refusal>
         ensures refusal { result_err result ≡ enter_refusal (meaning self.old) number terms.quantity }
         ensures after { meaning self.new ≡ (if is_ok result then opened (meaning self.old) number (held_of terms)
             else meaning self.old) }

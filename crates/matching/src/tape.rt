@@ -4,7 +4,7 @@ ghost use Rattle.matching.specs.TapeRows.{all_apart, row_number};
 ghost use Rattle.matching.specs.declared.tape.TheConstants as limit;
 
 use crate::event::Event;
-use crate::matcher::{Held, Matcher, Refusal, Terms};
+use crate::matcher::{Held, Matcher, Refusal, Ticket};
 use codes::order::Book;
 use keyed::{Numbered, place_of};
 use std::alloc::{AllocError, Global};
@@ -200,7 +200,7 @@ impl Matcher for Tape {
     ghost bounded = { tape_bounded };
 
     #[tactic(auto, using(crate::proofs::Rows::count))]
-    fn enter(&mut self, number: u64, terms: Terms) -> Result<(), Refusal>
+    fn enter(&mut self, number: u64, terms: Ticket) -> Result<(), Refusal>
         ensures refusal { result_err result ≡ enter_refusal (tape_meaning self.old) number terms.quantity }
         ensures after { tape_meaning self.new
             ≡ (if is_ok result then opened (tape_meaning self.old) number (held_of terms) else tape_meaning self.old) }

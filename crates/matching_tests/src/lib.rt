@@ -6,7 +6,7 @@ mod tests {
     use codes::order::{Book, Side};
     use lit_book::book::LitBook;
     use matching::event::Event;
-    use matching::matcher::{Matcher, Refusal, Terms};
+    use matching::matcher::{Matcher, Refusal, Ticket};
     use matching::tape::{Line, Tape};
     use queue::Queue;
     use std::test::Fail;
@@ -14,8 +14,8 @@ mod tests {
     use terms::pricing::Pricing;
     use texts::values::Price;
 
-    fn limit(side: Side, price: i64, quantity: u32) -> Terms {
-        Terms {
+    fn limit(side: Side, price: i64, quantity: u32) -> Ticket {
+        Ticket {
             instrument: 0,
             side,
             pricing: Pricing::Limit(Price { raw: price }),
@@ -129,7 +129,7 @@ mod tests {
     fn immediate_orders_expire(rt: HostRuntime) -> Result<(), Fail> {
         let mut book = LitBook::new(rt.alloc())?;
         assert_eq!(rt; book.enter(1, limit(Side::Buy, 99, 10)), Ok(()));
-        let terms = Terms {
+        let terms = Ticket {
             instrument: 0,
             side: Side::Sell,
             pricing: Pricing::Market,

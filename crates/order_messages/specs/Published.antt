@@ -3,7 +3,7 @@
 -- byte that says so and which bytes there do. Assumes nothing.
 use Rattle.std.specs.Prelude.{[], ◌∷◌, codes}
 use Rattle.layout.specs.Published.{Published, published, row, row_when}
-use Rattle.layout.specs.Published.Held.{text, name, order_id, unsigned, signed, price, time, one_of, reserved}
+use Rattle.layout.specs.Published.DataType.{text, name, order_id, unsigned, signed, price, time, one_of, reserved}
 
 abbrev pub new_order_published : Published
 new_order_published =

@@ -10,7 +10,7 @@ use texts::values::Price;
 
 /// One side of a trade: its order, and the sequence number of the report that told the fill.
 #[derive(Clone, Copy, Debug, PartialEq)]
-pub struct Fill {
+pub struct Leg {
     pub order: u64,
     pub report: u32,
 }
@@ -20,8 +20,8 @@ pub struct Fill {
 pub struct Trade {
     pub quantity: u32,
     pub price: Price,
-    pub passive: Option<Fill>,
-    pub aggressive: Option<Fill>,
+    pub passive: Option<Leg>,
+    pub aggressive: Option<Leg>,
     pub cancelled: bool,
 }
 

@@ -2,7 +2,7 @@
 -- row for each field, with its offset, its bytes and what it holds. Assumes nothing.
 use Rattle.std.specs.Prelude.{[], ◌∷◌, codes}
 use Rattle.layout.specs.Published.{Published, published, row}
-use Rattle.layout.specs.Published.Held.{text, signed, sequence, one_of, any_byte}
+use Rattle.layout.specs.Published.DataType.{text, signed, sequence, one_of, any_byte}
 
 abbrev pub logon_published : Published
 logon_published =

@@ -18,7 +18,7 @@ pub struct Download {
 
 /// What a download hands out: a report by its number, or the end with its response.
 #[derive(Clone, Copy)]
-pub enum Recovered {
+pub enum Handed {
     Report(Partition, u32),
     Ended(ReportResponse),
 }
@@ -46,13 +46,13 @@ impl Download {
     }
 
     /// What is handed out next, and the download if it goes on.
-    pub fn next<S: Store>(self, owner: usize, store: &S) -> (Recovered, Option<Download>)
+    pub fn next<S: Store>(self, owner: usize, store: &S) -> (Handed, Option<Download>)
         ensures { result ≡ handed_out self (remaining (at (S.kept store.now) self.partition) owner self) }
     {
         match self.remaining(owner, store) {
-            None => (Recovered::Ended(ReportResponse::Complete), None),
+            None => (Handed::Ended(ReportResponse::Complete), None),
             Some(_) if self.handed >= DOWNLOADED => {
-                (Recovered::Ended(ReportResponse::MessageLimit), None)
+                (Handed::Ended(ReportResponse::MessageLimit), None)
             }
             Some(number) => {
                 let rest = Download {
@@ -60,7 +60,7 @@ impl Download {
                     handed: self.handed + 1,
                     ..self
                 };
-                (Recovered::Report(self.partition, number), Some(rest))
+                (Handed::Report(self.partition, number), Some(rest))
             }
         }
     }

@@ -14,7 +14,7 @@ use Rattle.orders.specs.declared.row.Row.{Row}
 use Rattle.orders.specs.declared.trade.Trade.{Trade}
 use Rattle.orders.specs.declared.row.Ending.TheVariants.{Expired}
 use Rattle.orders.specs.Trades.{Notes, void, void_fault}
-use Rattle.orders.specs.declared.trade.Fill.{Fill as Side}
+use Rattle.orders.specs.declared.trade.Leg.{Leg}
 use Rattle.orders.specs.declared.trade.TradeRefusal.TheVariants.{DoneBefore}
 use Rattle.changes.specs.declared.change.Undone.{Undone}
 use Rattle.limits.specs.declared.TheConstants.{TRADES}
@@ -337,7 +337,7 @@ executed_row rows n q some h = go (under rows n) refl
     go (Some r) e = let z = ap executed_of e in record { row = r; was = e; enough = omega arith }
 
 module _ (is : List Instrument) (t : Time) (q : ℕ) (l : Ledger) (s : Recorded is l.rows l.kept) where
-  pub undone-recorded : (side : Option Side) → SideExecuted q side l.rows
+  pub undone-recorded : (side : Option Leg) → SideExecuted q side l.rows
       → Recorded is (side_undone is t q side l).rows (side_undone is t q side l).kept
   undone-recorded None h = s
   undone-recorded (Some f) h =
@@ -346,7 +346,7 @@ module _ (is : List Instrument) (t : Time) (q : ℕ) (l : Ledger) (s : Recorded 
       (undo_made f.order (undoing is q f l) b.row h.0 b.enough)
 
   -- open stays as it is
-  undone-open : (side : Option Side) → SideExecuted q side l.rows → (k : ℕ)
+  undone-open : (side : Option Leg) → SideExecuted q side l.rows → (k : ℕ)
       → open_of (under (side_undone is t q side l).rows k) ≡ open_of (under l.rows k)
   undone-open None h k = refl
   undone-open (Some f) h k =
@@ -363,7 +363,7 @@ module _ (is : List Instrument) (t : Time) (q : ℕ) (l : Ledger) (s : Recorded 
       at r was made (inr ne) =
           ap open_of (changed-apart is t f.order (Undo (undoing is q f l)) l r (undone q r) s was made k ne)
 
-  undone-count : (side : Option Side) → SideExecuted q side l.rows → open_count (side_undone is t q side l).rows
+  undone-count : (side : Option Leg) → SideExecuted q side l.rows → open_count (side_undone is t q side l).rows
       ≡ open_count l.rows
   undone-count None h = refl
   undone-count (Some f) h =
@@ -373,7 +373,7 @@ module _ (is : List Instrument) (t : Time) (q : ℕ) (l : Ledger) (s : Recorded 
       let same : one_of (undone q b.row) ≡ one_of b.row = refl in
       omega arith
 
-  pub undone-executed : (side : Option Side) → SideExecuted q side l.rows → (k : ℕ)
+  pub undone-executed : (side : Option Leg) → SideExecuted q side l.rows → (k : ℕ)
       → executed_of (under (side_undone is t q side l).rows k) + side_of k q side ≡ executed_of (under l.rows k)
   undone-executed None h k = omega arith
   undone-executed (Some f) h k =
@@ -406,10 +406,10 @@ module _ (b : Books) (t : Time) (n : ℕ) (tr : Trade) (s : Sound b) (was : unde
       (under b.rows k)
   sides_executed k = let h = void_left k b.trades n tr was stands in let e = s.summed k in omega arith
 
-  side_self : (f : Side) → side_of f.order tr.quantity (Some f) ≡ tr.quantity
+  side_self : (f : Leg) → side_of f.order tr.quantity (Some f) ≡ tr.quantity
   side_self f = cond-true _ _ _ (eq-eqb f.order f.order refl)
 
-  passive_at : (side : Option Side) → tr.passive ≡ side → SideExecuted tr.quantity side b.rows
+  passive_at : (side : Option Leg) → tr.passive ≡ side → SideExecuted tr.quantity side b.rows
   passive_at None e = tt
   passive_at (Some f) e =
       let h = sides_executed f.order in
@@ -423,7 +423,7 @@ module _ (b : Books) (t : Time) (n : ℕ) (tr : Trade) (s : Sound b) (was : unde
       (passive_undone b.instruments t tr (ledger_of b)).kept
   undo_between = undone-recorded b.instruments t tr.quantity (ledger_of b) s.recorded tr.passive undo_first
 
-  aggressive_at : (side : Option Side) → tr.aggressive ≡ side
+  aggressive_at : (side : Option Leg) → tr.aggressive ≡ side
       → SideExecuted tr.quantity side (passive_undone b.instruments t tr (ledger_of b)).rows
   aggressive_at None e = tt
   aggressive_at (Some f) e =

@@ -17,7 +17,7 @@ use Rattle.texts.specs.declared.values.Price.{Price}
 use Rattle.texts.specs.declared.values.Time.{Time}
 use Rattle.changes.specs.declared.change.Change.{Change}
 use Rattle.changes.specs.declared.change.Change.TheVariants.{Accept, Replace, Withdraw, Fill, Undo}
-use Rattle.venue.specs.Asking.{request_of}
+use Rattle.venue.specs.Asking.{ticket_of}
 use Rattle.venue.specs.Books.{Books, executed_of, open_of}
 use Rattle.venue.specs.Ledger.{Ledger, changed, entered, expired, ledger, report_count}
 use Rattle.venue.specs.Trading.{both_filled, both_undone, trade_of}
@@ -94,7 +94,7 @@ asked_for n (Fill f) o = []
 asked_for n (Undo u) o = []
 
 abbrev pub asked : Act → Books → List Asked
-asked (Open s a) b = Enter (length b.rows + 1) (request_of s a) ∷ []
+asked (Open s a) b = Enter (length b.rows + 1) (ticket_of s a) ∷ []
 asked (Alter n c) b = asked_for n c (under b.rows n)
 asked (Note p e) b = []
 asked (Take e) b = Next e ∷ []

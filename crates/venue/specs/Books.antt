@@ -7,7 +7,7 @@ use Rattle.keyed.specs.Numbers.{under}
 use Rattle.matching.specs.declared.matcher.Held.{Held}
 use Rattle.matching.specs.Meaning.{Meaning}
 use Rattle.orders.specs.declared.row.Row.{Row}
-use Rattle.orders.specs.declared.trade.Fill.{Fill}
+use Rattle.orders.specs.declared.trade.Leg.{Leg}
 use Rattle.orders.specs.declared.trade.Trade.{Trade}
 use Rattle.orders.specs.Tables.{open_count}
 use Rattle.store.specs.Kept.{Kept, empty}
@@ -43,7 +43,7 @@ abbrev pub executed_of : Option Row → ℕ
 executed_of o = option_map_or (λ r. r.executed) o 0
 
 -- how much of an order a side of a trade has filled
-abbrev pub side_of : ℕ → ℕ → Option Fill → ℕ
+abbrev pub side_of : ℕ → ℕ → Option Leg → ℕ
 side_of n q None = 0
 side_of n q (Some f) = if f.order == n then q else 0
 

@@ -26,7 +26,7 @@ use Rattle.reports.specs.Tally.{tally}
 use Rattle.store.specs.Kept.{Kept}
 use Rattle.changes.specs.declared.change.Change.{Change}
 use Rattle.changes.specs.declared.change.Change.TheVariants.{Accept, Replace, Withdraw, Fill, Undo}
-use Rattle.changes.specs.declared.change.Told.{Told}
+use Rattle.changes.specs.declared.change.Heading.{Heading}
 use Rattle.changes.specs.Changes.{after}
 use Rattle.changes.specs.Laws.{standing_of, reports_of}
 use Rattle.configuration.specs.declared.instrument.Instrument.{Instrument}
@@ -41,7 +41,7 @@ entries_of o es = map (λ (e : ExecutionReport). record { owner = o; report = Ex
 abbrev pub appended : Kept → Partition → List Entry → Kept
 appended k p es = fold_each (λ j e. grown j p e) k es
 
-abbrev pub told_at : Instrument → Time → Told
+abbrev pub told_at : Instrument → Time → Heading
 told_at i t = record { symbol = i.symbol; time = t }
 
 -- a change is told to the order's owner, in the partition of its instrument

@@ -7,7 +7,7 @@ use Rattle.codes.specs.declared.report.Liquidity.TheVariants.{Added, Removed}
 use Rattle.texts.specs.declared.values.Time.{Time}
 use Rattle.keyed.specs.Numbers.{under}
 use Rattle.orders.specs.declared.row.Row.{Row}
-use Rattle.orders.specs.declared.trade.Fill.{Fill as Side}
+use Rattle.orders.specs.declared.trade.Leg.{Leg}
 use Rattle.orders.specs.declared.trade.Trade.{Trade}
 use Rattle.changes.specs.declared.change.Change.TheVariants.{Fill, Undo}
 use Rattle.changes.specs.declared.change.Undone.{Undone}
@@ -32,7 +32,7 @@ side_filled is t f None l = l
 side_filled is t f (Some n) l = changed is t n (Fill f) l
 
 -- the side's order, and the number of the report that tells the fill
-abbrev pub side_told : List Instrument → Option ℕ → Ledger → Option Side
+abbrev pub side_told : List Instrument → Option ℕ → Ledger → Option Leg
 side_told is None l = None
 side_told is (Some n) l = Some (record { order = n; report = next_report is n l })
 
@@ -67,19 +67,19 @@ abbrev pub partition_of : List Instrument → Option Row → ℕ
 partition_of is o = option_map_or (λ r. partition_in (slice_get is r.terms.instrument)) o 0
 
 -- a side's fill, named by the report that told it
-abbrev pub undoing : List Instrument → ℕ → Side → Ledger → Undone
+abbrev pub undoing : List Instrument → ℕ → Leg → Ledger → Undone
 undoing is q s l = record {
   quantity = q;
   report = record { partition = partition_of is (under l.rows s.order); sequence = s.report };
 }
 
 -- one side's fill is undone and told; a side that is not named changes nothing
-abbrev pub side_undone : List Instrument → Time → ℕ → Option Side → Ledger → Ledger
+abbrev pub side_undone : List Instrument → Time → ℕ → Option Leg → Ledger → Ledger
 side_undone is t q None l = l
 side_undone is t q (Some s) l = changed is t s.order (Undo (undoing is q s l)) l
 
 -- an order that has as much executed
-abbrev pub SideExecuted : ℕ → Option Side → List Row → Type 0
+abbrev pub SideExecuted : ℕ → Option Leg → List Row → Type 0
 SideExecuted q None rows = Unit {0}
 SideExecuted q (Some s) rows = (1 ≤ q) × (q ≤ executed_of (under rows s.order))
 

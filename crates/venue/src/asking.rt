@@ -4,19 +4,19 @@ ghost use Rattle.std.specs.FinMap.{get, len};
 ghost use Rattle.limits.specs.declared.TheConstants.{INSTRUMENTS};
 ghost use Rattle.matching.specs.Meaning.{closed, held_of, opened, resized};
 ghost use Rattle.matching.specs.Asked.{Enter, Cancel, Amend};
-ghost use Rattle.venue.specs.Asking.{request_of};
+ghost use Rattle.venue.specs.Asking.{ticket_of};
 
-use matching::matcher::{Matcher, Terms as Request};
+use matching::matcher::{Matcher, Ticket};
 use orders::row::{Ask, Terms};
 use terms::pricing::Pricing;
 use texts::values::Price;
 
 // What an order asks of the matcher.
-pub(crate) fn request_of(terms: &Terms, ask: &Ask) -> Request
+pub(crate) fn ticket_of(terms: &Terms, ask: &Ask) -> Ticket
     requires { terms.now.instrument < INSTRUMENTS }
-    ensures { result ≡ request_of terms.now ask.now }
+    ensures { result ≡ ticket_of terms.now ask.now }
 {
-    Request {
+    Ticket {
         instrument: terms.instrument as u8,
         side: terms.side,
         pricing: Pricing::new(terms.kind, ask.price),
@@ -27,7 +27,7 @@ pub(crate) fn request_of(terms: &Terms, ask: &Ask) -> Request
 }
 
 // Opens an order under a number that has none, where there is room.
-pub(crate) fn enter<M: Matcher>(matcher: &mut M, number: u64, terms: Request)
+pub(crate) fn enter<M: Matcher>(matcher: &mut M, number: u64, terms: Ticket)
     requires free { get (M.meaning matcher.old).orders number ≡ None }
     requires some { 0 < terms.quantity }
     requires room { len (M.meaning matcher.old).orders < (M.meaning matcher.old).capacity }

@@ -11,7 +11,7 @@ ghost use Rattle.changes.specs.Laws.{and_also};
 ghost use Rattle.venue.specs.Ledger.{Recorded, Uses, appended, changed, entered, entries_of, expired, ledger, next_report, report_count};
 ghost use Rattle.venue.specs.Books.{open_of};
 
-use changes::change::{Change, Made, Told};
+use changes::change::{Change, Heading, Made};
 use codes::session::Partition;
 use configuration::instrument::Instrument;
 use orders::order::Order;
@@ -82,7 +82,7 @@ impl<S: Store> Ledger<S> {
         ensures free { Uses 1 (S.free self.old.store) (S.free self.new.store) }
     {
         let instrument = self.instruments[terms.instrument];
-        let told = Told {
+        let told = Heading {
             symbol: instrument.symbol,
             time,
         };
@@ -114,7 +114,7 @@ impl<S: Store> Ledger<S> {
     {
         let row = order.row();
         let instrument = self.instruments[row.terms.instrument];
-        let told = Told {
+        let told = Heading {
             symbol: instrument.symbol,
             time,
         };

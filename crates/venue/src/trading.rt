@@ -11,7 +11,7 @@ use crate::step::Step;
 use changes::change::{Change, Fill, Undone};
 use codes::report::Liquidity;
 use codes::session::Partition;
-use orders::trade::{Fill as Side, Trade, Trades};
+use orders::trade::{Leg, Trade, Trades};
 use store::Store;
 use texts::identifiers::ExecutionId;
 use texts::values::{Price, Time};
@@ -71,7 +71,7 @@ fn partition_number(partition: Partition) -> u8
 
 impl<S: Store> Ledger<S> {
     // Fills one side of a trade, where it is named.
-    fn fill_side(&mut self, side: Option<u64>, fill: Fill, time: Time) -> Option<Side>
+    fn fill_side(&mut self, side: Option<u64>, fill: Fill, time: Time) -> Option<Leg>
         requires recorded { Recorded self.old.instruments.items self.old.table (S.kept self.old.store) }
         requires allowed { SideAllows fill side self.old.table }
         requires place { 1 ≤ S.free self.old.store }
@@ -86,7 +86,7 @@ impl<S: Store> Ledger<S> {
             unreachable!()
         };
         let report = self.change(order, &Change::Fill(fill), time);
-        Some(Side {
+        Some(Leg {
             order: number,
             report,
         })
@@ -128,7 +128,7 @@ impl<S: Store> Ledger<S> {
     }
 
     // Undoes the fill of one side of a trade, where it is named.
-    fn undo_side(&mut self, side: Option<Side>, quantity: u32, time: Time)
+    fn undo_side(&mut self, side: Option<Leg>, quantity: u32, time: Time)
         requires recorded { Recorded self.old.instruments.items self.old.table (S.kept self.old.store) }
         requires executed { SideExecuted quantity side self.old.table }
         requires places { 2 ≤ S.free self.old.store }

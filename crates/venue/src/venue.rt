@@ -1,7 +1,7 @@
 // A venue: the orders, the trades, a matcher and a store of one day, kept in step.
 ghost use Rattle.std.specs.Prelude.{◌≡◌, ◌+◌, ◌<◌, ◌≤◌, ◌∷◌, [], true, is_none, length, None, Some, MatchResult};
 
-use crate::asking::{enter, request_of, resize, take_out};
+use crate::asking::{enter, resize, take_out, ticket_of};
 use crate::ledger::Ledger;
 use crate::step::Step;
 use crate::trading::Deal;
@@ -105,7 +105,7 @@ impl<M: Matcher, S: Store> Venue<M, S> {
         ensures { Enacts M.Did time (Open terms ask ∷ []) self.old self.new }
     {
         let number = self.ledger.table.len() + 1;
-        enter(&mut self.matcher, number, request_of(&terms, &ask));
+        enter(&mut self.matcher, number, ticket_of(&terms, &ask));
         self.ledger.open(terms, ask, time);
     }
 

@@ -30,12 +30,12 @@ pub enum Next {
 
 // As many bytes as the longest message has, or fewer: in a contract, the list of them.
 #[derive(Drop)]
-struct Held {
+struct Front {
     bytes: [u8; MESSAGE_BYTES],
     len: usize,
 }
 
-impl Model for Held {
+impl Model for Front {
     ghost use Rattle.std.specs.Prelude.{ℕ, ◌≤◌, List, take};
 
     ghost Value = { List ℕ };
@@ -65,11 +65,11 @@ fn begun(channel: Channel, head: &[u8]) -> Result<usize, Fault>
     Ok(kind.total())
 }
 
-impl Held {
-    fn new() -> Held
+impl Front {
+    fn new() -> Front
         ensures { result ≡ [] }
     {
-        Held {
+        Front {
             bytes: [0; MESSAGE_BYTES],
             len: 0,
         }
@@ -165,7 +165,7 @@ pub struct Splitter {
     channel: Channel,
     // where in the stream what is held begins
     at: u64,
-    held: Held,
+    held: Front,
     // it is a message that was handed out
     handed: bool,
 }
@@ -188,7 +188,7 @@ impl Splitter {
         Splitter {
             channel,
             at: 0,
-            held: Held::new(),
+            held: Front::new(),
             handed: false,
         }
     }

@@ -4,7 +4,7 @@ use Rattle.orders.proofs.Kept.{kept_at}
 use Rattle.changes.specs.declared.change.Change.TheVariants.{Fill}
 use Rattle.venue.specs.Ledger.{changed, ledger, next_report}
 use Rattle.venue.specs.Trading.{side_filled, side_told}
-use Rattle.orders.specs.declared.trade.Fill.{Fill as Side}
+use Rattle.orders.specs.declared.trade.Leg.{Leg}
 use Rattle.venue.proofs.ledger.Ledger.fill_side.Goals as goal
 
 pub change-report-requires-clause-there : goal.change-report-requires-clause-there
@@ -21,7 +21,7 @@ returns-clause-side g c =
     let e = (kept_at c.args.self.now.table n c.in-Some.order c.requires.recorded.numbered
     (sym (c.in-Some.ensures {u = tt}))).0 in
     let told = c.change-report.ensures.number ∙ ap (λ k. next_report is k l) e in
-    let told_of : _ → Side = λ r. record { order = n; report = r } in
+    let told_of : _ → Leg = λ r. record { order = n; report = r } in
     ap (λ r. Some (told_of r)) told ∙ sym (ap (λ s. side_told is s l) (c.in_ok-number.was {u = tt}))
 
 pub returns-clause-after : goal.returns-clause-after

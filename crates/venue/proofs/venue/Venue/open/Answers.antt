@@ -2,7 +2,7 @@ use Rattle.std.specs.Prelude.{◌≤◌, ◌<◌, ◌+◌, length, refl, vec_ite
 use Rattle.std.proofs.Common.{sym, ap, ◌∙◌, subst, arith}
 use Rattle.limits.specs.declared.TheConstants.{ORDERS}
 use Rattle.matching.specs.Meaning.{held_of, opened}
-use Rattle.matching.specs.declared.matcher.Terms.{Terms as Request}
+use Rattle.matching.specs.declared.matcher.Ticket.{Ticket}
 use Rattle.orders.specs.Tables.{open_count}
 use Rattle.venue.specs.Books.{Books, Over, Sound}
 use Rattle.venue.specs.Inside.{shown}
@@ -27,7 +27,7 @@ invariant_of-self g c =
     let rows = ap (λ (l : Ledger). open_count l.rows) c.open.ensures.after in
     let number = ap (λ k. k + 1) c.len-number.ensures.value in
     let market = c.enter.ensures.after
-    ∙ ap (λ (q : Request). opened b.market (c.len-number.result + 1) (held_of q)) c.request_of.ensures
+    ∙ ap (λ (q : Ticket). opened b.market (c.len-number.result + 1) (held_of q)) c.ticket_of.ensures
     ∙ ap (λ k. opened b.market k (record { instrument = s.instrument; quantity = a.quantity })) number in
     let made = same_books _ _ _ _ _ _ _ _ _ (ap vec_items c.open.ensures.same) c.open.ensures.after refl market in
     record {
