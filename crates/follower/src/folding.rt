@@ -3,7 +3,7 @@ ghost use Rattle.reports.specs.Known.{known};
 ghost use Rattle.queue.specs.Queues.{elements};
 ghost use Rattle.follower.specs.Folding.{reached, caught_one, caught_at, caught_up, CatchesUp};
 
-use crate::heard::Held;
+use crate::heard::NumberedReport;
 use crate::number::Number;
 use codes::session::Partition;
 use queue::Queue;

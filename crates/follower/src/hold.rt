@@ -3,7 +3,7 @@ ghost use Rattle.std.specs.Prelude.{◌≡◌, [], ◌∷◌, ◌++◌, length, 
 ghost use Rattle.follower.specs.declared.hold.TheConstants.{HOLD};
 
 use crate::folding::fold_all;
-use crate::heard::Held;
+use crate::heard::NumberedReport;
 use crate::number::Number;
 use codes::session::Partition;
 use queue::{Marks, Queue};
