@@ -1,6 +1,6 @@
 use Rattle.std.proofs.Common.{arith}
 use Rattle.wire.proofs.Fronts.{end_short, end_broken, end_more}
-use Rattle.wire.proofs.stream.Held.end_fault.Goals as goal
+use Rattle.wire.proofs.stream.Front.end_fault.Goals as goal
 
 pub returns-then-len-lt4 : goal.returns-then-len-lt4
 returns-then-len-lt4 c = end_short c.args.channel c.args.self.now (omega arith)

@@ -1,6 +1,6 @@
 use Rattle.std.proofs.Common.{◌≡◌, ◌-◌, length, Some, Ok, ap, refl, arith}
 use Rattle.wire.proofs.Fronts.{short_held, broken_held, more_held, whole_held}
-use Rattle.wire.proofs.stream.Held.advance.Goals as goal
+use Rattle.wire.proofs.stream.Front.advance.Goals as goal
 
 pub returns-then-len-lt4-clause-held : goal.returns-then-len-lt4-clause-held
 returns-then-len-lt4-clause-held c =
