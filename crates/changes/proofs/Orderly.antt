@@ -1,14 +1,14 @@
 -- An order's figures, and that each change leaves them in agreement. Assumes nothing.
 use Rattle.std.proofs.Common.{zero, suc, ◌≡◌, ℕ, ◌+◌, ◌<◌, ◌≤◌, Bool, true, false, cond, not, ◌&&◌, ◌||◌, Some, None, Option, refl, arith}
 use Rattle.std.specs.Prelude.{is_none, nat_le, nat_lt, nat_eq}
-use Rattle.std.proofs.lemmas.Bool.{and_parts, and_from, eqb-true, eq-eqb, ne_eqb, leb-true, le-leb}
+use Rattle.std.proofs.lemmas.Bool.{and_parts, and_from, eqb-true, eq-eqb, ne_eqb, leb-true, le-leb, ltb-true}
 use Rattle.std.proofs.lemmas.Grind.{common_steps}
 use Rattle.limits.specs.declared.TheConstants.{SHARES}
 use Rattle.orders.specs.declared.row.Row.{Row}
 use Rattle.orders.specs.declared.row.Ending.{Ending}
-use Rattle.orders.specs.declared.order.ReplaceRefusal.{ReplaceRefusal}
-use Rattle.orders.specs.Rows.{balanced, untouched, orderly, orderable}
+use Rattle.orders.specs.Rows.{balanced, untouched, orderly, orderable, is_open}
 use Rattle.orders.specs.Orders.{replace_fault}
+use Rattle.refusals.specs.declared.Refusal.{Refusal}
 use Rattle.changes.specs.Changes.{where_allowed}
 
 -- a change that gave a row was allowed, and gave just that row
@@ -48,19 +48,19 @@ orderly_from r f =
     and_from (balanced r) (nat_le r.ordered SHARES && untouched r) (eq-eqb _ _ f.sum)
     (and_from (nat_le r.ordered SHARES) (untouched r) (le-leb _ _ f.limit) (rest r.leaves r.withdrawn r.ending f.whole))
 
-refused : (x y z : Bool) (i j k : ReplaceRefusal)
-    → is_none (cond x (Some i) (cond (not y) (Some j) (cond z (Some k) None))) ≡ true → (x ≡ false) × (y ≡ true)
+refused : (x y z : Bool) (i j k : Refusal)
+    → is_none (cond (not x) (Some i) (cond (not y) (Some j) (cond z (Some k) None))) ≡ true → (x ≡ true) × (y ≡ true)
     × (z ≡ false)
-refused true y z i j k h = absurd (cc)
-refused false false z i j k h = absurd (cc)
-refused false true true i j k h = absurd (cc)
-refused false true false i j k h = (refl, refl, refl)
+refused false y z i j k h = absurd (cc)
+refused true false z i j k h = absurd (cc)
+refused true true true i j k h = absurd (cc)
+refused true true false i j k h = (refl, refl, refl)
 
 -- a quantity that an order can be replaced by
 pub replaceable : (q : ℕ) (r : Row) → is_none (replace_fault q r) ≡ true → (0 < r.leaves) × (r.executed < q)
     × (q ≤ SHARES)
 replaceable q r h =
-    let p = refused (nat_eq r.leaves 0) (orderable q) (nat_le q r.executed) _ _ _ h in
-    let l = p.0 in
+    let p = refused (is_open r) (orderable q) (nat_le q r.executed) _ _ _ h in
+    let l = ltb-true 0 r.leaves p.0 in
     let o = leb-true q SHARES (and_parts (nat_lt 0 q) (nat_le q SHARES) p.1).1 in
-    (grind (arith, common_steps), grind (arith, common_steps), o)
+    (l, grind (arith, common_steps), o)

@@ -1,5 +1,5 @@
 // The five changes of an order.
-ghost use Rattle.std.specs.Prelude.{◌≡◌, MatchOption, Some, None};
+ghost use Rattle.std.specs.Prelude.{◌≡◌};
 ghost use Rattle.changes.specs.Telling.{ending_told, told_as};
 
 use codes::report::{Liquidity, TradeType};
@@ -52,10 +52,9 @@ pub struct Heading {
     pub time: Time,
 }
 
-/// A change that was made: the order after it, and the reports that tell it, in their order.
+/// The reports that tell a change, in their order.
 #[derive(Clone, Copy)]
-pub struct Made {
-    pub order: Order,
+pub struct Reports {
     pub report: ExecutionReport,
     /// An undone fill is told twice: as undone, and as the order now stands.
     pub restated: Option<ExecutionReport>,
@@ -164,19 +163,15 @@ impl Change {
         }
     }
 
-    /// Makes the change, and says how it is told; none, and nothing made, where it may not be made.
-    pub fn make(&self, number: u64, order: Option<Order>, told: Heading) -> Option<Made>
-        ensures { MatchOption result
-            (after number self.now order ≡ None)
-            (λ m. (after number self.now order ≡ Some m.order)
-            × (m.report ≡ report_of told self.now m.order)
-            × (m.restated ≡ restated_of told self.now m.order)) }
+    /// How the change is told, by the order after it.
+    pub fn reports(&self, told: Heading, order: Order) -> Reports
+        requires { shares_of self.now ≤ SHARES }
+        ensures report { result.report ≡ report_of told self.now order }
+        ensures restated { result.restated ≡ restated_of told self.now order }
     {
-        let order = self.after(number, order)?;
-        Some(Made {
-            order,
+        Reports {
             report: self.report(told, order),
             restated: self.restated(told, order),
-        })
+        }
     }
 }

@@ -5,9 +5,9 @@ use Rattle.orders.specs.declared.row.Row.{Row}
 use Rattle.orders.specs.declared.row.Terms.{Terms}
 use Rattle.orders.specs.declared.row.Ask.{Ask}
 use Rattle.orders.specs.declared.row.Ending.TheVariants.{Cancelled, Expired}
-use Rattle.orders.specs.declared.order.ReplaceRefusal.TheVariants.{NotAboveExecuted}
 use Rattle.orders.specs.Rows.{accepted, replaced, ended, filled, undone, status_of}
 use Rattle.orders.specs.Orders.{replace_fault}
+use Rattle.refusals.specs.declared.Refusal.TheVariants.{NotAboveExecuted}
 
 -- the same request for another quantity
 abbrev pub for : ℕ → Ask → Ask

@@ -1,9 +1,9 @@
 -- What a change of an order answers. Assumes nothing.
-use Rattle.std.specs.Prelude.{◌≡◌, ℕ, Bool, true, false, not, ◌&&◌, Some, None, Ok, Err, Option, Result, ◌==◌, nat_le, nat_lt, if◌then◌else◌}
+use Rattle.std.specs.Prelude.{◌≡◌, ℕ, Bool, true, false, not, ◌&&◌, Some, None, Ok, Err, Option, Result, nat_le, nat_lt, if◌then◌else◌}
 use Rattle.orders.specs.declared.row.Row.{Row}
-use Rattle.orders.specs.declared.order.ReplaceRefusal.{ReplaceRefusal}
-use Rattle.orders.specs.declared.order.ReplaceRefusal.TheVariants.{NotOpen, BadQuantity, NotAboveExecuted}
-use Rattle.orders.specs.Rows.{orderable}
+use Rattle.orders.specs.Rows.{is_open, orderable}
+use Rattle.refusals.specs.declared.Refusal.{Refusal}
+use Rattle.refusals.specs.declared.Refusal.TheVariants.{NotOpen, BadTerms, NotAboveExecuted}
 
 -- a change that is made exactly where it is allowed, and what it then makes of the row
 abbrev pub Makes : Bool → Row → Option Row → Type 0
@@ -18,18 +18,12 @@ abbrev pub undoable : ℕ → Row → Bool
 undoable q r = nat_lt 0 q && nat_le q r.executed
 
 -- why a replacement quantity is refused, tried in this order
-abbrev pub replace_fault : ℕ → Row → Option ReplaceRefusal
+abbrev pub replace_fault : ℕ → Row → Option Refusal
 replace_fault q r =
-    if r.leaves == 0 then Some NotOpen
-    else if not (orderable q) then Some BadQuantity
+    if not (is_open r) then Some NotOpen
+    else if not (orderable q) then Some BadTerms
     else if nat_le q r.executed then Some NotAboveExecuted else None
 
--- the number of each refusal
-abbrev pub replace_number : ReplaceRefusal → ℕ
-replace_number NotOpen = 26
-replace_number BadQuantity = 22
-replace_number NotAboveExecuted = 27
-
-abbrev pub Replaces : Option ReplaceRefusal → Row → Result Row ReplaceRefusal → Type 0
+abbrev pub Replaces : Option Refusal → Row → Result Row Refusal → Type 0
 Replaces fault after (Ok r) = (fault ≡ None) × (r ≡ after)
 Replaces fault after (Err e) = fault ≡ Some e

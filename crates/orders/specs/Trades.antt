@@ -20,11 +20,6 @@ abbrev pub void_fault : Option Trade → Option TradeRefusal
 void_fault None = Some Unknown
 void_fault (Some t) = if t.cancelled then Some DoneBefore else None
 
--- the number of each refusal
-abbrev pub trade_number : TradeRefusal → ℕ
-trade_number Unknown = 42
-trade_number DoneBefore = 43
-
 -- the trade as it was is answered, and its row alone is marked
 abbrev pub Voids : List Trade → ℕ → Result Trade TradeRefusal → List Trade → Type 0
 Voids ts n (Ok t) ts' = (void_fault (under ts n) ≡ None) × (under ts n ≡ Some t) × (ts' ≡ put_under ts n (void t))

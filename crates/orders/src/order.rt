@@ -1,31 +1,13 @@
 // An order whose figures agree, its five changes and its status.
-ghost use Rattle.std.specs.Prelude.{◌≡◌, ◌+◌, ◌≤◌, true, IfSome, IfOk, nat_lt};
-ghost use Rattle.orders.specs.Rows.{balanced, untouched, orderly, orderable, accepted, replaced, ended, filled, undone, status_of};
+ghost use Rattle.std.specs.Prelude.{◌≡◌, ◌+◌, ◌≤◌, true, IfSome, IfOk};
+ghost use Rattle.orders.specs.Rows.{balanced, untouched, orderly, orderable, is_open, accepted, replaced, ended, filled, undone, status_of};
 ghost use Rattle.orders.specs.declared.row.Row.{Row as Figures};
 
 use crate::row::{Ask, Ending, Row, Terms};
 use codes::report::Status;
 use limits::SHARES;
+use refusals::Refusal;
 use std::marker::Model;
-
-/// Why an order is not replaced, with the number of each reason.
-#[derive(Clone, Copy, Debug, PartialEq)]
-pub enum ReplaceRefusal {
-    NotOpen = 26,
-    BadQuantity = 22,
-    NotAboveExecuted = 27,
-}
-
-impl ReplaceRefusal {
-    ghost use Rattle.orders.specs.Orders.{replace_number};
-
-    /// The number of the reason.
-    pub fn number(self) -> u8
-        ensures { result ≡ replace_number self }
-    {
-        self as u8
-    }
-}
 
 /// A row whose figures agree: in a contract it is that row.
 #[derive(Clone, Copy)]
@@ -43,7 +25,8 @@ impl Model for Order {
     ghost inverse = { λ r. record { row = r } };
 }
 
-fn is_orderable(quantity: u32) -> bool
+/// Whether so many shares can be ordered: 1 to 1,000,000,000.
+pub fn is_orderable(quantity: u32) -> bool
     ensures { result ≡ orderable quantity }
 {
     quantity > 0 && quantity <= SHARES
@@ -110,7 +93,7 @@ impl Order {
     /// The order with another quantity, price and client order id. Refused with 26 where it is not open, 22 where the
     /// quantity is 0 or above 1,000,000,000, and 27 where it is not above what is executed, tried in this order; the
     /// order is then as it was.
-    pub fn replace(self, ask: Ask) -> Result<Order, ReplaceRefusal>
+    pub fn replace(self, ask: Ask) -> Result<Order, Refusal>
         ensures answer { Replaces (replace_fault ask.quantity self) (replaced ask self) result }
         ensures figures { IfOk result (λ r. (r.ordered ≡ ask.quantity)
             × (r.leaves + self.executed ≡ ask.quantity)
@@ -118,14 +101,14 @@ impl Order {
             × (r.withdrawn ≡ 0)) }
     {
         let row = self.row;
-        if row.leaves == 0 {
-            return Err(ReplaceRefusal::NotOpen);
+        if !row.is_open() {
+            return Err(Refusal::NotOpen);
         }
         if !is_orderable(ask.quantity) {
-            return Err(ReplaceRefusal::BadQuantity);
+            return Err(Refusal::BadTerms);
         }
         if ask.quantity <= row.executed {
-            return Err(ReplaceRefusal::NotAboveExecuted);
+            return Err(Refusal::NotAboveExecuted);
         }
         let row = Row {
             client: ask.client,
@@ -140,14 +123,14 @@ impl Order {
 
     /// The order cancelled or expired, what was open withdrawn; none where nothing is open.
     pub fn withdraw(self, ending: Ending) -> Option<Order>
-        ensures answer { Makes (nat_lt 0 self.leaves) (ended ending self) result }
+        ensures answer { Makes (is_open self) (ended ending self) result }
         ensures figures { IfSome result (λ r. (r.leaves ≡ 0)
             × (r.withdrawn ≡ self.leaves)
             × (r.ordered ≡ self.ordered)
             × (r.executed ≡ self.executed)) }
     {
         let row = self.row;
-        if row.leaves == 0 {
+        if !row.is_open() {
             return None;
         }
         let row = Row {
@@ -205,8 +188,8 @@ impl Order {
         match row.ending {
             Some(Ending::Cancelled) => Status::Cancelled,
             Some(Ending::Expired) => Status::Expired,
-            None if row.leaves > 0 && row.executed > 0 => Status::PartiallyFilled,
-            None if row.leaves > 0 => Status::New,
+            None if row.is_open() && row.executed > 0 => Status::PartiallyFilled,
+            None if row.is_open() => Status::New,
             None if row.ordered == 0 => Status::Cancelled,
             None => Status::Filled,
         }

@@ -25,22 +25,13 @@ pub struct Trade {
     pub cancelled: bool,
 }
 
-/// Why a trade is not cancelled, with the number of each reason.
+/// Why a trade is not cancelled.
 #[derive(Clone, Copy, Debug, PartialEq)]
 pub enum TradeRefusal {
-    Unknown = 42,
-    DoneBefore = 43,
-}
-
-impl TradeRefusal {
-    ghost use Rattle.orders.specs.Trades.{trade_number};
-
-    /// The number of the reason.
-    pub fn number(self) -> u8
-        ensures { result ≡ trade_number self }
-    {
-        self as u8
-    }
+    /// There is no such trade.
+    Unknown,
+    /// It was cancelled before.
+    DoneBefore,
 }
 
 /// The trades of a day: in a contract, the list of them.
@@ -98,8 +89,8 @@ impl Trades {
         Some(self.trades.len() as u64)
     }
 
-    /// Marks a trade as cancelled, and answers it as it was. Refused with 42 where there is no such trade, and 43 where
-    /// it was cancelled before; then nothing changes.
+    /// Marks a trade as cancelled, and answers it as it was. Refused where there is no such trade, and where it was
+    /// cancelled before; then nothing changes.
     pub fn cancel(&mut self, number: u64) -> Result<Trade, TradeRefusal>
         ensures { Voids self.old number result self.new }
     {
