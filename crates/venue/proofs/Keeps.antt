@@ -22,9 +22,9 @@ use Rattle.orders.specs.declared.row.Row.{Row}
 use Rattle.orders.specs.declared.row.Ask.{Ask}
 use Rattle.orders.specs.declared.row.Terms.{Terms}
 use Rattle.orders.specs.declared.row.Ending.{Ending}
-use Rattle.orders.specs.Rows.{orderable, accepted, ended, replaced}
+use Rattle.orders.specs.Rows.{is_open, orderable, accepted, ended, replaced}
 use Rattle.orders.specs.Orders.{replace_fault}
-use Rattle.orders.specs.Tables.{is_open, open_count}
+use Rattle.orders.specs.Tables.{open_count}
 use Rattle.orders.proofs.Kept.{kept_at, kept_none}
 use Rattle.partitions.specs.PerPartition.{at}
 use Rattle.partitions.specs.Series.{grown}

@@ -16,13 +16,14 @@ use Rattle.orders.specs.Kept.{kept_from}
 use Rattle.orders.proofs.Kept.{kept_at, kept_push, kept_set}
 use Rattle.changes.specs.declared.change.Change.{Change}
 use Rattle.changes.specs.declared.change.Change.TheVariants.{Accept, Replace, Withdraw, Fill, Undo}
+use Rattle.changes.specs.declared.change.Heading.{Heading}
 use Rattle.changes.specs.Changes.{after}
 use Rattle.changes.specs.Telling.{report_of, restated_of}
 use Rattle.changes.specs.Laws.{and_also}
 use Rattle.reports.specs.declared.report.ExecutionReport.{ExecutionReport}
 use Rattle.changes.proofs.Orderly.{figures, orderly_from, allowed, replaceable}
 use Rattle.configuration.specs.declared.instrument.Instrument.{Instrument}
-use Rattle.venue.specs.Ledger.{Ledger, ledger, told_at, told_in, appended, entries_of, changed, rewritten}
+use Rattle.venue.specs.Ledger.{Ledger, ledger, report_count, told_at, told_in, appended, entries_of, changed, rewritten}
 use Rattle.venue.proofs.Recording.{Rewrites}
 
 -- ---- a list under numbers
@@ -180,3 +181,12 @@ change_told is t n c l l' b b' r i e f k at_n same at_i inside made told again r
     ∙ sym (ap (λ o. told_in t c r o l.kept) there) in
     ap (λ x. ledger x l'.kept) first ∙ ap (λ x. ledger (put_under l.rows n r) x) second
     ∙ sym (ap (λ x. rewritten is t n c (after n c x) l) (sym at_n) ∙ ap (λ x. rewritten is t n c x l) made)
+
+-- as many reports tell it as are counted
+pub told_count : (t : Heading) (c : Change) (r : Row) (e : ExecutionReport) (f : Option ExecutionReport)
+    → f ≡ restated_of t c r → length (and_also e f) ≡ report_count c
+told_count t (Accept s a) r e f h = ap (λ x. length (and_also e x)) h
+told_count t (Replace a) r e f h = ap (λ x. length (and_also e x)) h
+told_count t (Withdraw d i) r e f h = ap (λ x. length (and_also e x)) h
+told_count t (Fill g) r e f h = ap (λ x. length (and_also e x)) h
+told_count t (Undo u) r e f h = ap (λ x. length (and_also e x)) h

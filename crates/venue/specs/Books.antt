@@ -1,5 +1,5 @@
 -- The books of a venue, and what holds of them at all times. Assumes nothing.
-use Rattle.std.specs.Prelude.{◌≡◌, ℕ, ◌+◌, ◌≤◌, ◌<◌, List, [], length, Some, None, Option, ◌==◌, nat_lt, if◌then◌else◌}
+use Rattle.std.specs.Prelude.{◌≡◌, ℕ, ◌+◌, ◌≤◌, ◌<◌, List, [], length, Some, None, Option, ◌==◌, if◌then◌else◌}
 use Rattle.std.specs.List.{sum_by}
 use Rattle.std.specs.FinMap.{get}
 use Rattle.std.specs.Option.{option_map_or}
@@ -9,6 +9,7 @@ use Rattle.matching.specs.Meaning.{Meaning}
 use Rattle.orders.specs.declared.row.Row.{Row}
 use Rattle.orders.specs.declared.trade.Leg.{Leg}
 use Rattle.orders.specs.declared.trade.Trade.{Trade}
+use Rattle.orders.specs.Rows.{is_open}
 use Rattle.orders.specs.Tables.{open_count}
 use Rattle.store.specs.Kept.{Kept, empty}
 use Rattle.configuration.specs.declared.instrument.Instrument.{Instrument}
@@ -37,7 +38,7 @@ held_as r = record { instrument = r.terms.instrument; quantity = r.leaves }
 
 abbrev pub open_of : Option Row → Option Held
 open_of None = None
-open_of (Some r) = if nat_lt 0 r.leaves then Some (held_as r) else None
+open_of (Some r) = if is_open r then Some (held_as r) else None
 
 abbrev pub executed_of : Option Row → ℕ
 executed_of o = option_map_or (λ r. r.executed) o 0

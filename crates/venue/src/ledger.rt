@@ -11,7 +11,7 @@ ghost use Rattle.changes.specs.Laws.{and_also};
 ghost use Rattle.venue.specs.Ledger.{Recorded, Uses, appended, changed, entered, entries_of, expired, ledger, next_report, report_count};
 ghost use Rattle.venue.specs.Books.{open_of};
 
-use changes::change::{Change, Heading, Made};
+use changes::change::{Change, Heading, Reports};
 use codes::session::Partition;
 use configuration::instrument::Instrument;
 use orders::order::Order;
@@ -36,10 +36,7 @@ fn append<S: Store>(store: &mut S, partition: Partition, entry: Entry) -> u32
     ensures kept { S.kept store.new ≡ grown (S.kept store.old) partition entry }
     ensures free { Uses 1 (S.free store.old) (S.free store.new) }
 {
-    match store.append(partition, entry) {
-        Some(number) => number,
-        None => unreachable!(),
-    }
+    store.append(partition, entry).unwrap()
 }
 
 fn entry_of(owner: usize, report: ExecutionReport) -> Entry
@@ -52,17 +49,17 @@ fn entry_of(owner: usize, report: ExecutionReport) -> Entry
 }
 
 // Appends the reports of a change, and answers the first one's number.
-fn tell<S: Store>(store: &mut S, partition: Partition, owner: usize, made: &Made) -> u32
-    requires { length (and_also made.now.report made.now.restated) ≤ S.free store.old }
+fn tell<S: Store>(store: &mut S, partition: Partition, owner: usize, told: &Reports) -> u32
+    requires { length (and_also told.now.report told.now.restated) ≤ S.free store.old }
     ensures number { result ≡ length (at (S.kept store.old) partition) + 1 }
     ensures kept { S.kept store.new ≡ appended (S.kept store.old) partition
-        (entries_of owner (and_also made.now.report made.now.restated)) }
-    ensures free { Uses (length (and_also made.now.report made.now.restated)) (S.free store.old) (S.free store.new) }
+        (entries_of owner (and_also told.now.report told.now.restated)) }
+    ensures free { Uses (length (and_also told.now.report told.now.restated)) (S.free store.old) (S.free store.new) }
 {
-    match made.restated {
-        None => append(store, partition, entry_of(owner, made.report)),
+    match told.restated {
+        None => append(store, partition, entry_of(owner, told.report)),
         Some(restated) => {
-            let number = append(store, partition, entry_of(owner, made.report));
+            let number = append(store, partition, entry_of(owner, told.report));
             let _ = append(store, partition, entry_of(owner, restated));
             number
         }
@@ -70,6 +67,16 @@ fn tell<S: Store>(store: &mut S, partition: Partition, owner: usize, made: &Made
 }
 
 impl<S: Store> Ledger<S> {
+    // The order of a number that has one.
+    pub(crate) fn order(&self, number: u64) -> Order
+        requires there { is_some (under self.now.table number) ≡ true }
+        requires numbered { kept_from 1 self.now.table ≡ true }
+        ensures there { under self.now.table number ≡ Some result }
+        ensures number { result.number ≡ number }
+    {
+        self.table.order(number).unwrap()
+    }
+
     // Adds an order under the next number.
     pub(crate) fn open(&mut self, terms: Terms, ask: Ask, time: Time)
         requires orderable { orderable ask.quantity ≡ true }
@@ -82,19 +89,13 @@ impl<S: Store> Ledger<S> {
         ensures free { Uses 1 (S.free self.old.store) (S.free self.new.store) }
     {
         let instrument = self.instruments[terms.instrument];
-        let told = Heading {
+        let heading = Heading {
             symbol: instrument.symbol,
             time,
         };
-        let number = self.table.len() + 1;
-        let added = self.table.add(terms, ask);
-        let made = Change::Accept(terms, ask).make(number, None, told);
-        match (added, made) {
-            (Ok(_), Some(made)) => {
-                let _ = tell(&mut self.store, instrument.partition, terms.owner, &made);
-            }
-            _ => unreachable!(),
-        }
+        let order = self.table.add(terms, ask).unwrap();
+        let told = Change::Accept(terms, ask).reports(heading, order);
+        tell(&mut self.store, instrument.partition, terms.owner, &told);
     }
 
     // Makes a change of an order that is there, and answers the number of the first report that tells it.
@@ -114,22 +115,19 @@ impl<S: Store> Ledger<S> {
     {
         let row = order.row();
         let instrument = self.instruments[row.terms.instrument];
-        let told = Heading {
+        let heading = Heading {
             symbol: instrument.symbol,
             time,
         };
-        match change.make(row.number, Some(order), told) {
-            None => unreachable!(),
-            Some(made) => {
-                self.table.write(made.order);
-                tell(
-                    &mut self.store,
-                    instrument.partition,
-                    row.terms.owner,
-                    &made,
-                )
-            }
-        }
+        let changed = change.after(row.number, Some(order)).unwrap();
+        self.table.write(changed);
+        let told = change.reports(heading, changed);
+        tell(
+            &mut self.store,
+            instrument.partition,
+            row.terms.owner,
+            &told,
+        )
     }
 
     // Ends an open order that its matcher has let go of, and tells its owner under the order's own client order id.
@@ -142,9 +140,7 @@ impl<S: Store> Ledger<S> {
         ensures same { self.new.instruments ≡ self.old.instruments }
         ensures free { Uses 1 (S.free self.old.store) (S.free self.new.store) }
     {
-        let Some(order) = self.table.order(number) else {
-            unreachable!()
-        };
+        let order = self.order(number);
         let expiry = Change::Withdraw(Ending::Expired, order.row().client);
         self.change(order, &expiry, time);
     }

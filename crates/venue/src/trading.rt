@@ -82,9 +82,7 @@ impl<S: Store> Ledger<S> {
         ensures free { Uses 1 (S.free self.old.store) (S.free self.new.store) }
     {
         let number = side?;
-        let Some(order) = self.table.order(number) else {
-            unreachable!()
-        };
+        let order = self.order(number);
         let report = self.change(order, &Change::Fill(fill), time);
         Some(Leg {
             order: number,
@@ -138,9 +136,7 @@ impl<S: Store> Ledger<S> {
         ensures free { Uses 2 (S.free self.old.store) (S.free self.new.store) }
     {
         if let Some(side) = side {
-            let Some(order) = self.table.order(side.order) else {
-                unreachable!()
-            };
+            let order = self.order(side.order);
             let instrument = self.instruments[order.row().terms.instrument];
             let partition = partition_number(instrument.partition);
             let sequence = side.report;

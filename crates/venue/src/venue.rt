@@ -51,7 +51,7 @@ impl<M: Matcher, S: Store> Venue<M, S> {
     ghost use Rattle.orders.specs.Rows.{orderable};
     ghost use Rattle.orders.specs.Orders.{replace_fault};
     ghost use Rattle.orders.specs.Trades.{void_fault};
-    ghost use Rattle.orders.specs.Tables.{latest, open_count};
+    ghost use Rattle.orders.specs.Tables.{is_full, latest, open_count, owned};
     ghost use Rattle.partitions.specs.PerPartition.{at};
     ghost use Rattle.store.specs.Kept.{empty};
     ghost use Rattle.texts.specs.Bytes.{said};
@@ -174,10 +174,8 @@ impl<M: Matcher, S: Store> Venue<M, S> {
         requires spare { open_count self.old.state.rows + 4 ≤ self.old.free }
         ensures { Enacts M.Did time (Void number ∷ []) self.old self.new }
     {
-        match self.trades.cancel(number) {
-            Err(_) => unreachable!(),
-            Ok(trade) => self.ledger.undo(trade, time),
-        }
+        let trade = self.trades.cancel(number).unwrap();
+        self.ledger.undo(trade, time);
     }
 
     /// What holds of every venue, for callers: they see the value alone.
@@ -203,11 +201,25 @@ impl<M: Matcher, S: Store> Venue<M, S> {
         self.ledger.table.len()
     }
 
+    /// Whether there are 256 orders.
+    pub fn is_full(&self) -> bool
+        ensures { result ≡ is_full self.now.state.rows }
+    {
+        self.ledger.table.is_full()
+    }
+
     /// The order of a number, if there is one.
     pub fn order(&self, number: u64) -> Option<Order>
         ensures { result ≡ under self.now.state.rows number }
     {
         self.ledger.table.order(number)
+    }
+
+    /// The order of a number, if it is the owner's.
+    pub fn own(&self, owner: usize, number: u64) -> Option<Order>
+        ensures { result ≡ owned owner (under self.now.state.rows number) }
+    {
+        self.ledger.table.own(owner, number)
     }
 
     /// The owner's highest-numbered order whose current client order id this is, if he has one.

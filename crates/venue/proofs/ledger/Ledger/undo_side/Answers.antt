@@ -1,6 +1,4 @@
 use Rattle.std.proofs.Common.{Some, get_or, sym, ap, ◌∙◌}
-use Rattle.keyed.specs.Numbers.{under}
-use Rattle.orders.proofs.Kept.{kept_at}
 use Rattle.std.specs.Prelude.{◌≡◌, slice_get}
 use Rattle.std.proofs.lemmas.Option.{slice_get-get_or}
 use Rattle.changes.specs.declared.change.Change.TheVariants.{Undo}
@@ -10,21 +8,14 @@ use Rattle.venue.specs.Ledger.{changed, ledger}
 use Rattle.venue.specs.Trading.{partition_in, partition_of, side_undone}
 use Rattle.venue.proofs.ledger.Ledger.undo_side.Goals as goal
 
-pub change-requires-clause-there : goal.change-requires-clause-there
-change-requires-clause-there g c =
-    let here = sym (c.in-Some-order.ensures {u = tt}) in
-    ap (under c.args.self.now.table) (kept_at c.args.self.now.table c.in-Some.side.order c.in-Some-order.order
-    c.requires.recorded.numbered here).0 ∙ here
-
-pub returns-in-Some-order-clause-after : goal.returns-in-Some-order-clause-after
-returns-in-Some-order-clause-after g c =
+pub returns-in-Some-clause-after : goal.returns-in-Some-clause-after
+returns-in-Some-clause-after g c =
     let is = c.args.self.now.instruments.items in
     let l = ledger c.args.self.now.table (g.S.Store.kept c.args.self.now.store) in
     let s = c.in-Some.side in
-    let r = c.in-Some-order.order in
+    let r = c.order-order.result in
     let i = c.index-instrument.result.now in
-    let here = sym (c.in-Some-order.ensures {u = tt}) in
-    let number = (kept_at c.args.self.now.table s.order r c.requires.recorded.numbered here).0 in
+    let here = c.order-order.ensures.there in
     let inside = c.requires.recorded.placed s.order r here in
     let listed : slice_get is r.terms.instrument ≡ Some i =
     slice_get-get_or is r.terms.instrument i inside
@@ -33,6 +24,7 @@ returns-in-Some-order-clause-after g c =
     ∙ sym (ap (partition_of is) here ∙ ap partition_in listed) in
     let undoing : _ → Undone = λ p. record { quantity = c.args.quantity; report = record { partition = p; sequence = s.report } } in
     c.change.ensures.after
-    ∙ ap (λ n. changed is c.args.time n (Undo (undoing c.partition_number-partition.result)) l) number
+    ∙ ap (λ n. changed is c.args.time n (Undo (undoing c.partition_number-partition.result)) l)
+    c.order-order.ensures.number
     ∙ ap (λ p. changed is c.args.time s.order (Undo (undoing p)) l) partition
     ∙ sym (ap (λ x. side_undone is c.args.time c.args.quantity x l) c.in-Some.is)
