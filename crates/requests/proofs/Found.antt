@@ -1,13 +1,9 @@
 -- The order that a request names stands under its number. Assumes nothing.
-use Rattle.std.specs.Prelude.{find, reverse, is_none, not}
-use Rattle.orders.specs.Orders.{replace_fault}
-use Rattle.orders.specs.Rows.{orderable}
-use Rattle.orders.specs.declared.order.ReplaceRefusal.TheVariants.{NotOpen, BadQuantity, NotAboveExecuted}
-use Rattle.orders.specs.declared.row.Ask.{Ask}
+use Rattle.std.specs.Prelude.{find, reverse}
 use Rattle.std.proofs.lemmas.List.{reverse-append}
 use Rattle.std.proofs.lemmas.List.Folds.{find-append}
 use Rattle.std.proofs.lemmas.Bool.{and_parts, eqb-true}
-use Rattle.std.proofs.Common.{◌≡◌, Bool, cond, false, ℕ, suc, ◌+◌, ◌<◌, true, ◌&&◌, eqb, leb, List, [], ◌∷◌, Some, None, Option, sym, ap, ◌∙◌, arith}
+use Rattle.std.proofs.Common.{◌≡◌, Bool, cond, false, ℕ, suc, ◌+◌, true, ◌&&◌, eqb, List, [], ◌∷◌, Some, None, Option, sym, ap, ◌∙◌, arith}
 use Rattle.std.specs.List.{slice_get}
 use Rattle.std.specs.Option.{option_or}
 use Rattle.keyed.proofs.Under.{none-some}
@@ -74,15 +70,3 @@ rows_found rs line None original r h e = under_number rs r (from_back (goes_by l
 pub named_there : (b : Books) (line : ℕ) (i : Option OrderId) (original : FixedText 20) (r : Row) → Sound b → Some r
     ≡ found line i original b.rows → under b.rows r.number ≡ Some r
 named_there b line i original r s e = rows_found b.rows line i original r s.recorded.numbered (sym e)
-
--- it may be replaced
-pub replaceable : (r : Row) (a : Ask) → 0 < r.leaves → orderable a.quantity ≡ true → r.executed < a.quantity
-    → is_none (replace_fault a.quantity r) ≡ true
-replaceable r a l o x =
-    let open_ : eqb r.leaves 0 ≡ false = Prim.grind arith in
-    let more : leb a.quantity r.executed ≡ false = Prim.grind arith in
-    ap (λ b. is_none (cond b (Some NotOpen) (cond (not (orderable a.quantity)) (Some BadQuantity)
-    (cond (leb a.quantity r.executed) (Some NotAboveExecuted) None)))) open_
-    ∙ ap (λ b. is_none (cond (not b) (Some BadQuantity)
-    (cond (leb a.quantity r.executed) (Some NotAboveExecuted) None))) o
-    ∙ ap (λ b. is_none (cond b (Some NotAboveExecuted) None)) more

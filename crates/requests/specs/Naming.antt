@@ -2,6 +2,7 @@
 use Rattle.std.specs.Prelude.{ℕ, Bool, ◌&&◌, List, Some, None, Ok, Err, Option, Result, ◌==◌, if◌then◌else◌}
 use Rattle.codes.specs.Order.{book_code, side_code}
 use Rattle.keyed.specs.Numbers.{under}
+use Rattle.orders.specs.Rows.{is_open}
 use Rattle.orders.specs.Tables.{latest, owned}
 use Rattle.orders.specs.declared.row.Row.{Row}
 use Rattle.requests.specs.declared.naming.Naming.{Naming}
@@ -28,7 +29,7 @@ if_agreeing n (Some r) = if agrees n r then Ok r else Err NoSuchOrder
 
 abbrev pub if_open : Result Row Refusal → Result Row Refusal
 if_open (Err e) = Err e
-if_open (Ok r) = if r.leaves == 0 then Err NotOpen else Ok r
+if_open (Ok r) = if is_open r then Ok r else Err NotOpen
 
 -- the order that is named, if it is there, agrees and is open
 abbrev pub named : Naming → List Row → Result Row Refusal

@@ -1,11 +1,11 @@
 -- What a New Order is decided to be. Assumes nothing.
-use Rattle.std.specs.Prelude.{ℕ, ◌&&◌, pos, [], ◌∷◌, length, Some, None, Ok, Err, Option, Result, nat_le, nat_lt, if◌then◌else◌}
+use Rattle.std.specs.Prelude.{ℕ, ◌&&◌, pos, [], ◌∷◌, Some, None, Ok, Err, Option, Result, nat_le, nat_lt, if◌then◌else◌}
 use Rattle.std.specs.FinMap.{len}
-use Rattle.limits.specs.declared.TheConstants.{ORDERS}
 use Rattle.std.specs.Option.{option_map_or, ok_or}
 use Rattle.codes.specs.declared.report.Status.TheVariants as status
 use Rattle.matching.specs.Meaning.{serves}
 use Rattle.order_messages.specs.declared.new_order.NewOrder.{NewOrder}
+use Rattle.orders.specs.Tables.{is_full}
 use Rattle.orders.specs.declared.row.Ask.{Ask}
 use Rattle.orders.specs.declared.row.Terms.{Terms}
 use Rattle.reports.specs.declared.report.Entry.{Entry}
@@ -52,9 +52,8 @@ placement_of m =
 -- why there is no room for it, tried in this order
 abbrev pub room_fault : Books → Option Refusal
 room_fault b =
-    if nat_lt (length b.rows) ORDERS
-    then (if nat_le b.market.capacity (len b.market.orders) then Some MatcherFull else None)
-    else Some OrdersFull
+    if is_full b.rows then Some OrdersFull
+    else if nat_le b.market.capacity (len b.market.orders) then Some MatcherFull else None
 
 -- what it asks for, where there is room
 abbrev pub with_room : Books → Result Placement Refusal → Result Placement Refusal

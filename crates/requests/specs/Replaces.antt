@@ -1,7 +1,8 @@
 -- What a Cancel/Replace Request is decided to be. Assumes nothing.
-use Rattle.std.specs.Prelude.{ℕ, ◌&&◌, [], ◌∷◌, Some, None, Ok, Err, Option, Result, nat_le, nat_lt, if◌then◌else◌}
-use Rattle.std.specs.Option.{option_map}
+use Rattle.std.specs.Prelude.{ℕ, ◌&&◌, [], ◌∷◌, Some, None, Ok, Err, Option, Result, nat_lt, if◌then◌else◌}
+use Rattle.std.specs.Option.{option_map, option_map_or}
 use Rattle.order_messages.specs.declared.order_cancel_replace_request.OrderCancelReplaceRequest.{OrderCancelReplaceRequest}
+use Rattle.orders.specs.Orders.{replace_fault}
 use Rattle.orders.specs.declared.row.Ask.{Ask}
 use Rattle.orders.specs.declared.row.Row.{Row}
 use Rattle.changes.specs.declared.change.Change.TheVariants.{Replace}
@@ -12,7 +13,7 @@ use Rattle.requests.specs.Deciding.{Decision, turned_if, with_listing}
 use Rattle.requests.specs.declared.listing.Listing.{Listing}
 use Rattle.requests.specs.declared.naming.Naming.{Naming}
 use Rattle.refusals.specs.declared.Refusal.{Refusal}
-use Rattle.refusals.specs.declared.Refusal.TheVariants.{BadTerms, NotAboveExecuted, TimeInForceDiffers}
+use Rattle.refusals.specs.declared.Refusal.TheVariants.{BadTerms, TimeInForceDiffers}
 use Rattle.refusals.specs.declared.Turned.TheVariants.{NoPlace}
 use Rattle.requests.specs.declared.replace.Replacement.{Replacement}
 use Rattle.terms.specs.Lifetime.{is_asked}
@@ -37,16 +38,15 @@ ask_of m r =
     then option_map (asks m) (shown m.quantity m.display_quantity)
     else None
 
--- more than was executed
-abbrev pub above : Row → Option Ask → Result Replacement Refusal
-above r None = Err BadTerms
-above r (Some a) =
-    if nat_le a.quantity r.executed then Err NotAboveExecuted else Ok (record { order = r; ask = a })
+-- where the order itself takes it
+abbrev pub taken : Row → Option Ask → Result Replacement Refusal
+taken r None = Err BadTerms
+taken r (Some a) = option_map_or Err (replace_fault a.quantity r) (Ok (record { order = r; ask = a }))
 
 abbrev pub of_row : OrderCancelReplaceRequest → Result Row Refusal → Result Replacement Refusal
 of_row m (Err e) = Err e
 of_row m (Ok r) =
-    if is_asked m.time_in_force r.terms.lifetime then above r (ask_of m r) else Err TimeInForceDiffers
+    if is_asked m.time_in_force r.terms.lifetime then taken r (ask_of m r) else Err TimeInForceDiffers
 
 abbrev pub named_by : ℕ → Listing → OrderCancelReplaceRequest → Naming
 named_by line l m = record {

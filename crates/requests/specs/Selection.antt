@@ -1,5 +1,5 @@
 -- Open orders that are withdrawn together: whose they are, where they stand, and why they end. Assumes nothing.
-use Rattle.std.specs.Prelude.{ℕ, Bool, true, false, not, ◌&&◌, ◌||◌, ◌==◌, List, [], ◌∷◌, filter, map, slice_get, nat_lt, Some, None, Option, if◌then◌else◌}
+use Rattle.std.specs.Prelude.{ℕ, Bool, true, false, not, ◌&&◌, ◌||◌, ◌==◌, List, [], ◌∷◌, filter, map, slice_get, Some, None, Option, if◌then◌else◌}
 use Rattle.std.specs.Option.{option_map_or}
 use Rattle.std.specs.Str.{bytes_eq}
 use Rattle.codes.specs.Order.{book_code}
@@ -10,6 +10,7 @@ use Rattle.configuration.specs.declared.instrument.Instrument.{Instrument as Lis
 use Rattle.configuration.specs.declared.participant.Participant.{Participant}
 use Rattle.changes.specs.declared.change.Change.TheVariants.{Withdraw}
 use Rattle.orders.specs.declared.row.Ending.TheVariants.{Cancelled, Expired}
+use Rattle.orders.specs.Rows.{is_open}
 use Rattle.orders.specs.declared.row.Row.{Row}
 use Rattle.requests.specs.declared.selection.Cause.{Cause}
 use Rattle.requests.specs.declared.selection.Cause.TheVariants.{Request, LineLost}
@@ -64,7 +65,7 @@ is_marked AsConfigured = true
 
 abbrev pub meant : (ℕ → Bool) → (Row → Bool) → Bool → Row → Bool
 meant owner within marked r =
-    nat_lt 0 r.leaves && (owner r.terms.owner && (within r && (not marked || is_marked r.terms.auto_cancel)))
+    is_open r && (owner r.terms.owner && (within r && (not marked || is_marked r.terms.auto_cancel)))
 
 abbrev pub picks : List Listed → Selection → Row → Bool
 picks is s r = meant (is_owner s.owners) (in_reach is s.reach) s.marked r

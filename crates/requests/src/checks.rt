@@ -4,7 +4,7 @@ ghost use Rattle.requests.specs.Checks.{shares, shown, is_plain, is_above_zero, 
 
 use codes::order::{OrderCapacity, OrderType, PassiveOnly};
 use codes::report::Capacity;
-use limits::SHARES;
+use orders::order::is_orderable;
 use terms::pricing::Pricing;
 use texts::values::Price;
 
@@ -12,7 +12,7 @@ fn shares(quantity: i32) -> Option<u32>
     ensures { result ≡ shares quantity }
 {
     let quantity = u32::try_from(quantity).ok()?;
-    if quantity < 1 || quantity > SHARES {
+    if !is_orderable(quantity) {
         return None;
     }
     Some(quantity)

@@ -1,7 +1,6 @@
 // The order that a request names.
 ghost use Rattle.std.specs.Prelude.{◌≡◌, ◌<◌, Some, IfOk};
 ghost use Rattle.keyed.specs.Numbers.{under};
-ghost use Rattle.orders.specs.Tables.{owned};
 ghost use Rattle.requests.specs.Naming.{found, agrees, named};
 
 use codes::code::Code;
@@ -28,23 +27,12 @@ pub struct Naming {
     pub book: Book,
 }
 
-// An order, where it is the line's.
-fn owned(line: usize, order: Option<Order>) -> Option<Order>
-    ensures { result ≡ owned line order }
-{
-    let order = order?;
-    if order.row().terms.owner != line {
-        return None;
-    }
-    Some(order)
-}
-
 impl Naming {
     fn found<M: Matcher, S: Store>(&self, venue: &Venue<M, S>) -> Option<Order>
         ensures { result ≡ found self.now.line self.now.order self.now.original venue.now.state.rows }
     {
         match self.order {
-            Some(id) => owned(self.line, venue.order(id.number)),
+            Some(id) => venue.own(self.line, id.number),
             None => venue.named(self.line, self.original),
         }
     }
@@ -70,7 +58,7 @@ impl Naming {
         if !self.agrees(&row) {
             return Err(Refusal::NoSuchOrder);
         }
-        if row.leaves == 0 {
+        if !row.is_open() {
             return Err(Refusal::NotOpen);
         }
         Ok(order)

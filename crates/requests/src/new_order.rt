@@ -9,7 +9,6 @@ ghost use Rattle.requests.specs.NewOrders.{judged, new_order, ordered, placement
 use crate::checks::{is_own, is_plain, is_priced, shown, told_capacity};
 use crate::listing::{Listing, look_up};
 use codes::report::Status;
-use limits::ORDERS;
 use matching::matcher::Matcher;
 use order_messages::new_order::NewOrder;
 use orders::row::{Ask, Terms};
@@ -112,7 +111,7 @@ fn reject<M: Matcher, S: Store>(
 fn check_room<M: Matcher, S: Store>(venue: &Venue<M, S>) -> Result<(), Refusal>
     ensures { result_err result ≡ room_fault venue.now.state }
 {
-    if venue.order_count() >= ORDERS as u64 {
+    if venue.is_full() {
         return Err(Refusal::OrdersFull);
     }
     let matcher = venue.matcher();

@@ -58,7 +58,6 @@ fn named_by(line: usize, listing: &Listing, m: &OrderCancelReplaceRequest<'_>) -
 }
 
 // The order and what it becomes, or why not.
-#[tactic(auto, using(crate::proofs::Found::replaceable))]
 fn judge<M: Matcher, S: Store>(
     venue: &Venue<M, S>,
     line: usize,
@@ -75,9 +74,7 @@ fn judge<M: Matcher, S: Store>(
         return Err(Refusal::TimeInForceDiffers);
     }
     let ask = ask_of(m, &row).ok_or(Refusal::BadTerms)?;
-    if ask.quantity <= row.executed {
-        return Err(Refusal::NotAboveExecuted);
-    }
+    order.replace(ask)?;
     Ok(Replacement { order, ask })
 }
 

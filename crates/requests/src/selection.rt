@@ -125,7 +125,7 @@ impl Selection<'_> {
     fn picks(&self, instruments: &[Instrument], row: &Row) -> bool
         ensures { result ≡ picks instruments.now self.now row.now }
     {
-        row.leaves > 0
+        row.is_open()
             && self.owners.has(row.terms.owner)
             && self.reach.has(instruments, row)
             && (!self.marked || is_marked(row.terms.auto_cancel))
