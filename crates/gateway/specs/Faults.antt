@@ -5,6 +5,8 @@ use Rattle.gateway.specs.declared.fault.GatewayFault.TheVariants.{ShortBuffer, N
 use Rattle.gateway.specs.declared.fault.SessionFault.{SessionFault}
 use Rattle.gateway.specs.declared.fault.SessionFault.TheVariants.{NotLoggedOn, Wire}
 use Rattle.layout.specs.Faults.{fault_number, fault_offset}
+use Rattle.refusals.specs.Numbers.{turned_number}
+use Rattle.refusals.specs.declared.Turned.TheVariants as turned
 
 abbrev pub session_number : SessionFault → ℕ
 session_number NotLoggedOn = 10
@@ -14,7 +16,7 @@ abbrev pub number : GatewayFault → ℕ
 number ShortBuffer = 6
 number NoSuchLine = 14
 number (Session f) = session_number f
-number NoPlace = 29
+number NoPlace = turned_number turned.NoPlace
 number TradesFull = 41
 number NoSuchTrade = 42
 number AlreadyCancelled = 43

@@ -3,6 +3,7 @@ ghost use Rattle.std.specs.Prelude.{◌≡◌};
 ghost use Rattle.gateway.specs.Faults.{number, offset, session_number, session_offset};
 
 use layout::fault::Fault;
+use refusals::Turned;
 use thiserror::Error;
 
 /// Why a line is not served.
@@ -88,7 +89,7 @@ impl GatewayFault {
             GatewayFault::ShortBuffer => 6,
             GatewayFault::NoSuchLine => 14,
             GatewayFault::Session(fault) => fault.number(),
-            GatewayFault::NoPlace => 29,
+            GatewayFault::NoPlace => Turned::NoPlace.number(),
             GatewayFault::TradesFull => 41,
             GatewayFault::NoSuchTrade => 42,
             GatewayFault::AlreadyCancelled => 43,
