@@ -1,5 +1,5 @@
 -- What a call on a line decides to do: which acts, of whose orders and reports. Assumes nothing.
-use Rattle.std.specs.Prelude.{find, reverse, filter, map, slice_get, nat_le, nat_lt, not}
+use Rattle.std.specs.Prelude.{find, reverse, filter, map, slice_get, nat_lt, not}
 use Rattle.std.specs.List.{AllByRecursion}
 use Rattle.std.specs.Option.{option_map, option_map_or, ok_or}
 use Rattle.std.specs.Ordering.{int_eq}
@@ -29,7 +29,8 @@ use Rattle.order_messages.specs.declared.order_mass_cancel_request.OrderMassCanc
 use Rattle.order_messages.specs.declared.order_mass_cancel_request.Scope.{Scope}
 use Rattle.order_messages.specs.declared.order_mass_cancel_request.Scope.TheVariants.{FirmInstrument, FirmSegment, CompId, Firm, CompIdInstrument, CompIdSegment}
 use Rattle.orders.proofs.Kept.{kept_at}
-use Rattle.orders.specs.Rows.{orderable}
+use Rattle.orders.specs.Orders.{replace_fault}
+use Rattle.orders.specs.Rows.{is_open, orderable}
 use Rattle.orders.specs.Tables.{goes_by, owned}
 use Rattle.orders.specs.declared.row.Ask.{Ask}
 use Rattle.orders.specs.declared.row.Ending.{Ending}
@@ -129,15 +130,15 @@ new_or_bad m None p e h = absurd (cc)
 new_or_bad m (Some b) p e h =
     let is : b ≡ p = cc in subst (λ (q : Placement). Asks m.quantity q.ask) is (new_if m _ b e)
 
-roomed : (o : Option Refusal) (p q : Placement) → ◌≡◌ {A = Result Placement Refusal} (option_map_or Err o (Ok p)) (Ok q)
-    → ◌≡◌ {A = Result Placement Refusal} (Ok p) (Ok q)
-roomed None p q h = h
-roomed (Some e) p q h = absurd (cc)
+unrefused : {A : Type 0} (o : Option Refusal) (p q : A)
+    → ◌≡◌ {A = Result A Refusal} (option_map_or Err o (Ok p)) (Ok q) → ◌≡◌ {A = Result A Refusal} (Ok p) (Ok q)
+unrefused None p q h = h
+unrefused (Some e) p q h = absurd (cc)
 
 with_room_asks : (m : NewOrder) (b : Books) (r : Result Placement Refusal) (p : Placement)
     → ok_or (new.placement_of m) BadTerms ≡ r → new.with_room b r ≡ Ok p → Asks m.quantity p.ask
 with_room_asks m b (Err e) p k h = absurd (cc)
-with_room_asks m b (Ok q) p k h = new_or_bad m (new.placement_of m) p refl (k ∙ roomed (new.room_fault b) q p h)
+with_room_asks m b (Ok q) p k h = new_or_bad m (new.placement_of m) p refl (k ∙ unrefused (new.room_fault b) q p h)
 
 new_judged : (m : NewOrder) (b : Books) (served : Bool) (p : Placement)
     → cond served (new.with_room b (ok_or (new.placement_of m) BadTerms)) (Err BookNotServed) ≡ Ok p
@@ -162,21 +163,18 @@ again_if m false a h = none-some a h
 abbrev Of : OrderCancelReplaceRequest → Row → Replacement → Type 0
 Of m b r = (m.quantity ≡ pos r.ask.quantity) × (b ≡ r.order)
 
-more : (m : OrderCancelReplaceRequest) (c : Bool) (b : Row) (a : Ask) (e : Refusal) (r : Replacement)
-    → Asks m.quantity a → cond c (Err e) (Ok (record { order = b; ask = a })) ≡ Ok r → Of m b r
-more m true b a e r f h = absurd (cc)
-more m false b a e r f h =
+taken_of : (m : OrderCancelReplaceRequest) (b : Row) (o : Option Ask) (r : Replacement) → replaces.ask_of m b ≡ o
+    → replaces.taken b o ≡ Ok r → Of m b r
+taken_of m b None r e h = absurd (cc)
+taken_of m b (Some a) r e h =
+    let made : Replacement = record { order = b; ask = a } in
+    let same = unrefused (replace_fault a.quantity b) made r h in
     let is : a ≡ r.ask = cc in let whose : b ≡ r.order = cc in
-    (f.1 ∙ ap (λ (x : Ask). pos x.quantity) is, whose)
-
-above_of : (m : OrderCancelReplaceRequest) (b : Row) (o : Option Ask) (r : Replacement) → replaces.ask_of m b ≡ o
-    → replaces.above b o ≡ Ok r → Of m b r
-above_of m b None r e h = absurd (cc)
-above_of m b (Some a) r e h = more m (nat_le a.quantity b.executed) b a _ r (again_if m _ a e) h
+    ((again_if m _ a e).1 ∙ ap (λ (x : Ask). pos x.quantity) is, whose)
 
 timed : (m : OrderCancelReplaceRequest) (b : Row) (c : Bool) (e : Refusal) (r : Replacement)
-    → cond c (replaces.above b (replaces.ask_of m b)) (Err e) ≡ Ok r → Of m b r
-timed m b true e r h = above_of m b (replaces.ask_of m b) r refl h
+    → cond c (replaces.taken b (replaces.ask_of m b)) (Err e) ≡ Ok r → Of m b r
+timed m b true e r h = taken_of m b (replaces.ask_of m b) r refl h
 timed m b false e r h = absurd (cc)
 
 of_row : (m : OrderCancelReplaceRequest) (x : Result Row Refusal) (r : Replacement) → replaces.of_row m x ≡ Ok r
@@ -213,11 +211,11 @@ found_own line None original rows r e =
 
 opened : (x : Result Row Refusal) (r : Row) → if_open x ≡ Ok r → x ≡ Ok r
 opened (Err e) r h = absurd (cc)
-opened (Ok y) r h = here (eqb y.leaves 0) h
+opened (Ok y) r h = here (is_open y) h
   where
-    here : (b : Bool) → cond b (Err NotOpen) (Ok y) ≡ Ok r → ◌≡◌ {A = Result Row Refusal} (Ok y) (Ok r)
-    here true k = absurd (cc)
-    here false k = k
+    here : (b : Bool) → cond b (Ok y) (Err NotOpen) ≡ Ok r → ◌≡◌ {A = Result Row Refusal} (Ok y) (Ok r)
+    here true k = k
+    here false k = absurd (cc)
 
 agreed : (n : Naming) (o : Option Row) (r : Row) → if_agreeing n o ≡ Ok r → o ≡ Some r
 agreed n None r h = absurd (cc)

@@ -1,6 +1,6 @@
 -- What a change makes of an order, the book follows. Assumes nothing.
 use Rattle.std.specs.Prelude.{is_none, nat_lt, not, ◌||◌}
-use Rattle.std.proofs.Common.{◌≡◌, ℕ, zero, suc, ◌+◌, ◌-◌, ◌<◌, ◌≤◌, Bool, true, false, cond, eqb, leb, ◌⊎◌, inl, inr, List, [], ◌∷◌, length, Some, None, Option, refl, sym, ap, ◌∙◌, subst, arith}
+use Rattle.std.proofs.Common.{◌≡◌, ℕ, zero, suc, ◌+◌, ◌-◌, ◌<◌, ◌≤◌, Bool, true, false, cond, leb, ◌⊎◌, inl, inr, List, [], ◌∷◌, length, Some, None, Option, refl, sym, ap, ◌∙◌, subst, arith}
 use Rattle.std.proofs.lemmas.Bool.{and_parts, both_ways, cases_eq, cond-false, cond-true, lt-ltb, ltb-true}
 use Rattle.std.proofs.lemmas.Int.{ints}
 use Rattle.std.specs.Option.{option_map}
@@ -19,15 +19,14 @@ use Rattle.lit_book.specs.Rules.{Lit, altered, amended, entered, left_of, order_
 use Rattle.lit_book.specs.declared.order.Order.{Order}
 use Rattle.lit_day.proofs.Finding.{OnceIn, altered_none, altered_other, altered_some, entered_here, entered_other}
 use Rattle.lit_day.specs.Trading.{Mirrors, as_order, open_order}
-use Rattle.orders.specs.Orders.{fillable, undoable}
+use Rattle.orders.specs.Orders.{fillable, replace_fault, undoable}
 use Rattle.orders.specs.Rows.{accepted, ended, filled, orderable, replaced, undone}
-use Rattle.orders.specs.declared.order.ReplaceRefusal.{ReplaceRefusal}
-use Rattle.orders.specs.declared.order.ReplaceRefusal.TheVariants.{NotOpen, BadQuantity, NotAboveExecuted}
 use Rattle.orders.specs.declared.row.Ask.{Ask}
 use Rattle.orders.specs.declared.row.Ending.{Ending}
 use Rattle.orders.specs.declared.row.Row.{Row}
 use Rattle.orders.specs.declared.row.Terms.{Terms}
-use Rattle.requests.proofs.Found.{replaceable}
+use Rattle.refusals.specs.declared.Refusal.{Refusal}
+use Rattle.refusals.specs.declared.Refusal.TheVariants.{NotOpen, BadTerms, NotAboveExecuted}
 use Rattle.terms.specs.Pricing.{pricing_of}
 use Rattle.terms.specs.declared.pricing.Pricing.{Pricing}
 use Rattle.terms.specs.declared.pricing.Pricing.TheVariants.{Limit}
@@ -258,6 +257,16 @@ again n a r b u e = go (goes_back (as_order n r) (a.quantity - r.executed) a.pri
       others = λ m ne. altered_other b n m (Some (a.quantity - r.executed)) ne;
     }
 
+replaceable : (r : Row) (a : Ask) → 0 < r.leaves → orderable a.quantity ≡ true → r.executed < a.quantity
+    → is_none (replace_fault a.quantity r) ≡ true
+replaceable r a l o x =
+    let more : leb a.quantity r.executed ≡ false = Prim.grind arith in
+    ap (λ b. is_none (cond (not b) (Some NotOpen) (cond (not (orderable a.quantity)) (Some BadTerms)
+    (cond (leb a.quantity r.executed) (Some NotAboveExecuted) None)))) (lt-ltb 0 r.leaves l)
+    ∙ ap (λ b. is_none (cond (not b) (Some BadTerms)
+    (cond (leb a.quantity r.executed) (Some NotAboveExecuted) None))) o
+    ∙ ap (λ b. is_none (cond b (Some NotAboveExecuted) None)) more
+
 replaced_now : (n : ℕ) (a : Ask) (r : Row) → 0 < r.leaves → orderable a.quantity ≡ true → 0 < a.quantity - r.executed
     → open_order n (made (Some r) (after n (Replace a) (Some r))) ≡ Some (as_order n (replaced a r))
 replaced_now n a r some may more =
@@ -268,11 +277,10 @@ replaced_now n a r some may more =
 unreplaced_now : (n : ℕ) (a : Ask) (r : Row) → nat_lt 0 r.leaves ≡ false
     → open_order n (made (Some r) (after n (Replace a) (Some r))) ≡ None
 unreplaced_now n a r h =
-    let none : eqb r.leaves 0 ≡ true = Prim.grind arith in
-    let later : Option ReplaceRefusal =
-    cond (not (orderable a.quantity)) (Some BadQuantity) (cond (leb a.quantity r.executed) (Some NotAboveExecuted) None) in
+    let later : Option Refusal =
+    cond (not (orderable a.quantity)) (Some BadTerms) (cond (leb a.quantity r.executed) (Some NotAboveExecuted) None) in
     ap (λ (b : Bool). open_order n (made (Some r)
-    (where_allowed (is_none (cond b (Some NotOpen) later)) (replaced a r)))) none
+    (where_allowed (is_none (cond (not b) (Some NotOpen) later)) (replaced a r)))) h
     ∙ cond-false (nat_lt 0 r.leaves) _ _ h
 
 pub replaces : (is : List Instrument) (t : Time) (n : ℕ) (a : Ask) (l : Ledger) (b b' : Lit)

@@ -1,9 +1,8 @@
 -- The acts of a line: each new quantity is one that can be ordered, and none fills an order. Assumes nothing.
-use Rattle.std.specs.Prelude.{nat_le, nat_lt}
+use Rattle.std.specs.Prelude.{nat_le, nat_lt, not}
 use Rattle.std.specs.List.{AllByRecursion}
-use Rattle.std.specs.Option.{option_map}
-use Rattle.std.specs.Ordering.{int_eq}
-use Rattle.std.proofs.Common.{◌≡◌, ℕ, ℤ, pos, negsuc, Bool, true, false, cond, List, [], ◌∷◌, Some, None, Option, Ok, Err, Result, refl, sym, ap, ◌∙◌, subst}
+use Rattle.std.specs.Option.{option_map_or}
+use Rattle.std.proofs.Common.{◌≡◌, ℕ, Bool, true, false, cond, List, [], ◌∷◌, Some, None, Option, Ok, Err, Result, refl, subst}
 use Rattle.changes.specs.declared.change.Change.{Change}
 use Rattle.changes.specs.declared.change.Change.TheVariants.{Accept, Replace, Withdraw, Fill, Undo}
 use Rattle.gateway.specs.Doing.{Outcome}
@@ -11,18 +10,18 @@ use Rattle.gateway.specs.Hearing.{answered, outcome_of, rejection, requested_as}
 use Rattle.gateway.specs.Lines.{ends_of}
 use Rattle.gateway.specs.State.{State, session}
 use Rattle.answers.specs.declared.answer.Reason.TheVariants as reason
-use Rattle.keyed.proofs.Under.{none-some}
 use Rattle.line.proofs.Fitting.{Fits, ends_fit, outcome_fits}
 use Rattle.line.specs.Conservation.{MayBy, MayLose}
 use Rattle.lit_day.proofs.Acting.{MayAlter, MayDo}
 use Rattle.order_messages.specs.declared.order_cancel_replace_request.OrderCancelReplaceRequest.{OrderCancelReplaceRequest}
-use Rattle.orders.specs.Rows.{orderable}
+use Rattle.orders.specs.Orders.{replace_fault}
+use Rattle.orders.specs.Rows.{is_open, orderable}
 use Rattle.orders.specs.declared.row.Ask.{Ask}
 use Rattle.orders.specs.declared.row.Row.{Row}
 use Rattle.refusals.specs.declared.Refusal.{Refusal}
+use Rattle.refusals.specs.declared.Refusal.TheVariants.{NotOpen, BadTerms, NotAboveExecuted}
 use Rattle.refusals.specs.declared.Turned.{Turned}
 use Rattle.refusals.specs.declared.Turned.TheVariants.{NoPlace}
-use Rattle.requests.specs.Checks.{shares, shown}
 use Rattle.requests.specs.Deciding.{Decision, turned_if, with_listing}
 use Rattle.requests.specs.Instruments.{look_up}
 use Rattle.requests.specs.Replaces as replaces
@@ -39,47 +38,33 @@ use Rattle.wire.specs.declared.message.Message.TheVariants as message
 
 -- ---- a Replace asks for a quantity that can be ordered
 
-if_orderable : (k n : ℕ) (b : Bool) → orderable k ≡ b → cond b (Some k) None ≡ Some n → orderable n ≡ true
-if_orderable k n true o h = let is : k ≡ n = cc in ap orderable (sym is) ∙ o
-if_orderable k n false o h = none-some n h
-
-of_shares : (q : ℤ) (n : ℕ) → shares q ≡ Some n → orderable n ≡ true
-of_shares (pos k) n h = if_orderable k n (orderable k) refl h
-of_shares (negsuc k) n h = none-some n h
-
-of_shown : (q : ℤ) (n : ℕ) (b : Bool) → cond b (shares q) None ≡ Some n → orderable n ≡ true
-of_shown q n true h = of_shares q n h
-of_shown q n false h = none-some n h
+can_order : (q : ℕ) (r : Row) → replace_fault q r ≡ None → orderable q ≡ true
+can_order q r h = go (is_open r) (orderable q) (nat_le q r.executed) h
+  where
+    go : (x y z : Bool)
+        → cond (not x) (Some NotOpen) (cond (not y) (Some BadTerms) (cond z (Some NotAboveExecuted) None)) ≡ None
+        → y ≡ true
+    go false y z k = absurd (cc)
+    go true false z k = absurd (cc)
+    go true true z k = refl
 
 module _ (m : OrderCancelReplaceRequest) where
   abbrev Asked : Ask → Type 0
   Asked a = orderable a.quantity ≡ true
 
-  of_asks : (o : Option ℕ) (a : Ask) → shown m.quantity m.display_quantity ≡ o → option_map (replaces.asks m) o ≡ Some a
-      → Asked a
-  of_asks None a e h = none-some a h
-  of_asks (Some n) a e h =
-      let is : replaces.asks m n ≡ a = cc in
-      subst Asked is (of_shown m.quantity n (int_eq m.display_quantity m.quantity) e)
-
-  of_ask : (b : Bool) (a : Ask)
-      → cond b (option_map (replaces.asks m) (shown m.quantity m.display_quantity)) None ≡ Some a → Asked a
-  of_ask true a h = of_asks (shown m.quantity m.display_quantity) a refl h
-  of_ask false a h = none-some a h
-
-  of_more : (c : Bool) (r : Row) (a : Ask) (e : Refusal) (x : Replacement) → Asked a
-      → cond c (Err e) (Ok (record { order = r; ask = a })) ≡ Ok x → Asked x.ask
-  of_more true r a e x f h = absurd (cc)
-  of_more false r a e x f h = let is : a ≡ x.ask = cc in subst Asked is f
-
-  of_above : (r : Row) (o : Option Ask) (x : Replacement) → replaces.ask_of m r ≡ o → replaces.above r o ≡ Ok x
+  of_fault : (r : Row) (a : Ask) (x : Replacement) (f : Option Refusal) → replace_fault a.quantity r ≡ f
+      → ◌≡◌ {A = Result Replacement Refusal} (option_map_or Err f (Ok (record { order = r; ask = a }))) (Ok x)
       → Asked x.ask
-  of_above r None x e h = absurd (cc)
-  of_above r (Some a) x e h = of_more (nat_le a.quantity r.executed) r a _ x (of_ask _ a e) h
+  of_fault r a x None e h = let is : a ≡ x.ask = cc in subst Asked is (can_order a.quantity r e)
+  of_fault r a x (Some z) e h = absurd (cc)
+
+  of_taken : (r : Row) (o : Option Ask) (x : Replacement) → replaces.taken r o ≡ Ok x → Asked x.ask
+  of_taken r None x h = absurd (cc)
+  of_taken r (Some a) x h = of_fault r a x (replace_fault a.quantity r) refl h
 
   of_timed : (r : Row) (c : Bool) (e : Refusal) (x : Replacement)
-      → cond c (replaces.above r (replaces.ask_of m r)) (Err e) ≡ Ok x → Asked x.ask
-  of_timed r true e x h = of_above r (replaces.ask_of m r) x refl h
+      → cond c (replaces.taken r (replaces.ask_of m r)) (Err e) ≡ Ok x → Asked x.ask
+  of_timed r true e x h = of_taken r (replaces.ask_of m r) x h
   of_timed r false e x h = absurd (cc)
 
   of_row : (o : Result Row Refusal) (x : Replacement) → replaces.of_row m o ≡ Ok x → Asked x.ask

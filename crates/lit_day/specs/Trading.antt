@@ -1,5 +1,5 @@
 -- What a trade of a gateway over the lit book is, in the gateway's own orders. Assumes nothing.
-use Rattle.std.specs.Prelude.{◌≡◌, ℕ, ◌≤◌, true, List, [], ◌∷◌, Some, None, Ok, Err, Option, Result, nat_lt, if◌then◌else◌}
+use Rattle.std.specs.Prelude.{◌≡◌, ℕ, ◌≤◌, true, List, [], ◌∷◌, Some, None, Ok, Err, Option, Result, if◌then◌else◌}
 use Rattle.call.specs.declared.venue_side.Done.{Done}
 use Rattle.call.specs.declared.venue_side.Done.TheVariants as done
 use Rattle.gateway.specs.State.{State}
@@ -12,6 +12,7 @@ use Rattle.lit_book.specs.Orders.{accepts, opposes}
 use Rattle.lit_book.specs.Rules.{Lit, order_under}
 use Rattle.lit_book.specs.declared.book.LitBook.{LitBook}
 use Rattle.lit_book.specs.declared.order.Order.{Order}
+use Rattle.orders.specs.Rows.{is_open}
 use Rattle.orders.specs.declared.row.Row.{Row}
 use Rattle.terms.specs.Pricing.{pricing_of}
 use Rattle.terms.specs.declared.pricing.Pricing.{Pricing}
@@ -38,7 +39,7 @@ as_order n r = record {
 -- nothing, where none of it is open
 abbrev pub open_order : ℕ → Option Row → Option Order
 open_order n None = None
-open_order n (Some r) = if nat_lt 0 r.leaves then Some (as_order n r) else None
+open_order n (Some r) = if is_open r then Some (as_order n r) else None
 
 -- the book holds exactly the gateway's open orders, each with its side, limit, lifetime and open quantity
 abbrev pub Mirrors : List Row → Lit → Type 0
