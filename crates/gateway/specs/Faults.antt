@@ -4,12 +4,14 @@ use Rattle.gateway.specs.declared.fault.GatewayFault.{GatewayFault}
 use Rattle.gateway.specs.declared.fault.GatewayFault.TheVariants.{ShortBuffer, NoSuchLine, Session, NoPlace, TradesFull, NoSuchTrade, AlreadyCancelled}
 use Rattle.gateway.specs.declared.fault.SessionFault.{SessionFault}
 use Rattle.gateway.specs.declared.fault.SessionFault.TheVariants.{NotLoggedOn, Wire}
+use Rattle.answers.specs.Numbers.{reason_number}
+use Rattle.answers.specs.declared.answer.Reason.TheVariants as reason
 use Rattle.layout.specs.Faults.{fault_number, fault_offset}
 use Rattle.refusals.specs.Numbers.{turned_number}
 use Rattle.refusals.specs.declared.Turned.TheVariants as turned
 
 abbrev pub session_number : SessionFault → ℕ
-session_number NotLoggedOn = 10
+session_number NotLoggedOn = reason_number reason.NotLoggedOn
 session_number (Wire f) = fault_number f
 
 abbrev pub number : GatewayFault → ℕ

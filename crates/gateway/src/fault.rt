@@ -2,6 +2,7 @@
 ghost use Rattle.std.specs.Prelude.{◌≡◌};
 ghost use Rattle.gateway.specs.Faults.{number, offset, session_number, session_offset};
 
+use answers::answer::Reason;
 use layout::fault::Fault;
 use refusals::Turned;
 use thiserror::Error;
@@ -64,7 +65,7 @@ impl SessionFault {
         ensures { result ≡ session_number self }
     {
         match self {
-            SessionFault::NotLoggedOn => 10,
+            SessionFault::NotLoggedOn => Reason::NotLoggedOn.number(),
             SessionFault::Wire(fault) => fault.number(),
         }
     }
