@@ -1,6 +1,6 @@
 // A line's session: what it may do on each channel, and how far it has come.
 ghost use Rattle.std.specs.Prelude.{◌≡◌, true};
-ghost use Rattle.sessions.specs.Sessions.{Sound, fresh, on, logged_on, closed, recovery_closed, requested, with_download, with_sent};
+ghost use Rattle.sessions.specs.Sessions.{fresh, on, logged_on, closed, recovery_closed, requested, download, with_download, with_sent};
 ghost use Rattle.sessions.specs.Downloads.{recovered};
 ghost use Rattle.sessions.specs.Sending.{next_to_send, sent_after, found, looked};
 
@@ -9,7 +9,6 @@ use codes::session::{AckResponse, Partition};
 use limits::REQUESTS;
 use partitions::per_partition::PerPartition;
 use refusals::{LogonRefusal, RequestRefusal};
-use std::marker::Model;
 use store::Store;
 
 /// The two channels of a line.
@@ -19,35 +18,24 @@ pub enum Channel {
     Recovery,
 }
 
-/// What is kept of a line: `sent` is the last number of each partition that was sent or passed over, `used` are the
-/// Missed Message Requests that were accepted.
+/// On which channels a line is logged on. The recovery channel is on only beside the real-time one, and a download runs
+/// only there.
 #[derive(Clone, Copy)]
-pub struct SessionState {
-    pub real_time: bool,
-    pub recovery: bool,
-    pub sent: PerPartition<u32>,
-    pub download: Option<Download>,
-    pub used: u8,
+pub enum LoggedOn {
+    Off,
+    /// On the real-time channel.
+    Live,
+    /// On both, perhaps with a download that runs.
+    Recovering(Option<Download>),
 }
 
-/// A state in which the recovery channel is on only with the real-time one, a download runs only with the recovery
-/// channel, and no more requests are used than a day accepts: in a contract it is that state.
+/// What is kept of a line. `sent` is the last number of each partition that was sent or passed over, `used` are the
+/// Missed Message Requests that were accepted: both outlive a connection.
 #[derive(Clone, Copy)]
 pub struct Session {
-    state: SessionState,
-}
-
-impl Model for Session {
-    ghost use Rattle.sessions.specs.declared.session.SessionState.{SessionState as State};
-    ghost use Rattle.sessions.specs.Sessions.{Sound};
-
-    ghost Value = { State };
-
-    ghost view = { λ s. s.state };
-
-    ghost invariant = { λ s. Sound s.state };
-
-    ghost inverse = { λ t. record { state = t } };
+    pub on: LoggedOn,
+    pub sent: PerPartition<u32>,
+    pub used: u8,
 }
 
 impl Session {
@@ -55,35 +43,24 @@ impl Session {
     pub fn new() -> Session
         ensures { result ≡ fresh }
     {
-        let state = SessionState {
-            real_time: false,
-            recovery: false,
+        Session {
+            on: LoggedOn::Off,
             sent: PerPartition {
                 one: 0,
                 two: 0,
                 three: 0,
             },
-            download: None,
             used: 0,
-        };
-        Session { state }
-    }
-
-    /// The state, which keeps what every session keeps.
-    pub fn state(self) -> SessionState
-        ensures is { result ≡ self }
-        ensures sound { Sound result }
-    {
-        self.state
+        }
     }
 
     /// Whether a Logon was accepted on the channel, and no Logout or lost line has closed it since.
     pub fn is_on(self, channel: Channel) -> bool
         ensures { result ≡ on channel self }
     {
-        match channel {
-            Channel::RealTime => self.state.real_time,
-            Channel::Recovery => self.state.recovery,
+        match (channel, self.on) {
+            (_, LoggedOn::Off) | (Channel::Recovery, LoggedOn::Live) => false,
+            (_, LoggedOn::Recovering(_)) | (Channel::RealTime, LoggedOn::Live) => true,
         }
     }
 
@@ -93,43 +70,40 @@ impl Session {
     pub fn logon(self, channel: Channel, lasts: PerPartition<u32>) -> Result<Session, LogonRefusal>
         ensures { result ≡ logged_on channel lasts self }
     {
-        if self.is_on(channel) {
-            return Err(LogonRefusal::AlreadyOn);
-        }
-        let state = match channel {
-            Channel::RealTime => SessionState {
-                real_time: true,
+        match (channel, self.on) {
+            (Channel::RealTime, LoggedOn::Off) => Ok(Session {
+                on: LoggedOn::Live,
                 sent: lasts,
-                ..self.state
-            },
-            Channel::Recovery if !self.state.real_time => {
-                return Err(LogonRefusal::RecoveryBeforeRealTime);
+                ..self
+            }),
+            (Channel::Recovery, LoggedOn::Off) => Err(LogonRefusal::RecoveryBeforeRealTime),
+            (Channel::Recovery, LoggedOn::Live) => Ok(Session {
+                on: LoggedOn::Recovering(None),
+                ..self
+            }),
+            (Channel::RealTime, LoggedOn::Live) | (_, LoggedOn::Recovering(_)) => {
+                Err(LogonRefusal::AlreadyOn)
             }
-            Channel::Recovery => SessionState {
-                recovery: true,
-                ..self.state
-            },
-        };
-        Ok(Session { state })
+        }
     }
 
     /// The session with its recovery channel closed and its download ended.
     pub fn close_recovery(mut self) -> Session
         ensures { result ≡ recovery_closed self }
     {
-        self.state.recovery = false;
-        self.state.download = None;
+        if let LoggedOn::Recovering(_) = self.on {
+            self.on = LoggedOn::Live;
+        }
         self
     }
 
     /// The session with both channels closed and its download ended, after a real-time Logout or a lost line. Requests
     /// stay used.
-    pub fn close(self) -> Session
+    pub fn close(mut self) -> Session
         ensures { result ≡ closed self }
     {
-        let mut session = self.close_recovery();
-        session.state.real_time = false;
-        session
+        self.on = LoggedOn::Off;
+        self
     }
 
     /// The session after a Missed Message Request for the reports of a partition, none where it is not 1 to 3, above a
@@ -143,21 +117,21 @@ impl Session {
         requires { on Channel.Recovery self ≡ true }
         ensures { result ≡ requested partition above last self }
     {
-        if self.state.download.is_some() {
+        if let LoggedOn::Recovering(Some(_)) = self.on {
             return Err(RequestRefusal::DownloadRuns);
         }
         let Some(partition) = partition else {
             return Ok((self, AckResponse::InvalidAppId));
         };
-        if self.state.used >= REQUESTS {
+        if self.used >= REQUESTS {
             return Ok((self, AckResponse::LimitReached));
         }
-        let state = SessionState {
-            download: Some(Download::new(partition, above, last)),
-            used: self.state.used + 1,
-            ..self.state
+        let session = Session {
+            on: LoggedOn::Recovering(Some(Download::new(partition, above, last))),
+            used: self.used + 1,
+            ..self
         };
-        Ok((Session { state }, AckResponse::Successful))
+        Ok((session, AckResponse::Successful))
     }
 
     // The owner's next report of a partition, which is then sent; where there is none, the mark moves past all that was
@@ -166,7 +140,7 @@ impl Session {
         ensures answer { result ≡ found (S.kept store.now) owner self.old.sent partition }
         ensures after { self.new ≡ with_sent self.old (looked (S.kept store.now) owner partition self.old.sent) }
     {
-        let mark = self.state.sent.at_mut(partition);
+        let mark = self.sent.at_mut(partition);
         let next = store.next(partition, owner, *mark);
         *mark = next.unwrap_or((*mark).max(store.last(partition)));
         next
@@ -190,12 +164,16 @@ impl Session {
 
     /// What the download that runs hands out next; nothing where none runs.
     pub fn next_recovered<S: Store>(&mut self, owner: usize, store: &S) -> Option<Handed>
-        ensures answer { result ≡ (recovered (S.kept store.now) owner self.old.download).0 }
-        ensures after { self.new ≡ with_download self.old (recovered (S.kept store.now) owner self.old.download).1 }
+        ensures answer { result ≡ (recovered (S.kept store.now) owner (download self.old)).0 }
+        ensures after { self.new ≡ with_download self.old (recovered (S.kept store.now) owner (download self.old)).1 }
     {
-        let download = self.state.download?;
-        let (recovered, rest) = download.next(owner, store);
-        self.state.download = rest;
-        Some(recovered)
+        match self.on {
+            LoggedOn::Off | LoggedOn::Live | LoggedOn::Recovering(None) => None,
+            LoggedOn::Recovering(Some(download)) => {
+                let (handed, rest) = download.next(owner, store);
+                self.on = LoggedOn::Recovering(rest);
+                Some(handed)
+            }
+        }
     }
 }
