@@ -19,8 +19,8 @@ use Rattle.partitions.specs.PerPartition.{at}
 use Rattle.reports.specs.declared.report.Entry.{Entry}
 use Rattle.sessions.specs.Downloads.{recovered}
 use Rattle.sessions.specs.Sending.{next_to_send, sent_after}
-use Rattle.sessions.specs.Sessions.{on, with_download, with_sent}
-use Rattle.sessions.specs.declared.download.Handed.{Handed}
+use Rattle.sessions.specs.Sessions.{download, on, with_download, with_sent}
+use Rattle.sessions.specs.declared.download.Handed.{Handed as Item}
 use Rattle.sessions.specs.declared.download.Handed.TheVariants.{Report, Ended}
 use Rattle.sessions.specs.declared.session.Channel.{Channel}
 use Rattle.sessions.specs.declared.session.Channel.TheVariants.{RealTime, Recovery}
@@ -93,7 +93,7 @@ abbrev pub sent_bytes : Kept → Option (Partition × ℕ) → List ℕ
 sent_bytes k None = []
 sent_bytes k (Some (p, n)) = stored_bytes k p n
 
-abbrev pub recovered_bytes : Kept → Option Handed → List ℕ
+abbrev pub recovered_bytes : Kept → Option Item → List ℕ
 recovered_bytes k None = []
 recovered_bytes k (Some (Report p n)) = stored_bytes k p n
 recovered_bytes k (Some (Ended r)) = end_bytes r
@@ -116,7 +116,7 @@ live_handed line s =
 abbrev pub recovery_handed : ℕ → State → Handed
 recovery_handed line s =
     let x = session s line in
-    let next = recovered s.venue.kept line x.download in
+    let next = recovered s.venue.kept line (download x) in
     record {
       bytes = recovered_bytes s.venue.kept next.0;
       after = with_session s line (with_download x next.1);

@@ -15,7 +15,7 @@ use Rattle.gateway.specs.Doing.{Comes, Outcome}
 use Rattle.gateway.specs.Lines.{ends_of, logon, line_closed}
 use Rattle.gateway.specs.State.{State, session, with_session}
 use Rattle.gateway.specs.declared.fault.GatewayFault.{GatewayFault}
-use Rattle.gateway.specs.declared.fault.GatewayFault.TheVariants.{ShortBuffer, NoSuchLine, Session}
+use Rattle.gateway.specs.declared.fault.GatewayFault.TheVariants as call
 use Rattle.gateway.specs.declared.fault.SessionFault.{SessionFault}
 use Rattle.gateway.specs.declared.fault.SessionFault.TheVariants.{NotLoggedOn, Wire}
 use Rattle.layout.specs.declared.fault.Fault.{Fault}
@@ -33,7 +33,7 @@ use Rattle.sessions.specs.Sessions.{on, requested, recovery_closed}
 use Rattle.sessions.specs.declared.session.Channel.{Channel}
 use Rattle.sessions.specs.declared.session.Channel.TheVariants.{RealTime, Recovery}
 use Rattle.refusals.specs.declared.RequestRefusal.{RequestRefusal}
-use Rattle.sessions.specs.declared.session.SessionState.{SessionState}
+use Rattle.sessions.specs.declared.session.Session.{Session}
 use Rattle.store.specs.Kept.{Kept}
 use Rattle.texts.specs.declared.fixed.FixedText.{FixedText}
 use Rattle.texts.specs.declared.values.Time.{Time}
@@ -94,7 +94,7 @@ abbrev pub last_of : Kept → Option Partition → ℕ
 last_of k o = option_map_or (λ p. length (at k p)) o 0
 
 -- what the session makes of a Missed Message Request
-abbrev pub missed_by : Result (SessionState × AckResponse) RequestRefusal → ℕ → MissedMessageRequest → State → Outcome
+abbrev pub missed_by : Result (Session × AckResponse) RequestRefusal → ℕ → MissedMessageRequest → State → Outcome
 missed_by (Err e) line m s = answered (rejection (reason.Request e) (message.MissedMessageRequest m), s)
 missed_by (Ok (x, r)) line m s = answered (Ack r, with_session s line x)
 
@@ -167,10 +167,10 @@ reader_of Recovery = reader.Recovery
 
 -- the checks that come before any message is looked at: room for an answer, and the line
 abbrev pub line_fault : ℕ → State → Option GatewayFault
-line_fault line s = if nat_lt line (length s.lines) then None else Some NoSuchLine
+line_fault line s = if nat_lt line (length s.lines) then None else Some call.NoSuchLine
 
 abbrev pub call_fault : ℕ → ℕ → State → Option GatewayFault
-call_fault room line s = if nat_lt room BUFFER then Some ShortBuffer else line_fault line s
+call_fault room line s = if nat_lt room BUFFER then Some call.ShortBuffer else line_fault line s
 
 -- a buffer after these bytes were written to its front
 abbrev pub fronted : List ℕ → List ℕ → List ℕ
@@ -202,7 +202,7 @@ Settled goes o buffer r after =
 
 abbrev pub Read : (State → List Act → Type 0) → Option Fault → Given → State → Result ℕ GatewayFault → List ℕ → Type 0
 Read goes (Some f) g s r after =
-    (r ≡ Err (Session (Wire f))) × goes s [] × (after ≡ fronted (answer_bytes (fault_rejection f g.bytes)) g.buffer)
+    (r ≡ Err (call.Session (Wire f))) × goes s [] × (after ≡ fronted (answer_bytes (fault_rejection f g.bytes)) g.buffer)
 Read goes None g s r after =
     (m : Message) × Reads (reader_of g.channel) g.bytes m
     × Settled goes (outcome_of g.channel g.line m g.time g.spare s) g.buffer r after

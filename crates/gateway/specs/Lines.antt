@@ -13,7 +13,7 @@ use Rattle.sessions.specs.Sessions.{logged_on, closed}
 use Rattle.sessions.specs.declared.session.Channel.{Channel}
 use Rattle.refusals.specs.declared.LogonRefusal.{LogonRefusal}
 use Rattle.refusals.specs.declared.LogonRefusal.TheVariants.{BadCredentials}
-use Rattle.sessions.specs.declared.session.SessionState.{SessionState}
+use Rattle.sessions.specs.declared.session.Session.{Session}
 use Rattle.texts.specs.Bytes.{said}
 use Rattle.texts.specs.Says.{says}
 use Rattle.requests.specs.Selection.{anywhere, meant, of_line, withdrawals}
@@ -30,7 +30,7 @@ abbrev pub admits : Option Participant → Logon → Bool
 admits o m = option_map_or (λ p. is_known p m) o false
 
 -- the answer to a Logon, and the session after it
-abbrev pub admitted : Bool → ℕ → State → Result SessionState LogonRefusal → Answer × State
+abbrev pub admitted : Bool → ℕ → State → Result Session LogonRefusal → Answer × State
 admitted known line s (Err e) = (LogonReply (Refused e), s)
 admitted true line s (Ok x) = (LogonReply Accepted, with_session s line x)
 admitted false line s (Ok x) = (LogonReply (Refused BadCredentials), s)

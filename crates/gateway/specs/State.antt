@@ -5,7 +5,7 @@ use Rattle.configuration.specs.declared.participant.Participant.{Participant}
 use Rattle.partitions.specs.PerPartition.{at}
 use Rattle.partitions.specs.declared.per_partition.PerPartition.{PerPartition}
 use Rattle.sessions.specs.Sessions.{fresh as fresh_session}
-use Rattle.sessions.specs.declared.session.SessionState.{SessionState}
+use Rattle.sessions.specs.declared.session.Session.{Session}
 use Rattle.store.specs.Kept.{Kept}
 use Rattle.venue.specs.Books.{Books, Over}
 
@@ -14,14 +14,14 @@ pub record State : Type 0 where
   -- the CompIDs; each has the line of its place in the list
   pub participants : List Participant
   -- the session of each line
-  pub lines : List SessionState
+  pub lines : List Session
   pub venue : Books
 
 -- the session of a line
-abbrev pub session : State → ℕ → SessionState
+abbrev pub session : State → ℕ → Session
 session s line = slice_index_or s.lines line fresh_session
 
-abbrev pub with_session : State → ℕ → SessionState → State
+abbrev pub with_session : State → ℕ → Session → State
 with_session s line x = record s { lines = slice_set s.lines line x }
 
 abbrev pub with_venue : State → Books → State

@@ -9,6 +9,7 @@ use Rattle.partitions.specs.PerPartition.{at}
 use Rattle.reports.specs.declared.report.Entry.{Entry}
 use Rattle.sessions.specs.Downloads.{recovered}
 use Rattle.sessions.specs.Sending.{next_to_send}
+use Rattle.sessions.specs.Sessions.{download}
 use Rattle.sessions.specs.declared.download.Handed.{Handed}
 use Rattle.sessions.specs.declared.download.Handed.TheVariants.{Report, Ended}
 use Rattle.sessions.specs.declared.session.Channel.TheVariants.{RealTime, Recovery}
@@ -40,4 +41,4 @@ SendTold room line s =
 abbrev pub RecoverTold : ℕ → ℕ → State → Type 0
 RecoverTold room line s =
     send_fault Recovery room line s ≡ None
-    → RecoveredTold s.venue.kept (recovered s.venue.kept line (session s line).download).0
+    → RecoveredTold s.venue.kept (recovered s.venue.kept line (download (session s line))).0
