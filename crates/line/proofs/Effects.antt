@@ -1,9 +1,8 @@
 -- What a call makes of the session of one line. Assumes nothing.
 use Rattle.std.specs.Borrow.{Bor}
 use Rattle.std.specs.Prelude.{◌≢◌, drop, take, is_some, slice_get, slice_index_or, nat_le}
-use Rattle.std.proofs.Common.{◌≡◌, ◌⊎◌, inl, inr, ℕ, ◌+◌, ◌<◌, Bool, true, false, cond, eqb, List, [], Some, None, Option, Ok, Err, Result, length, refl, sym, ap, ◌∙◌, subst, arith}
+use Rattle.std.proofs.Common.{◌≡◌, ◌⊎◌, inl, inr, ℕ, ◌+◌, ◌<◌, Bool, true, false, cond, List, [], Some, None, Option, Ok, Err, Result, length, refl, sym, ap, ◌∙◌, subst, arith}
 use Rattle.std.proofs.Math.Seq.{take-append_seam}
-use Rattle.std.proofs.lemmas.Bool.{eqb-true, eqb-false, false≢true, leb-false, true≢false}
 use Rattle.std.proofs.lemmas.List.{get_or-set_same}
 use Rattle.answers.specs.Bytes.{answer_bytes}
 use Rattle.answers.specs.declared.answer.Answer.{Answer}
@@ -14,13 +13,12 @@ use Rattle.answers.specs.declared.answer.Reason.TheVariants as reason
 use Rattle.codes.specs.declared.session.AckResponse.{AckResponse}
 use Rattle.codes.specs.declared.session.AckResponse.TheVariants.{Successful, LimitReached, InvalidAppId}
 use Rattle.codes.specs.declared.session.Partition.{Partition}
-use Rattle.gateway.specs.Calls.{Hands, Handed, Loses, Recovers, Sends, send_fault, live_handed, recovery_handed, recovered_bytes, sent_bytes}
+use Rattle.gateway.specs.Calls.{Hands, Handed, Loses, send_fault, live_handed, recovery_handed, recovered_bytes, sent_bytes}
 use Rattle.gateway.specs.Doing.{Outcome, acted}
 use Rattle.gateway.specs.Hearing.{Settled, Read, Checked, Hears, answered, call_fault, fronted, outcome_of, last_of, line_fault, logout, missed, missed_by, missed_on, partition_of, reader_of, rejection, requested_as, silently}
 use Rattle.gateway.specs.Lines.{admitted, admits, logon}
 use Rattle.gateway.specs.State.{State, session, with_session, lasts}
 use Rattle.gateway.specs.declared.fault.GatewayFault.{GatewayFault}
-use Rattle.keyed.proofs.Under.{none-some}
 use Rattle.layout.specs.Writing.{encode, field_bytes}
 use Rattle.layout.specs.declared.fault.Fault.{Fault}
 use Rattle.limits.specs.declared.TheConstants.{REQUESTS}
@@ -37,13 +35,15 @@ use Rattle.partitions.specs.PerPartition.{at}
 use Rattle.requests.specs.Deciding.{Decision}
 use Rattle.sessions.specs.Downloads.{begun, recovered}
 use Rattle.sessions.specs.Sending.{next_to_send, sent_after}
-use Rattle.sessions.specs.Sessions.{Sound, acknowledged, closed, fresh, on, recovery_closed, with_download, with_sent}
+use Rattle.sessions.specs.Sessions.{acknowledged, closed, download, fresh, logged_on_from, on, recovery_closed, running, with_download, with_running, with_sent, without_recovery}
 use Rattle.sessions.specs.declared.download.Download.{Download}
 use Rattle.sessions.specs.declared.session.Channel.{Channel}
 use Rattle.sessions.specs.declared.session.Channel.TheVariants.{RealTime, Recovery}
 use Rattle.refusals.specs.declared.LogonRefusal.TheVariants.{AlreadyOn, BadCredentials, RecoveryBeforeRealTime}
 use Rattle.refusals.specs.declared.RequestRefusal.TheVariants.{DownloadRuns}
-use Rattle.sessions.specs.declared.session.SessionState.{SessionState}
+use Rattle.sessions.specs.declared.session.LoggedOn.{LoggedOn}
+use Rattle.sessions.specs.declared.session.LoggedOn.TheVariants.{Off, Live, Recovering}
+use Rattle.sessions.specs.declared.session.Session.{Session}
 use Rattle.store.specs.Kept.{Kept}
 use Rattle.texts.specs.declared.values.Time.{Time}
 use Rattle.venue.specs.Acts.{Act}
@@ -55,23 +55,23 @@ use Rattle.wire.specs.declared.message.Message.TheVariants as message
 -- ---- what a call can make of a session: x is the one before, y the one after
 
 -- how far was sent stays, and the download
-abbrev pub Stays : SessionState → SessionState → Type 0
-Stays x y = (y.sent ≡ x.sent) × (y.download ≡ x.download)
+abbrev pub Stays : Session → Session → Type 0
+Stays x y = (y.sent ≡ x.sent) × (download y ≡ download x)
 
 -- how far was sent stays, and no download runs
-abbrev pub Closes : SessionState → SessionState → Type 0
-Closes x y = (y.sent ≡ x.sent) × (y.download ≡ None)
+abbrev pub Closes : Session → Session → Type 0
+Closes x y = (y.sent ≡ x.sent) × (download y ≡ None)
 
 -- what is reported from now on is sent, and no download runs
-abbrev pub Opens : Kept → SessionState → Type 0
-Opens k y = (y.sent ≡ lasts k) × (y.download ≡ None)
+abbrev pub Opens : Kept → Session → Type 0
+Opens k y = (y.sent ≡ lasts k) × (download y ≡ None)
 
 -- the answer to a Logon that is accepted
 abbrev pub accepted_bytes : List ℕ
 accepted_bytes = answer_bytes (LogonReply admission.Accepted)
 
 -- a real-time message: a Logon was accepted, and the answer says so; or none was, and the answer is another
-abbrev pub RealTimeDoes : Kept → List ℕ → SessionState → SessionState → Type 0
+abbrev pub RealTimeDoes : Kept → List ℕ → Session → Session → Type 0
 RealTimeDoes k bytes x y =
     ((bytes ≡ accepted_bytes) × Opens k y) ⊎ ((bytes ≢ accepted_bytes) × (Stays x y ⊎ Closes x y))
 
@@ -81,44 +81,44 @@ Grants (Ack Successful) = true
 Grants a = false
 
 -- a request was read and granted, and its download begins
-abbrev pub Granted : Kept → List ℕ → List ℕ → SessionState → SessionState → Type 0
+abbrev pub Granted : Kept → List ℕ → List ℕ → Session → Session → Type 0
 Granted k bs bytes x y =
     (m : MissedMessageRequest)
     × (p : Partition)
     × Reads reader.Recovery bs (message.MissedMessageRequest m)
     × (partition_of m.partition ≡ Some p)
     × (bytes ≡ answer_bytes (Ack Successful))
-    × (x.download ≡ None)
+    × (download x ≡ None)
     × (y.sent ≡ x.sent)
-    × (y.download ≡ Some (begun p m.last.value (length (at k p))))
+    × (download y ≡ Some (begun p m.last.value (length (at k p))))
 
 -- a recovery message: a request was granted; or none was, and what is answered grants none
-abbrev pub RecoveryDoes : Kept → List ℕ → List ℕ → SessionState → SessionState → Type 0
+abbrev pub RecoveryDoes : Kept → List ℕ → List ℕ → Session → Session → Type 0
 RecoveryDoes k bs bytes x y =
     Granted k bs bytes x y
     ⊎ ((a : Answer) × (bytes ≡ answer_bytes a) × (Grants a ≡ false) × (Stays x y ⊎ Closes x y))
 
 -- a call for the line's next report: refused; or its bytes, and how far was sent moves on
-abbrev pub SendDoes : State → ℕ → List ℕ → SessionState → Type 0
+abbrev pub SendDoes : State → ℕ → List ℕ → Session → Type 0
 SendDoes s c bytes y =
     let k = s.venue.kept in
     let x = session s c in
     ((bytes ≡ []) × Stays x y)
     ⊎ ((bytes ≡ sent_bytes k (next_to_send k c x.sent))
     × (y.sent ≡ sent_after k c x.sent)
-    × (y.download ≡ x.download)
+    × (download y ≡ download x)
     × (send_fault RealTime (length blank) c s ≡ None))
 
 -- a call for the next of the line's download, in the same way
-abbrev pub RecoverDoes : State → ℕ → List ℕ → SessionState → Type 0
+abbrev pub RecoverDoes : State → ℕ → List ℕ → Session → Type 0
 RecoverDoes s c bytes y =
     let k = s.venue.kept in
     let x = session s c in
-    let next = recovered k c x.download in
+    let next = recovered k c (download x) in
     ((bytes ≡ []) × Stays x y)
     ⊎ ((bytes ≡ recovered_bytes k next.0)
     × (y.sent ≡ x.sent)
-    × (y.download ≡ next.1)
+    × (download y ≡ next.1)
     × (send_fault Recovery (length blank) c s ≡ None))
 
 -- ---- what a call left, and the session after it
@@ -133,21 +133,29 @@ left_ok r bytes buffer out e f =
     (λ (z : List ℕ). take (length bytes) z) f ∙ take-append_seam bytes (drop (length bytes) buffer)
 
 -- of a line that there is, the session is the one that was set
-set_here : (line : ℕ) (s : State) (x : SessionState) → line < length s.lines → session (with_session s line x) line ≡ x
+set_here : (line : ℕ) (s : State) (x : Session) → line < length s.lines → session (with_session s line x) line ≡ x
 set_here line s x there = get_or-set_same s.lines line x fresh there
 
--- the session after a Logon on each channel, and after a request that is granted
-abbrev opened : Kept → SessionState → SessionState
-opened k x = record x { real_time = true; sent = lasts k }
+-- the session after a request that is granted
+abbrev begins : Kept → Partition → MissedMessageRequest → Session → Session
+begins k p m x =
+    record x { on = Recovering (Some (begun p m.last.value (length (at k p)))); used = x.used + 1 }
 
-abbrev recovering : SessionState → SessionState
-recovering x = record x { recovery = true }
+-- without the recovery channel no download runs
+ended : (o : LoggedOn) → running (without_recovery o) ≡ None
+ended Off = refl
+ended Live = refl
+ended (Recovering d) = refl
 
-abbrev begins : Kept → Partition → MissedMessageRequest → SessionState → SessionState
-begins k p m x = record x { used = x.used + 1; download = Some (begun p m.last.value (length (at k p))) }
+-- what is left of a download is the one that then runs
+left_running : (k : Kept) (c : ℕ) (o : LoggedOn) → running (with_running o (recovered k c (running o)).1)
+    ≡ (recovered k c (running o)).1
+left_running k c Off = refl
+left_running k c Live = refl
+left_running k c (Recovering d) = refl
 
 -- what holds of what a call left and of the session after it
-module _ (line : ℕ) (P : List ℕ → SessionState → Type 0) where
+module _ (line : ℕ) (P : List ℕ → Session → Type 0) where
   abbrev Makes : Outcome → Type 0
   Makes o = P (answer_bytes o.answer) (session o.changed line)
 
@@ -162,7 +170,7 @@ module _ (line : ℕ) (P : List ℕ → SessionState → Type 0) where
   kept bytes u w r out e f h =
       subst (λ (z : List ℕ). P z (session w line)) (sym e) (subst (λ (z : State). P bytes (session z line)) (sym f) h)
 
-  placed : (s : State) (bytes : List ℕ) (x : SessionState) → line < length s.lines → P bytes x
+  placed : (s : State) (bytes : List ℕ) (x : Session) → line < length s.lines → P bytes x
       → P bytes (session (with_session s line x) line)
   placed s bytes x there h = subst (P bytes) (sym (set_here line s x there)) h
 
@@ -172,14 +180,14 @@ module _ (line : ℕ) (P : List ℕ → SessionState → Type 0) where
       made t o.acts (answer_bytes o.answer) o.changed w r out (left_ok r (answer_bytes o.answer) buffer out e g) f h
 
 -- it holds of each thing that a message can come to, on a line that there is
-record Holds (line : ℕ) (P : List ℕ → SessionState → Type 0) (ch : Channel) (bs : List ℕ) (s : State) : Type 0 where
+record Holds (line : ℕ) (P : List ℕ → Session → Type 0) (ch : Channel) (bs : List ℕ) (s : State) : Type 0 where
   rejects : (why : Reason) (m : Message) → P (answer_bytes (rejection why m)) (session s line)
   opens : (m : Logon) → Makes line P (answered (logon ch line m s))
   asks : (m : MissedMessageRequest) → Reads (reader_of ch) bs (message.MissedMessageRequest m) → on ch (session s line)
       ≡ true → Makes line P (missed_on ch line m s)
   closes : Makes line P (logout ch line s)
 
-module _ (line : ℕ) (P : List ℕ → SessionState → Type 0) (ch : Channel) (bs : List ℕ) (s : State)
+module _ (line : ℕ) (P : List ℕ → Session → Type 0) (ch : Channel) (bs : List ℕ) (s : State)
     (same : P [] (session s line)) where
   module _ (h : Holds line P ch bs s) where
     asked_makes : (m : Message) (o : Decision) → Makes line P (requested_as m s o)
@@ -243,27 +251,25 @@ module _ (line : ℕ) (P : List ℕ → SessionState → Type 0) (ch : Channel) 
       kept line P h.bytes h.after w r out (left_ok r h.bytes buffer out e k) g (after refl)
 
 -- what a Missed Message Request comes to, on a line that there is
-module _ (line : ℕ) (P : List ℕ → SessionState → Type 0) (s : State) (m : MissedMessageRequest)
+module _ (line : ℕ) (P : List ℕ → Session → Type 0) (s : State) (m : MissedMessageRequest)
     (there : line < length s.lines)
     (turned : P (answer_bytes (rejection (reason.Request DownloadRuns) (message.MissedMessageRequest m)))
     (session s line))
     (refused : (a : AckResponse) → Grants (Ack a) ≡ false → P (answer_bytes (Ack a)) (session s line))
-    (granted : (p : Partition) → partition_of m.partition ≡ Some p → (session s line).download ≡ None
-    → (session s line).used < REQUESTS
+    (granted : (p : Partition) → partition_of m.partition ≡ Some p → download (session s line) ≡ None
     → P (answer_bytes (Ack Successful)) (begins s.venue.kept p m (session s line))) where
-  counted_makes : (p : Partition) (b : Bool) → partition_of m.partition ≡ Some p → (session s line).download ≡ None
-      → nat_le REQUESTS (session s line).used ≡ b
+  counted_makes : (p : Partition) (b : Bool) → partition_of m.partition ≡ Some p → download (session s line) ≡ None
       → Makes line P (missed_by (Ok (cond b (session s line, LimitReached)
       (begins s.venue.kept p m (session s line), Successful))) line m s)
-  counted_makes p true e f g = placed line P s _ (session s line) there (refused LimitReached refl)
-  counted_makes p false e f g = placed line P s _ _ there (granted p e f (leb-false REQUESTS (session s line).used g))
+  counted_makes p true e f = placed line P s _ (session s line) there (refused LimitReached refl)
+  counted_makes p false e f = placed line P s _ _ there (granted p e f)
 
-  named_makes : (p : Option Partition) → partition_of m.partition ≡ p → (session s line).download ≡ None
+  named_makes : (p : Option Partition) → partition_of m.partition ≡ p → download (session s line) ≡ None
       → Makes line P (missed_by (Ok (acknowledged p m.last.value (last_of s.venue.kept p) (session s line))) line m s)
   named_makes None e f = placed line P s _ (session s line) there (refused InvalidAppId refl)
-  named_makes (Some p) e f = counted_makes p (nat_le REQUESTS (session s line).used) e f refl
+  named_makes (Some p) e f = counted_makes p (nat_le REQUESTS (session s line).used) e f
 
-  idle_makes : (d : Option Download) → (session s line).download ≡ d
+  idle_makes : (d : Option Download) → download (session s line) ≡ d
       → Makes line P (missed_by (cond (is_some d) (Err DownloadRuns)
       (Ok (acknowledged (partition_of m.partition) m.last.value (last_of s.venue.kept (partition_of m.partition))
       (session s line)))) line m s)
@@ -271,7 +277,7 @@ module _ (line : ℕ) (P : List ℕ → SessionState → Type 0) (s : State) (m 
   idle_makes None e = named_makes (partition_of m.partition) refl e
 
   missed_makes : Makes line P (missed line m s)
-  missed_makes = idle_makes (session s line).download refl
+  missed_makes = idle_makes (download (session s line)) refl
 
 -- ---- replies that are not an accepted Logon's
 
@@ -298,73 +304,63 @@ unknown_apart =
 
 -- ---- a real-time message
 
-no_download : (o : Option Download) → (is_some o ≡ true → ⊥) → o ≡ None
-no_download None f = refl
-no_download (Some d) f = absurd (f refl)
-
-module _ (line : ℕ) (s : State) (sound : Sound (session s line)) where
-  abbrev Tells : List ℕ → SessionState → Type 0
+module _ (line : ℕ) (s : State) where
+  abbrev Tells : List ℕ → Session → Type 0
   Tells bytes y = RealTimeDoes s.venue.kept bytes (session s line) y
 
-  idle : (session s line).real_time ≡ false → (session s line).download ≡ None
-  idle e = no_download (session s line).download (λ d. true≢false (sym (sound.1 (sound.2 d)) ∙ e))
-
-  real_opens : line < length s.lines → (known b : Bool) → (session s line).real_time ≡ b
+  -- only a line that is off is logged on, so no download runs then
+  real_opens : line < length s.lines → (known : Bool) (o : LoggedOn)
       → Makes line Tells (answered (admitted known line s
-      (cond b (Err AlreadyOn) (Ok (opened s.venue.kept (session s line))))))
-  real_opens there known true e = inr (again_apart, inl (refl, refl))
-  real_opens there true false e = placed line Tells s accepted_bytes _ there (inl (refl, (refl, idle e)))
-  real_opens there false false e = inr (unknown_apart, inl (refl, refl))
+      (logged_on_from RealTime o (lasts s.venue.kept) (session s line))))
+  real_opens there true Off = placed line Tells s accepted_bytes _ there (inl (refl, (refl, refl)))
+  real_opens there false Off = inr (unknown_apart, inl (refl, refl))
+  real_opens there known Live = inr (again_apart, inl (refl, refl))
+  real_opens there known (Recovering d) = inr (again_apart, inl (refl, refl))
 
   real_holds : (bs : List ℕ) → line < length s.lines → Holds line Tells RealTime bs s
   real_holds bs there = record {
     rejects = λ why m. inr (reject_apart why m, inl (refl, refl));
-    opens = λ m. real_opens there (admits (slice_get s.participants line) m) (session s line).real_time refl;
+    opens = λ m. real_opens there (admits (slice_get s.participants line) m) (session s line).on;
     asks = λ m reads e. inr (nothing_apart, inl (refl, refl));
     closes = placed line Tells s [] (closed (session s line)) there (inr (nothing_apart, inr (refl, refl)));
   }
 
-pub effect_realtime : (c : ℕ) (s : State) (bs : Bor (List ℕ)) (t : Time) (r : Reply) (w : State) → Sound (session s c)
+pub effect_realtime : (c : ℕ) (s : State) (bs : Bor (List ℕ)) (t : Time) (r : Reply) (w : State)
     → Turns s (done.RealTime c bs t r) w
     → RealTimeDoes s.venue.kept (bytes_of r) (session s c) (session w c)
-effect_realtime c s bs t r w sound (spare, k) =
-    hears_makes c (Tells c s sound) RealTime bs.now s
-    (inr (nothing_apart, inl (refl, refl))) t spare r.answer w r.buffer (real_holds c s sound bs.now) k
+effect_realtime c s bs t r w (spare, k) =
+    hears_makes c (Tells c s) RealTime bs.now s
+    (inr (nothing_apart, inl (refl, refl))) t spare r.answer w r.buffer (real_holds c s bs.now) k
 
 -- ---- a recovery message
 
 module _ (line : ℕ) (bs : List ℕ) (s : State) where
-  abbrev Replies : List ℕ → SessionState → Type 0
+  abbrev Replies : List ℕ → Session → Type 0
   Replies bytes y = RecoveryDoes s.venue.kept bs bytes (session s line) y
 
   stays_by : (a : Answer) → Grants a ≡ false → Replies (answer_bytes a) (session s line)
   stays_by a e = inr (a, refl, e, inl (refl, refl))
 
-  recovery_on : line < length s.lines → (known b : Bool)
+  recovery_opens : line < length s.lines → (known : Bool) (o : LoggedOn) → (session s line).on ≡ o
       → Makes line Replies (answered (admitted known line s
-      (cond b (Ok (recovering (session s line))) (Err RecoveryBeforeRealTime))))
-  recovery_on there known false = stays_by (LogonReply (admission.Refused RecoveryBeforeRealTime)) refl
-  recovery_on there true true = placed line Replies s _ _ there (inr (LogonReply admission.Accepted, refl, refl, inl (refl, refl)))
-  recovery_on there false true = stays_by (LogonReply (admission.Refused BadCredentials)) refl
-
-  recovery_opens : line < length s.lines → (known b : Bool)
-      → Makes line Replies (answered (admitted known line s
-      (cond b (Err AlreadyOn) (cond (session s line).real_time (Ok (recovering (session s line)))
-      (Err RecoveryBeforeRealTime)))))
-  recovery_opens there known true = stays_by (LogonReply (admission.Refused AlreadyOn)) refl
-  recovery_opens there known false = recovery_on there known (session s line).real_time
+      (logged_on_from Recovery o (lasts s.venue.kept) (session s line))))
+  recovery_opens there known Off e = stays_by (LogonReply (admission.Refused RecoveryBeforeRealTime)) refl
+  recovery_opens there true Live e = placed line Replies s _ _ there
+      (inr (LogonReply admission.Accepted, refl, refl, inl (refl, sym (ap running e))))
+  recovery_opens there false Live e = stays_by (LogonReply (admission.Refused BadCredentials)) refl
+  recovery_opens there known (Recovering d) e = stays_by (LogonReply (admission.Refused AlreadyOn)) refl
 
   recovery_holds : line < length s.lines → Holds line Replies Recovery bs s
   recovery_holds there = record {
     rejects = λ why m. stays_by (rejection why m) refl;
-    opens = λ m. recovery_opens there (admits (slice_get s.participants line) m) (session s line).recovery;
+    opens = λ m. recovery_opens there (admits (slice_get s.participants line) m) (session s line).on refl;
     asks = λ m reads e.
         missed_makes line Replies s m there
         (stays_by (rejection (reason.Request DownloadRuns) (message.MissedMessageRequest m)) refl)
         (λ a g. stays_by (Ack a) g)
-        (λ p named none few. inl (m, p, reads, named, refl, none, refl, refl));
+        (λ p named none. inl (m, p, reads, named, refl, none, refl, refl));
     closes = placed line Replies s [] (recovery_closed (session s line)) there
-        (inr (Silent, refl, refl, inr (refl, refl)));
+        (inr (Silent, refl, refl, inr (refl, ended (session s line).on)));
   }
 
 pub effect_recovery : (c : ℕ) (s : State) (bs : Bor (List ℕ)) (t : Time) (r : Reply) (w : State)
@@ -376,7 +372,7 @@ effect_recovery c s bs t r w (spare, k) =
 
 -- ---- a lost line, and what is handed out
 
-closing : (Q : SessionState → Type 0) (line : ℕ) (s : State) (t : Time) (r : Result (Unit {0}) GatewayFault) (w : State)
+closing : (Q : Session → Type 0) (line : ℕ) (s : State) (t : Time) (r : Result (Unit {0}) GatewayFault) (w : State)
     → Q (session s line) → Q (closed (session s line)) → Loses (λ u acts. w ≡ acted t acts u) line s r
     → Q (session w line)
 closing Q line s t (Ok u) w same shut (x, e) =
@@ -407,129 +403,12 @@ pub effect_recover : (c : ℕ) (s : State) (r : Reply) (w : State) → Turns s (
     → RecoverDoes s c (bytes_of r) (session w c)
 effect_recover c s r w (spare, k) =
     let x = session s c in
-    let rest = with_download x (recovered s.venue.kept c x.download).1 in
+    let rest = with_download x (recovered s.venue.kept c (download x)).1 in
     hands_makes c (RecoverDoes s c) Recovery [] s (inl (refl, (refl, refl))) (send_fault Recovery (length blank) c s)
     (recovery_handed c s) blank r.answer w r.buffer
-    (λ e. placed c (RecoverDoes s c) s _ rest (sends_there Recovery c s e) (inr (refl, refl, refl, e))) k
+    (λ e. placed c (RecoverDoes s c) s _ rest (sends_there Recovery c s e)
+    (inr (refl, refl, left_running s.venue.kept c x.on, e))) k
 
 pub effect_other : (c : ℕ) (s : State) (d : Done) (w : State) → Turns s d w → line_of d ≢ Some c → session w c
     ≡ session s c
 effect_other c s d w k ne = lines_apart s d w c k ne
-
--- ---- a session stays sound
-
-module _ (line : ℕ) (s : State) (sound : Sound (session s line)) where
-  abbrev Keeps : List ℕ → SessionState → Type 0
-  Keeps bytes y = Sound y
-
-  shut_sound : Sound (closed (session s line))
-  shut_sound = (sound.0, (λ e. absurd (false≢true e)), (λ e. absurd (false≢true e)))
-
-  real_on_sound : line < length s.lines → (known b : Bool)
-      → Makes line Keeps (answered (admitted known line s
-      (cond b (Err AlreadyOn) (Ok (opened s.venue.kept (session s line))))))
-  real_on_sound there known true = sound
-  real_on_sound there true false = placed line Keeps s accepted_bytes _ there (sound.0, (λ e. refl), sound.2)
-  real_on_sound there false false = sound
-
-  second_on_sound : line < length s.lines → (known b : Bool) → (session s line).real_time ≡ b
-      → Makes line Keeps (answered (admitted known line s
-      (cond b (Ok (recovering (session s line))) (Err RecoveryBeforeRealTime))))
-  second_on_sound there known false e = sound
-  second_on_sound there true true e = placed line Keeps s accepted_bytes _ there (sound.0, (λ f. e), (λ f. refl))
-  second_on_sound there false true e = sound
-
-  recovery_on_sound : line < length s.lines → (known b : Bool)
-      → Makes line Keeps (answered (admitted known line s
-      (cond b (Err AlreadyOn) (cond (session s line).real_time (Ok (recovering (session s line)))
-      (Err RecoveryBeforeRealTime)))))
-  recovery_on_sound there known true = sound
-  recovery_on_sound there known false = second_on_sound there known (session s line).real_time refl
-
-  opens_sound : (ch : Channel) → line < length s.lines → (m : Logon) → Makes line Keeps (answered (logon ch line m s))
-  opens_sound RealTime there m = real_on_sound there (admits (slice_get s.participants line) m)
-      (session s line).real_time
-  opens_sound Recovery there m = recovery_on_sound there (admits (slice_get s.participants line) m)
-      (session s line).recovery
-
-  asks_sound : (ch : Channel) → line < length s.lines → (m : MissedMessageRequest) → on ch (session s line) ≡ true
-      → Makes line Keeps (missed_on ch line m s)
-  asks_sound RealTime there m e = sound
-  asks_sound Recovery there m e =
-      missed_makes line Keeps s m there sound (λ a g. sound)
-      (λ p named none few. (omega (arith, few), sound.1, (λ f. e)))
-
-  closes_sound : (ch : Channel) → line < length s.lines → Makes line Keeps (logout ch line s)
-  closes_sound RealTime there = placed line Keeps s [] (closed (session s line)) there shut_sound
-  closes_sound Recovery there =
-      placed line Keeps s [] (recovery_closed (session s line)) there
-      (sound.0, (λ e. absurd (false≢true e)), (λ e. absurd (false≢true e)))
-
-  holds_sound : (ch : Channel) (bs : List ℕ) → line < length s.lines → Holds line Keeps ch bs s
-  holds_sound ch bs there = record {
-    rejects = λ why m. sound;
-    opens = λ m. opens_sound ch there m;
-    asks = λ m reads e. asks_sound ch there m e;
-    closes = closes_sound ch there;
-  }
-
-  hears_sound : (ch : Channel) (bs : List ℕ) (t : Time) (spare : ℕ) (r : Result ℕ GatewayFault) (w : State)
-      (out : List ℕ) → Hears (λ u acts. w ≡ acted t acts u) (giving ch line bs t spare) s r out
-      → Sound (session w line)
-  hears_sound ch bs t spare r w out k = hears_makes line Keeps ch bs s sound t spare r w out (holds_sound ch bs) k
-
-  runs_before : (d : Option Download) → is_some (recovered s.venue.kept line d).1 ≡ true → is_some d ≡ true
-  runs_before None e = e
-  runs_before (Some d) e = refl
-
-  sends_sound : (r : Result ℕ GatewayFault) (w : State) (out : List ℕ) → Sends (λ u acts. w ≡ u) line s blank r out
-      → Sound (session w line)
-  sends_sound r w out k =
-      hands_makes line Keeps RealTime [] s sound (send_fault RealTime (length blank) line s)
-      (live_handed line s) blank r w out
-      (λ e. placed line Keeps s [] _ (sends_there RealTime line s e) sound) k
-
-  recovers_sound : (r : Result ℕ GatewayFault) (w : State) (out : List ℕ) → Recovers (λ u acts. w ≡ u) line s blank r out
-      → Sound (session w line)
-  recovers_sound r w out k =
-      hands_makes line Keeps Recovery [] s sound (send_fault Recovery (length blank) line s)
-      (recovery_handed line s) blank r w out
-      (λ e. placed line Keeps s [] _ (sends_there Recovery line s e)
-      (sound.0, sound.1, (λ f. sound.2 (runs_before (session s line).download f)))) k
-
--- the line is the call's, or its session is as it was
-by_line : (b : Bool) (c line : ℕ) (s : State) (d : Done) (w : State) → eqb line c ≡ b → line_of d ≡ Some line
-    → Turns s d w
-    → (Sound (session s line) → Sound (session w line)) → Sound (session s c) → Sound (session w c)
-by_line true c line s d w e f k keeps sound =
-    let same : line ≡ c = eqb-true line c e in
-    subst (λ (n : ℕ). Sound (session w n)) same (keeps (subst (λ (n : ℕ). Sound (session s n)) (sym same) sound))
-by_line false c line s d w e f k keeps sound =
-    subst Sound (sym (effect_other c s d w k (λ g. eqb-false line c e
-    (let z : ◌≡◌ {A = Option ℕ} (Some line) (Some c) = sym f ∙ g in cc)))) sound
-
-on_line : (c line : ℕ) (s : State) (d : Done) (w : State) → line_of d ≡ Some line → Turns s d w
-    → (Sound (session s line) → Sound (session w line)) → Sound (session s c) → Sound (session w c)
-on_line c line s d w f k keeps sound = by_line (eqb line c) c line s d w refl f k keeps sound
-
-on_none : (c : ℕ) (s : State) (d : Done) (w : State) → line_of d ≡ None → Turns s d w → Sound (session s c)
-    → Sound (session w c)
-on_none c s d w f k sound = subst Sound (sym (effect_other c s d w k (λ g. none-some c (sym f ∙ g)))) sound
-
-pub stays_sound : (c : ℕ) (s : State) (d : Done) (w : State) → Turns s d w → Sound (session s c) → Sound (session w c)
-stays_sound c s (done.RealTime line bs t r) w (spare, k) sound =
-    on_line c line s (done.RealTime line bs t r) w refl (spare, k)
-    (λ h. hears_sound line s h RealTime bs.now t spare r.answer w r.buffer k) sound
-stays_sound c s (done.Recovery line bs t r) w (spare, k) sound =
-    on_line c line s (done.Recovery line bs t r) w refl (spare, k)
-    (λ h. hears_sound line s h Recovery bs.now t spare r.answer w r.buffer k) sound
-stays_sound c s (done.Step t r) w k sound = on_none c s (done.Step t r) w refl k sound
-stays_sound c s (done.CancelTrade n t r) w k sound = on_none c s (done.CancelTrade n t r) w refl k sound
-stays_sound c s (done.LineLost line t r) w (spare, k) sound =
-    on_line c line s (done.LineLost line t r) w refl (spare, k)
-    (λ h. closing Sound line s t r w h (shut_sound line s h) k) sound
-stays_sound c s (done.Send line r) w (spare, k) sound =
-    on_line c line s (done.Send line r) w refl (spare, k) (λ h. sends_sound line s h r.answer w r.buffer k) sound
-stays_sound c s (done.SendRecovered line r) w (spare, k) sound =
-    on_line c line s (done.SendRecovered line r) w refl (spare, k)
-    (λ h. recovers_sound line s h r.answer w r.buffer k) sound

@@ -60,7 +60,7 @@ use Rattle.refusals.specs.declared.Turned.TheVariants.{NoPlace, UnknownInstrumen
 use Rattle.sessions.specs.Sessions.{on}
 use Rattle.sessions.specs.declared.session.Channel.{Channel}
 use Rattle.sessions.specs.declared.session.Channel.TheVariants.{RealTime, Recovery}
-use Rattle.sessions.specs.declared.session.SessionState.{SessionState}
+use Rattle.sessions.specs.declared.session.Session.{Session}
 use Rattle.terms.specs.Lifetime.{is_asked, lifetime_of}
 use Rattle.terms.specs.declared.lifetime.Lifetime.{Lifetime}
 use Rattle.texts.specs.Bytes.{said}
@@ -425,13 +425,13 @@ module _ (s : State) (line : ℕ) where
   asked_fits m (Err t) f = record { same = refl; acts = tt }
   asked_fits m (Ok acts) f = record { same = refl; acts = f }
 
-  admitted_fits : (may : Change → Type 0) (known : Bool) (r : Result SessionState LogonRefusal)
+  admitted_fits : (may : Change → Type 0) (known : Bool) (r : Result Session LogonRefusal)
       → Fitting may (answered (admitted known line s r))
   admitted_fits may known (Err e) = record { same = refl; acts = tt }
   admitted_fits may true (Ok x) = record { same = refl; acts = tt }
   admitted_fits may false (Ok x) = record { same = refl; acts = tt }
 
-  missed_fits : (may : Change → Type 0) (r : Result (SessionState × AckResponse) RequestRefusal)
+  missed_fits : (may : Change → Type 0) (r : Result (Session × AckResponse) RequestRefusal)
       (m : MissedMessageRequest) → Fitting may (missed_by r line m s)
   missed_fits may (Err e) m = record { same = refl; acts = tt }
   missed_fits may (Ok (x, a)) m = record { same = refl; acts = tt }

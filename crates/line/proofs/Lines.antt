@@ -22,14 +22,14 @@ use Rattle.sessions.specs.declared.session.Channel.{Channel}
 use Rattle.sessions.specs.declared.session.Channel.TheVariants.{RealTime, Recovery}
 use Rattle.refusals.specs.declared.LogonRefusal.{LogonRefusal}
 use Rattle.refusals.specs.declared.RequestRefusal.{RequestRefusal}
-use Rattle.sessions.specs.declared.session.SessionState.{SessionState}
+use Rattle.sessions.specs.declared.session.Session.{Session}
 use Rattle.texts.specs.declared.values.Time.{Time}
 use Rattle.wire.specs.declared.message.Message.{Message}
 use Rattle.wire.specs.declared.message.Message.TheVariants as message
 
 -- the sessions are as they were, but perhaps for one line's
 abbrev pub Set : ℕ → State → State → Type 0
-Set line s u = (u.lines ≡ s.lines) ⊎ ((x : SessionState) × (u.lines ≡ slice_set s.lines line x))
+Set line s u = (u.lines ≡ s.lines) ⊎ ((x : Session) × (u.lines ≡ slice_set s.lines line x))
 
 abbrev OutSet : ℕ → State → Outcome → Type 0
 OutSet line s o = Set line s o.changed
@@ -38,7 +38,7 @@ same_set : (line : ℕ) (s u w : State) → w.lines ≡ u.lines → Set line s u
 same_set line s u w e (inl f) = inl (e ∙ f)
 same_set line s u w e (inr (x, f)) = inr (x, e ∙ f)
 
-admitted_set : (known : Bool) (line : ℕ) (s : State) (r : Result SessionState LogonRefusal)
+admitted_set : (known : Bool) (line : ℕ) (s : State) (r : Result Session LogonRefusal)
     → Set line s (admitted known line s r).1
 admitted_set known line s (Err e) = inl refl
 admitted_set true line s (Ok x) = inr (x, refl)
@@ -48,7 +48,7 @@ asked_set : (line : ℕ) (m : Message) (s : State) (o : Decision) → OutSet lin
 asked_set line m s (Err t) = inl refl
 asked_set line m s (Ok acts) = inl refl
 
-missed_set : (r : Result (SessionState × AckResponse) RequestRefusal) (line : ℕ) (m : MissedMessageRequest) (s : State)
+missed_set : (r : Result (Session × AckResponse) RequestRefusal) (line : ℕ) (m : MissedMessageRequest) (s : State)
     → OutSet line s (missed_by r line m s)
 missed_set (Err e) line m s = inl refl
 missed_set (Ok (x, a)) line m s = inr (x, refl)
@@ -134,12 +134,12 @@ call_sets s (done.SendRecovered line r) w (spare, h) =
 -- ---- others stay
 
 at_other : (line : ℕ) (s w : State) (k : ℕ) → (k ≡ line → ⊥) → Set line s w → session w k ≡ session s k
-at_other line s w k ne (inl e) = ap (λ (l : List SessionState). slice_index_or l k fresh) e
+at_other line s w k ne (inl e) = ap (λ (l : List Session). slice_index_or l k fresh) e
 at_other line s w k ne (inr (x, e)) =
-    ap (λ (l : List SessionState). slice_index_or l k fresh) e ∙ get_or-set_other s.lines line k x fresh ne
+    ap (λ (l : List Session). slice_index_or l k fresh) e ∙ get_or-set_other s.lines line k x fresh ne
 
 on_others : (o : Option ℕ) (s w : State) (k : ℕ) → (o ≡ Some k → ⊥) → SetOn o s w → session w k ≡ session s k
-on_others None s w k ne e = ap (λ (l : List SessionState). slice_index_or l k fresh) e
+on_others None s w k ne e = ap (λ (l : List Session). slice_index_or l k fresh) e
 on_others (Some line) s w k ne f = at_other line s w k (λ e. ne (ap Some (sym e))) f
 
 pub lines_apart : LinesApart
