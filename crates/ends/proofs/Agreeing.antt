@@ -1,5 +1,5 @@
 -- That both ends agree after every log that the line allows. Assumes nothing.
-use Rattle.std.specs.Prelude.{slice_index_or, drop, fold, replicate, nat_lt, IfOk}
+use Rattle.std.specs.Prelude.{drop, fold, nat_lt, IfOk}
 use Rattle.std.specs.List.{list_any}
 use Rattle.std.specs.Str.{bytes_eq}
 use Rattle.std.proofs.Common.{◌≡◌, ◌≢◌, ◌⊎◌, inl, inr, ℕ, zero, suc, ◌<◌, ◌≤◌, max, Bool, true, false, cond, eqb, List, [], ◌∷◌, ◌++◌, Some, None, Ok, Err, Option, Result, length, take, refl, sym, ap, ◌∙◌, subst, arith}
@@ -42,7 +42,7 @@ use Rattle.follower.specs.declared.stage.Stage.TheVariants as stage
 use Rattle.gateway.specs.Calls.{send_fault, recovery_handed}
 use Rattle.gateway.specs.State.{State, session, fresh as fresh_state}
 use Rattle.limits.specs.declared.TheConstants.{ORDERS}
-use Rattle.line.proofs.Effects.{effect_realtime, effect_recovery, effect_lost, effect_send, effect_recover, effect_other, stays_sound}
+use Rattle.line.proofs.Effects.{effect_realtime, effect_recovery, effect_lost, effect_send, effect_recover, effect_other}
 use Rattle.line.proofs.Growing.{only_appends, Grows}
 use Rattle.line.proofs.Walking.{hands_by}
 use Rattle.line.specs.Laws.{line_of}
@@ -53,9 +53,9 @@ use Rattle.call.specs.declared.venue_side.Done.TheVariants as call
 use Rattle.call.specs.declared.venue_side.Reply.{Reply}
 use Rattle.partitions.specs.PerPartition.{at}
 use Rattle.partitions.specs.declared.per_partition.PerPartition.{PerPartition}
-use Rattle.sessions.specs.Sessions.{Sound as SoundSession, fresh as fresh_session}
+use Rattle.sessions.specs.Sessions.{download}
 use Rattle.sessions.specs.declared.session.Channel.TheVariants.{Recovery}
-use Rattle.sessions.specs.declared.session.SessionState.{SessionState}
+use Rattle.sessions.specs.declared.session.Session.{Session}
 use Rattle.venue.specs.Books.{Books, Sound}
 use Rattle.wire.specs.Kinds.{total_of}
 use Rattle.wire.specs.declared.kinds.Kind.TheVariants.{MissedMessageRequest as Request}
@@ -72,16 +72,12 @@ module _ (c : ℕ) (s : State) (d : Desk) (x : Line) (t : Taking) (k : Keeps c s
   grown : (v : VenueDone) → venue.Turns s v w → Grows s.venue.kept w.venue.kept
   grown v h = only_appends s v w h
 
-  layered : (v : VenueDone) → venue.Turns s v w → SoundSession (session w c)
-  layered v h = stays_sound c s v w h k.layered
-
   -- a call that is nothing to the line
   elsewhere : (v : VenueDone) → venue.Turns s v w → line_of v ≢ Some c → (x' : Line) → went x ≡ Ok x' → Keeps c w d x' t
   elsewhere v h ne x' ok =
       let e = effect_other c s v w h ne in
       subst (λ y. Keeps c w d y t) (same_ok x x' (Ok x) refl ok)
-      (quietly c s d x t k w (grown v h) sound few (layered v h)
-      (inl (ap (λ (z : SessionState). z.sent) e, ap (λ (z : SessionState). z.download) e)))
+      (quietly c s d x t k w (grown v h) sound few (inl (ap (λ (z : Session). z.sent) e, ap download e)))
 
   another : (line : ℕ) → eqb line c ≡ false → Some line ≢ Some c
   another line q e =
@@ -107,8 +103,8 @@ module _ (c : ℕ) (s : State) (d : Desk) (x : Line) (t : Taking) (k : Keeps c s
       by true q g =
           let h' : venue.Turns s (call.RealTime c m tm r) w = subst (λ i. venue.Turns s (call.RealTime i m tm r) w)
           (eqb-true line c q) h in
-          real_time c s d x t k w (grown (call.RealTime c m tm r) h') sound few (layered (call.RealTime c m tm r) h')
-          (bytes_of r) (effect_realtime c s m tm r w k.layered h') (bytes_eq (bytes_of r) accepted) refl x' g
+          real_time c s d x t k w (grown (call.RealTime c m tm r) h') sound few (bytes_of r)
+          (effect_realtime c s m tm r w h') (bytes_eq (bytes_of r) accepted) refl x' g
       by false q g = elsewhere (call.RealTime line m tm r) h (another line q) x' g
   venue_keeps (call.Recovery line m tm r) h told x' ok = by (eqb line c) refl ok
     where
@@ -117,8 +113,8 @@ module _ (c : ℕ) (s : State) (d : Desk) (x : Line) (t : Taking) (k : Keeps c s
       by true q g =
           let h' : venue.Turns s (call.Recovery c m tm r) w = subst (λ i. venue.Turns s (call.Recovery i m tm r) w)
           (eqb-true line c q) h in
-          recovery c s d x t k w (grown (call.Recovery c m tm r) h') sound few (layered (call.Recovery c m tm r) h')
-          (bytes_of r) m.now (effect_recovery c s m tm r w h') x' g
+          recovery c s d x t k w (grown (call.Recovery c m tm r) h') sound few (bytes_of r) m.now
+          (effect_recovery c s m tm r w h') x' g
       by false q g = elsewhere (call.Recovery line m tm r) h (another line q) x' g
   venue_keeps (call.Step tm r) h told x' ok = elsewhere (call.Step tm r) h (λ e. cc) x' ok
   venue_keeps (call.CancelTrade n tm r) h told x' ok = elsewhere (call.CancelTrade n tm r) h (λ e. cc) x' ok
@@ -129,8 +125,7 @@ module _ (c : ℕ) (s : State) (d : Desk) (x : Line) (t : Taking) (k : Keeps c s
           let h' : venue.Turns s (call.LineLost c tm r) w = subst (λ i. venue.Turns s (call.LineLost i tm r) w)
           (eqb-true line c q) h in
           subst (λ y. Keeps c w d y t) (same_ok x x' (Ok x) refl ok)
-          (quietly c s d x t k w (grown (call.LineLost c tm r) h') sound few (layered (call.LineLost c tm r) h')
-          (effect_lost c s tm r w h'))
+          (quietly c s d x t k w (grown (call.LineLost c tm r) h') sound few (effect_lost c s tm r w h'))
       by false q = elsewhere (call.LineLost line tm r) h (another line q) x' ok
   venue_keeps (call.Send line r) h told x' ok = by (eqb line c) refl ok
     where
@@ -142,7 +137,7 @@ module _ (c : ℕ) (s : State) (d : Desk) (x : Line) (t : Taking) (k : Keeps c s
           (eqb-true line c q) told in
           subst (λ y. Keeps c w d y t) (same_ok (record x { live = behind x.live (bytes_of r) }) x'
           (Ok (record x { live = behind x.live (bytes_of r) })) refl g)
-          (sends_on c s d x t k w (grown (call.Send c r) h') sound few (layered (call.Send c r) h') (bytes_of r)
+          (sends_on c s d x t k w (grown (call.Send c r) h') sound few (bytes_of r)
           (effect_send c s r w h') told')
       by false q g = elsewhere (call.Send line r) h (another line q) x' g
   venue_keeps (call.SendRecovered line r) h told x' ok = by (eqb line c) refl ok
@@ -157,7 +152,7 @@ module _ (c : ℕ) (s : State) (d : Desk) (x : Line) (t : Taking) (k : Keeps c s
           subst (λ y. Keeps c w d y t) (same_ok (record x { recovered = behind x.recovered (bytes_of r) }) x'
           (Ok (record x { recovered = behind x.recovered (bytes_of r) })) refl g)
           (recovers_on c s d x t k w (grown (call.SendRecovered c r) h') sound few
-          (layered (call.SendRecovered c r) h') (bytes_of r) (store_stays r h') (effect_recover c s r w h') told')
+          (bytes_of r) (store_stays r h') (effect_recover c s r w h') told')
       by false q g = elsewhere (call.SendRecovered line r) h (another line q) x' g
 
 -- ---- up and lost
@@ -188,7 +183,6 @@ module _ (c : ℕ) (s : State) (d : Desk) (x : Line) (t : Taking) (k : Keeps c s
   turned_keeps up x' e ph = record {
     up = e;
     quiet = stays_quiet.turns d.follower up;
-    layered = k.layered;
     placed = λ p. subst (λ z. (z ≡ 0) ⊎ (is_hers c s p z ≡ true)) (sym (turned_place up d.follower p)) (k.placed p);
     known = tallied_as c s.venue.kept d.follower.standings (place d) (place_in (turned up d.follower))
         (turned_place up d.follower) k.known;
@@ -295,12 +289,11 @@ module _ (c : ℕ) (s : State) (d : Desk) (x : Line) (t : Taking) (k : Keeps c s
   asked_for n p e back token m is =
       let fr = free_of n p e in
       let (r, u) = up_of c s.venue.kept (session s c) d.follower (place d) x t x.ready x.up (k.up ∙ fr.up) k.phase in
-      let st : Still (session s c).download x = subst
-      (λ g. Staged g c s.venue.kept (place d) u.b (session s c).download x) fr.idle u.staged in
+      let st : Still (download (session s c)) x = subst
+      (λ g. Staged g c s.venue.kept (place d) u.b (download (session s c)) x) fr.idle u.staged in
       record {
         up = k.up;
         quiet = quiet fr.up;
-        layered = k.layered;
         placed = k.placed;
         known = k.known;
         hers = k.hers;
@@ -478,11 +471,6 @@ log_keeps c (z ∷ xs) s d x t w e l k (u, f, does, tells, sound, few, tied, res
 
 -- ---- the start
 
-same_each : {A : Type 0} (n i : ℕ) (a : A) → slice_index_or (replicate n a) i a ≡ a
-same_each zero i a = refl
-same_each (suc n) zero a = refl
-same_each (suc n) (suc i) a = same_each n i a
-
 fresh_place : (p : Partition) → place fresh p ≡ 0
 fresh_place One = refl
 fresh_place Two = refl
@@ -492,8 +480,6 @@ pub begun : (c : ℕ) (ps : List Participant) (v : Books) → Keeps c (fresh_sta
 begun c ps v = record {
   up = refl;
   quiet = stays_quiet.begins;
-  layered = subst SoundSession (sym (same_each (length ps) c fresh_session))
-      (omega arith, λ e. absurd cc, λ e. absurd cc);
   placed = λ p. inl (fresh_place p);
   known = tallied_as c v.kept fresh.follower.standings (λ p. 0) (place fresh) fresh_place (begins c v.kept);
   hers = λ p n h. absurd h;

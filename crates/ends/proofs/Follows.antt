@@ -36,13 +36,13 @@ use Rattle.layout.specs.declared.fault.Fault.{Fault}
 use Rattle.limits.specs.declared.TheConstants.{ORDERS}
 use Rattle.partitions.specs.PerPartition.{at, with_at}
 use Rattle.partitions.specs.declared.per_partition.PerPartition.{PerPartition}
-use Rattle.sessions.specs.declared.session.SessionState.{SessionState}
+use Rattle.sessions.specs.declared.session.Session.{Session}
 use Rattle.store.specs.Kept.{Kept}
 use Rattle.venue.specs.Books.{Sound}
 
 -- ---- the phases of a connection
 
-module _ (c : ℕ) (k : Kept) (s : SessionState) (f : Following) (pl : Partition → ℕ) (x : Line) (t : Taking) where
+module _ (c : ℕ) (k : Kept) (s : Session) (f : Following) (pl : Partition → ℕ) (x : Line) (t : Taking) where
   pub up_of : (r u : Bool) → u ≡ true → Phase r u c k s f pl x t → (r ≡ false) × Up c k s f pl x t
   up_of false true e h = (refl, h)
   up_of true true e h = absurd h
@@ -188,7 +188,6 @@ module _ (c : ℕ) (s : State) (d : Desk) (x : Line) (t : Taking) (sound : Sound
       keeps = λ token. record {
         up = k.up;
         quiet = k.quiet;
-        layered = k.layered;
         placed = k.placed;
         known = k.known;
         hers = λ q i z. old q i z;
@@ -260,7 +259,6 @@ module _ (c : ℕ) (s : State) (d : Desk) (x : Line) (t : Taking) (sound : Sound
                   (or_one c s.venue.kept (session s c) t lost)) lx (record {
                     up = ap (λ (g : Following). g.up) (sym fell);
                     quiet = quiet;
-                    layered = k.layered;
                     placed = λ q. subst (λ (g : Following). (place_in g q ≡ 0) ⊎ (is_hers c s q (place_in g q) ≡ true))
                         (sym fell) (subst (λ z. (z ≡ 0) ⊎ (is_hers c s q z ≡ true)) (sym (turned_places q))
                         (k.placed q));
@@ -290,7 +288,6 @@ module _ (c : ℕ) (s : State) (d : Desk) (x : Line) (t : Taking) (sound : Sound
                   (or_one c s.venue.kept (session s c) t lost)) lx (record {
                     up = k.up ∙ sym same_up;
                     quiet = quiet;
-                    layered = k.layered;
                     placed = st.placed;
                     known = st.known;
                     hers = hers_on u.y w (lived f (Report p h));
@@ -368,7 +365,6 @@ module _ (c : ℕ) (s : State) (d : Desk) (x : Line) (t : Taking) (sound : Sound
     keeps = λ token. record {
       up = eu ∙ k.up ∙ sym same_up;
       quiet = quiet;
-      layered = k.layered;
       placed = st.placed;
       known = st.known;
       hers = λ p n h. by p n h;
@@ -412,7 +408,6 @@ module _ (c : ℕ) (s : State) (d : Desk) (x : Line) (t : Taking) (sound : Sound
     keeps = λ token. record {
       up = eu ∙ k.up;
       quiet = k.quiet;
-      layered = k.layered;
       placed = k.placed;
       known = k.known;
       hers = λ p n z. old_hers p n z;

@@ -42,7 +42,8 @@ use Rattle.partitions.proofs.Written.{at_written, by_partition, or_as_it_was}
 use Rattle.partitions.specs.PerPartition.{at, with_at}
 use Rattle.reports.specs.Tally.{is_of}
 use Rattle.reports.specs.declared.report.Entry.{Entry}
-use Rattle.sessions.specs.declared.session.SessionState.{SessionState}
+use Rattle.sessions.specs.Sessions.{download}
+use Rattle.sessions.specs.declared.session.Session.{Session}
 use Rattle.venue.specs.Books.{Books, Sound}
 use Rattle.venue.proofs.Recording.{same_self}
 
@@ -50,12 +51,12 @@ pub same_bytes : (a b : List ℕ) → bytes_eq a b ≡ true → a ≡ b
 same_bytes a b h = (bytes_eq-Decides a b).0 h
 
 -- both ends, as far as one connection goes
-pub record Stands (c : ℕ) (v : Books) (s : SessionState) (f : Following) (x : Line) (t : Taking) : Type 0 where
+pub record Stands (c : ℕ) (v : Books) (s : Session) (f : Following) (x : Line) (t : Taking) : Type 0 where
   pub known : Tallied c v.kept f.standings (place_in f)
   pub placed : Placed c v.kept (place_in f)
   pub up : Up c v.kept s f (place_in f) x t
 
-module _ (c : ℕ) (v : Books) (s : SessionState) (sound : Sound v) (few : length v.rows ≤ ORDERS) where
+module _ (c : ℕ) (v : Books) (s : Session) (sound : Sound v) (few : length v.rows ≤ ORDERS) where
   -- ---- the real-time channel
 
   -- what a live report answers and leaves: the hold was full, or all stands as before
@@ -149,7 +150,7 @@ module _ (c : ℕ) (v : Books) (s : SessionState) (sound : Sound v) (few : lengt
   -- all stands but for the download, what is asked, under way, and may come again
   with_stage : (f : Following) (x x' : Line) (t u : Taking) (g : Stage) (a : Stands c v s f x t) → x'.live ≡ x.live
       → ((q : Partition) (i : ℕ) → u q i → i ≤ max (place_in f q) (at a.up.y q))
-      → Staged g c v.kept (place_in f) a.up.b s.download x'
+      → Staged g c v.kept (place_in f) a.up.b (download s) x'
       → Stands c v s (record f { download = g }) x' (or_one c v.kept s t u)
   with_stage f x x' t u g a l took st =
       let fl = a.up.flowing in
@@ -179,11 +180,11 @@ module _ (c : ℕ) (v : Books) (s : SessionState) (sound : Sound v) (few : lengt
       (b : Brings c (at v.kept p) p n m) (only : Only c v.kept s p n u)
       (a : Stands c v s f x t) → f.download ≡ Running p → x.asked ≡ []
       → Repeats c (at v.kept p) p (place_in f p) x.again → is_of c (under (at v.kept p) n) ≡ true
-      → Loads c (at v.kept p) p (at a.up.b p) s.download n rest → n ≤ place_in f p
+      → Loads c (at v.kept p) p (at a.up.b p) (download s) n rest → n ≤ place_in f p
       → Stands c v s f (record x { recovered = rest; again = m ∷ x.again }) (or_one c v.kept s t u)
   loaded_of f x m rest t u p n b only a st k r is l le =
       with_stage f x (record x { recovered = rest; again = m ∷ x.again }) t u f.download a refl taken_at
-      (subst (λ g. Staged g c v.kept (place_in f) a.up.b s.download
+      (subst (λ g. Staged g c v.kept (place_in f) a.up.b (download s)
       (record x { recovered = rest; again = m ∷ x.again })) (sym st) (k, ((n, b, is, le), r), n, le, l))
     where
       taken_at : (q : Partition) (i : ℕ) → u q i → i ≤ max (place_in f q) (at a.up.y q)
@@ -199,7 +200,7 @@ module _ (c : ℕ) (v : Books) (s : SessionState) (sound : Sound v) (few : lengt
     -- and then one that it may not have reached
     recovered_there : (a : Stands c v s f x t) (z : ℕ) → f.download ≡ Running p → x.asked ≡ []
         → Repeats c (at v.kept p) p (place_in f p) x.again → z ≤ place_in f p → Next c (at v.kept p) z n
-        → Loads c (at v.kept p) p (at a.up.b p) s.download n rest
+        → Loads c (at v.kept p) p (at a.up.b p) (download s) n rest
         → (w : Bool) → leb n (place_in f p) ≡ w
         → Recovers f (cond w (answered recovered.Already f) (folded recovered.Folded f p (held n b.entry))) taken_line
         (or_one c v.kept s t u)
@@ -251,7 +252,7 @@ module _ (c : ℕ) (v : Books) (s : SessionState) (sound : Sound v) (few : lengt
     nothing_taken q i h = absurd (none q i h)
 
     -- the download is over, with nothing behind its end
-    over : x.asked ≡ [] → rest ≡ [] → s.download ≡ None
+    over : x.asked ≡ [] → rest ≡ [] → download s ≡ None
         → Stands c v s (no_download f) other_line (or_one c v.kept s t u)
     over k e o = with_stage f x other_line t u Idle a refl nothing_taken (k, e, refl, o)
 
@@ -268,7 +269,7 @@ module _ (c : ℕ) (v : Books) (s : SessionState) (sound : Sound v) (few : lengt
         by q = cc
 
     -- an Ack
-    ack_refused : (p : Partition) (r : AckResponse) → Refuses (Ok (Ack r)) → x.asked ≡ [] → rest ≡ [] → s.download
+    ack_refused : (p : Partition) (r : AckResponse) → Refuses (Ok (Ack r)) → x.asked ≡ [] → rest ≡ [] → download s
         ≡ None → Recovers f (acked_of f p r) other_line (or_one c v.kept s t u)
     ack_refused p Successful w k e o = absurd w
     ack_refused p LimitReached w k e o = (refl, refl, over k e o)
@@ -276,7 +277,7 @@ module _ (c : ℕ) (v : Books) (s : SessionState) (sound : Sound v) (few : lengt
     ack_refused p ServiceUnavailable w k e o = (refl, refl, over k e o)
 
     ack_granted : (p : Partition) (r : AckResponse) → r ≡ Successful → x.asked ≡ [] → (z : ℕ) → z ≤ place_in f p
-        → Loads c (at v.kept p) p (at a.up.b p) s.download z rest
+        → Loads c (at v.kept p) p (at a.up.b p) (download s) z rest
         → Recovers f (acked_of f p r) other_line (or_one c v.kept s t u)
     ack_granted p Successful e k z le l = (
       refl,
@@ -291,16 +292,16 @@ module _ (c : ℕ) (v : Books) (s : SessionState) (sound : Sound v) (few : lengt
     -- nothing of a download is at the front but its reports and its end
     not_of_download : {X : Type 0} (p : Partition) (z : ℕ) (h : Heard) → heard_in m ≡ Ok h
         → ((r : ReportResponse) → h ≡ End r → ⊥) → ((q : Partition) (i : NumberedReport) → h ≡ Report q i → ⊥)
-        → Loads c (at v.kept p) p (at a.up.b p) s.download z (m ∷ rest) → X
+        → Loads c (at v.kept p) p (at a.up.b p) (download s) z (m ∷ rest) → X
     not_of_download p z h g n1 n2 (inl (r, e, e1, e2, w)) = heard_apart m h (End r) g e (n1 r)
     not_of_download p z h g n1 n2 (inr (n, b, nx, w)) = heard_apart m h (Report p (held n b.entry)) g b.heard
         (n2 p (held n b.entry))
 
-    front_of : (p : Partition) (z : ℕ) → Loads c (at v.kept p) p (at a.up.b p) s.download z x.recovered
-        → Loads c (at v.kept p) p (at a.up.b p) s.download z (m ∷ rest)
-    front_of p z l = subst (λ q. Loads c (at v.kept p) p (at a.up.b p) s.download z q) front l
+    front_of : (p : Partition) (z : ℕ) → Loads c (at v.kept p) p (at a.up.b p) (download s) z x.recovered
+        → Loads c (at v.kept p) p (at a.up.b p) (download s) z (m ∷ rest)
+    front_of p z l = subst (λ q. Loads c (at v.kept p) p (at a.up.b p) (download s) z q) front l
 
-    pub acks : (g : Stage) → Staged g c v.kept (place_in f) a.up.b s.download x → (r : AckResponse) → heard_in m
+    pub acks : (g : Stage) → Staged g c v.kept (place_in f) a.up.b (download s) x → (r : AckResponse) → heard_in m
         ≡ Ok (Ack r) → Recovers f (acked f g r) other_line (or_one c v.kept s t u)
     acks Idle (k, e, ag, o) r h = no_front x m rest front e
     acks (Asked p) (ag, inl (z, k, rb, le, e, o)) r h = no_front x m rest front e
@@ -310,14 +311,14 @@ module _ (c : ℕ) (v : Books) (s : SessionState) (sound : Sound v) (few : lengt
     acks (Asked p) (ag, inr (inr (k, m', ms, e, h', z, le, l))) r h =
         ack_granted p r (inside (same_heard (Ack r) (Ack Successful) (heard_in m) h
         (ap heard_in (sym (head_is m' ms e)) ∙ h'))) k z le
-        (subst (λ q. Loads c (at v.kept p) p (at a.up.b p) s.download z q) (tail_is m' ms e) l)
+        (subst (λ q. Loads c (at v.kept p) p (at a.up.b p) (download s) z q) (tail_is m' ms e) l)
       where
         inside : {i j : AckResponse} → Ack i ≡ Ack j → i ≡ j
         inside q = cc
     acks (Running p) (k, r', z, le, l) r h = not_of_download p z (Ack r) h (λ i q. cc) (λ q i w. cc) (front_of p z l)
 
     -- a Reject
-    pub rejects : (g : Stage) → Staged g c v.kept (place_in f) a.up.b s.download x → heard_in m ≡ Ok Reject
+    pub rejects : (g : Stage) → Staged g c v.kept (place_in f) a.up.b (download s) x → heard_in m ≡ Ok Reject
         → Recovers f (rejected f g) other_line (or_one c v.kept s t u)
     rejects Idle (k, e, ag, o) h = no_front x m rest front e
     rejects (Asked p) (ag, inl (z, k, rb, le, e, o)) h = no_front x m rest front e
@@ -341,7 +342,7 @@ module _ (c : ℕ) (v : Books) (s : SessionState) (sound : Sound v) (few : lengt
     abbrev completed_side : ℕ → Side
     completed_side n = record { place = n; state = Level; hold = [] }
 
-    complete : (p : Partition) (z : ℕ) → x.asked ≡ [] → rest ≡ [] → s.download ≡ None → z ≤ place_in f p
+    complete : (p : Partition) (z : ℕ) → x.asked ≡ [] → rest ≡ [] → download s ≡ None → z ≤ place_in f p
         → Over c (at v.kept p) (at a.up.b p) z ending.Complete
         → Recovers f (completed f p) other_line (or_one c v.kept s t u)
     complete p z k e o zk (aim, covers, within, passed) =
@@ -389,7 +390,7 @@ module _ (c : ℕ) (v : Books) (s : SessionState) (sound : Sound v) (few : lengt
         taken g ups q i (inl h) = let w = a.up.flowing.taken q i h in let le = ups q in omega (arith, w, le)
         taken g ups q i (inr h) = absurd (none q i h)
 
-    ends_by : (p : Partition) (z : ℕ) (r : ReportResponse) → x.asked ≡ [] → rest ≡ [] → s.download ≡ None
+    ends_by : (p : Partition) (z : ℕ) (r : ReportResponse) → x.asked ≡ [] → rest ≡ [] → download s ≡ None
         → z ≤ place_in f p → Over c (at v.kept p) (at a.up.b p) z r
         → Recovers f (ended_of f p r) other_line (or_one c v.kept s t u)
     ends_by p z ending.Complete k e o zk w = complete p z k e o zk w
@@ -397,7 +398,7 @@ module _ (c : ℕ) (v : Books) (s : SessionState) (sound : Sound v) (few : lengt
     ends_by p z ending.ServiceUnavailable k e o zk w = (refl, refl, over k e o)
 
     ends_at : (p : Partition) (z : ℕ) (r : ReportResponse) → heard_in m ≡ Ok (End r) → x.asked ≡ [] → z ≤ place_in f p
-        → Loads c (at v.kept p) p (at a.up.b p) s.download z (m ∷ rest)
+        → Loads c (at v.kept p) p (at a.up.b p) (download s) z (m ∷ rest)
         → Recovers f (ended_of f p r) other_line (or_one c v.kept s t u)
     ends_at p z r h k zk (inl (r', h', e, o, w)) = ends_by p z r k e o zk
         (subst (λ i. Over c (at v.kept p) (at a.up.b p) z i) (inside (same_heard (End r') (End r) (heard_in m) h' h)) w)
@@ -406,7 +407,7 @@ module _ (c : ℕ) (v : Books) (s : SessionState) (sound : Sound v) (few : lengt
         inside q = cc
     ends_at p z r h k zk (inr (n, b, nx, w)) = heard_apart m (End r) (Report p (held n b.entry)) h b.heard (λ q. cc)
 
-    pub ends : (g : Stage) → Staged g c v.kept (place_in f) a.up.b s.download x → (r : ReportResponse) → heard_in m
+    pub ends : (g : Stage) → Staged g c v.kept (place_in f) a.up.b (download s) x → (r : ReportResponse) → heard_in m
         ≡ Ok (End r) → Recovers f (ended f g r) other_line (or_one c v.kept s t u)
     ends Idle (k, e, ag, o) r h = no_front x m rest front e
     ends (Asked p) (ag, inl (z, k, rb, le, e, o)) r h = no_front x m rest front e
@@ -472,7 +473,7 @@ module _ (c : ℕ) (v : Books) (s : SessionState) (sound : Sound v) (few : lengt
 
     -- the next under way
     pub reports : (rest : List (List ℕ)) → x.recovered ≡ m ∷ rest → (g : Stage) → f.download ≡ g
-        → Staged g c v.kept (place_in f) a.up.b s.download x
+        → Staged g c v.kept (place_in f) a.up.b (download s) x
         → Recovers f (reported f g q h) (record x { recovered = rest; again = m ∷ x.again }) (or_one c v.kept s t u)
         × HersIt
     reports rest front Idle st (k, e, ag, o) = no_front x m rest front e
@@ -489,9 +490,9 @@ module _ (c : ℕ) (v : Books) (s : SessionState) (sound : Sound v) (few : lengt
         head_of : {i j : List ℕ} {is js : List (List ℕ)} → i ∷ is ≡ j ∷ js → i ≡ j
         head_of e = cc
     reports rest front (Running p) st (k, r, z, zk, l) = by
-        (subst (λ y. Loads c (at v.kept p) p (at a.up.b p) s.download z y) front l)
+        (subst (λ y. Loads c (at v.kept p) p (at a.up.b p) (download s) z y) front l)
       where
-        by : Loads c (at v.kept p) p (at a.up.b p) s.download z (m ∷ rest)
+        by : Loads c (at v.kept p) p (at a.up.b p) (download s) z (m ∷ rest)
             → Recovers f (reported f (Running p) q h) (record x { recovered = rest; again = m ∷ x.again })
             (or_one c v.kept s t u) × HersIt
         by (inl (y, g, e1, e2, w)) = heard_apart m (Report q h) (End y) hd g (λ z. cc)
@@ -505,7 +506,7 @@ module _ (c : ℕ) (v : Books) (s : SessionState) (sound : Sound v) (few : lengt
 
     -- one that came before
     pub repeats : list_any (bytes_eq m) x.again ≡ true → (g : Stage) → f.download ≡ g
-        → Staged g c v.kept (place_in f) a.up.b s.download x → Recovers f (reported f g q h) x (or_one c v.kept s t u)
+        → Staged g c v.kept (place_in f) a.up.b (download s) x → Recovers f (reported f g q h) x (or_one c v.kept s t u)
         × HersIt
     repeats w Idle st (k, e, ag, o) = absurd (let z : list_any (bytes_eq m) []
         ≡ true = subst (λ y. list_any (bytes_eq m) y ≡ true) ag w in cc)
@@ -522,7 +523,7 @@ module _ (c : ℕ) (v : Books) (s : SessionState) (sound : Sound v) (few : lengt
                 refl,
                 refl,
                 with_stage f x x t u f.download a refl (taken n p o le)
-                    (subst (λ g. Staged g c v.kept (place_in f) a.up.b s.download x) (sym st) (k, r, z, zk, l)),
+                    (subst (λ g. Staged g c v.kept (place_in f) a.up.b (download s) x) (sym st) (k, r, z, zk, l)),
               )),
           hers_it p n i is,
         )

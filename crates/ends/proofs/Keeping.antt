@@ -31,8 +31,8 @@ use Rattle.reports.specs.Tally.{is_of}
 use Rattle.reports.specs.declared.report.Entry.{Entry}
 use Rattle.sessions.specs.Laws.{Grown}
 use Rattle.sessions.specs.declared.download.Download.{Download}
-use Rattle.sessions.specs.Sessions.{Sound as SoundSession}
-use Rattle.sessions.specs.declared.session.SessionState.{SessionState}
+use Rattle.sessions.specs.Sessions.{download}
+use Rattle.sessions.specs.declared.session.Session.{Session}
 use Rattle.store.specs.Kept.{Kept}
 use Rattle.venue.specs.Books.{Sound}
 
@@ -194,13 +194,13 @@ pub record Flowing (c : ℕ) (k : Kept) (sent : PerPartition ℕ) (place : Parti
   pub taken : (p : Partition) (n : ℕ) → t p n → n ≤ max (place p) (at y p)
 
 -- a connection that the follower is not up on yet
-pub record Ready (c : ℕ) (k : Kept) (s : SessionState) (place : Partition → ℕ) (x : Line) (t : Taking) : Type 0 where
+pub record Ready (c : ℕ) (k : Kept) (s : Session) (place : Partition → ℕ) (x : Line) (t : Taking) : Type 0 where
   pub y : PerPartition ℕ
   pub flowing : Flowing c k s.sent place x t y
-  pub still : Still s.download x
+  pub still : Still (download s) x
 
 -- one that it is up on
-pub record Up (c : ℕ) (k : Kept) (s : SessionState) (f : Following) (place : Partition → ℕ) (x : Line)
+pub record Up (c : ℕ) (k : Kept) (s : Session) (f : Following) (place : Partition → ℕ) (x : Line)
     (t : Taking) : Type 0 where
   pub y : PerPartition ℕ
   -- the marks as they were at the up
@@ -208,10 +208,10 @@ pub record Up (c : ℕ) (k : Kept) (s : SessionState) (f : Following) (place : P
   pub flowing : Flowing c k s.sent place x t y
   pub bases : (p : Partition) → at b p ≤ length (at k p)
   pub sides : (p : Partition) → Sided c (at k p) (at f.sides p) (at y p) (at b p)
-  pub staged : Staged f.download c k place b s.download x
+  pub staged : Staged f.download c k place b (download s) x
 
 -- by whether a connection is ready, and whether the follower is up
-abbrev pub Phase : Bool → Bool → ℕ → Kept → SessionState → Following → (Partition → ℕ) → Line → Taking → Type 0
+abbrev pub Phase : Bool → Bool → ℕ → Kept → Session → Following → (Partition → ℕ) → Line → Taking → Type 0
 Phase false false c k s f place x t = Unit {0}
 Phase true false c k s f place x t = Ready c k s place x t
 Phase false true c k s f place x t = Up c k s f place x t
@@ -220,7 +220,6 @@ Phase true true c k s f place x t = ⊥
 pub record Keeps (c : ℕ) (s : State) (d : Desk) (x : Line) (t : Taking) : Type 0 where
   pub up : x.up ≡ d.follower.up
   pub quiet : Quiet d.follower
-  pub layered : SoundSession (session s c)
   pub placed : (p : Partition) → (place d p ≡ 0) ⊎ (is_hers c s p (place d p) ≡ true)
   pub known : Tallied c s.venue.kept d.follower.standings (place d)
   pub hers : (p : Partition) (n : ℕ) → t p n → is_hers c s p n ≡ true
@@ -235,7 +234,6 @@ pub keeps_taken : (c : ℕ) (s : State) (d : Desk) (x : Line) (t t' : Taking) (t
 keeps_taken c s d x t t' token less k = record {
   up = k.up;
   quiet = k.quiet;
-  layered = k.layered;
   placed = k.placed;
   known = k.known;
   hers = λ p n h. k.hers p n (less p n h);

@@ -27,7 +27,8 @@ use Rattle.reports.specs.Tally.{is_of, tally_to}
 use Rattle.reports.specs.Told.{told_of}
 use Rattle.reports.specs.declared.report.Entry.{Entry}
 use Rattle.reports.specs.declared.standings.FoldRefusal.{FoldRefusal}
-use Rattle.sessions.specs.declared.session.SessionState.{SessionState}
+use Rattle.sessions.specs.Sessions.{download}
+use Rattle.sessions.specs.declared.session.Session.{Session}
 use Rattle.std.specs.FinMap.{get}
 use Rattle.store.specs.Kept.{Kept}
 use Rattle.venue.specs.Books.{Books, Sound}
@@ -100,7 +101,7 @@ module _ (c : ℕ) (v : Books) (sound : Sound v) (few : length v.rows ≤ ORDERS
 
 -- ---- a fold moves nothing else
 
-module _ (c : ℕ) (k : Kept) (s : SessionState) where
+module _ (c : ℕ) (k : Kept) (s : Session) where
   pub places_up : (f : Following) (p : Partition) (n : ℕ) (w : Knowledge) → place_in f p ≤ n → (q : Partition)
       → place_in f q ≤ place_in (after_fold f p n w) q
   places_up f p n w le = or_as_it_was (λ q y. place_in f q ≤ y.place) f.sides p (to_place f p n) le (λ q. omega arith)
@@ -129,7 +130,7 @@ module _ (c : ℕ) (k : Kept) (s : SessionState) where
             or_as_it_was (λ q z. Sided c (at k q) z (at u.y q) (at u.b q)) f.sides p (to_place f p n)
             (sided_moved (at f.sides p).state (at k p) (at f.sides p) n (at u.y p) (at u.b p) le (u.sides p))
             u.sides;
-        staged = staged_up f.download c k (place_in f) (place_in (after_fold f p n w)) u.b s.download x up u.staged;
+        staged = staged_up f.download c k (place_in f) (place_in (after_fold f p n w)) u.b (download s) x up u.staged;
       }
 
   -- ---- the next report under way comes
@@ -185,7 +186,7 @@ module _ (c : ℕ) (k : Kept) (s : SessionState) where
         or_as_it_was (λ q z. Sided c (at k q) (at f.sides q) z (at a.b q)) a.y p n
         (sided_popped (at f.sides p).state (at k p) (at f.sides p) (at a.y p) (at a.b p) n le (a.sides p))
         a.sides;
-    staged = staged_live f.download c k (place_in f) a.b s.download x rest a.staged;
+    staged = staged_live f.download c k (place_in f) a.b (download s) x rest a.staged;
   }
 
   other_mark : (y : PerPartition ℕ) (p : Partition) (n : ℕ) (q : Partition) → p ≢ q → at (with_at y p n) q ≡ at y q
@@ -238,8 +239,8 @@ module _ (c : ℕ) (k : Kept) (s : SessionState) where
             (λ q ne. subst (λ z. Sided c (at k q) (at f.sides q) z (at a.b q)) (sym (other_mark a.y p n q ne))
             (a.sides q));
         staged =
-            staged_live f.download c k (place_in g) a.b s.download x rest
-            (staged_up f.download c k (place_in f) (place_in g) a.b s.download x
+            staged_live f.download c k (place_in g) a.b (download s) x rest
+            (staged_up f.download c k (place_in f) (place_in g) a.b (download s) x
             (λ q. let z : place_in g q ≡ place_in f q = same q in omega (arith, z)) a.staged);
       }
 

@@ -46,7 +46,7 @@ use Rattle.reports.specs.Tally.{is_of}
 use Rattle.reports.specs.declared.report.Entry.{Entry}
 use Rattle.sessions.specs.Downloads.{begun, recovered, handed_out, remaining}
 use Rattle.sessions.specs.Sending.{next_to_send, sent_after}
-use Rattle.sessions.specs.Sessions.{Sound as SoundSession}
+use Rattle.sessions.specs.Sessions.{download}
 use Rattle.sessions.specs.declared.download.Download.{Download}
 use Rattle.sessions.specs.declared.download.Handed.{Handed}
 use Rattle.sessions.specs.declared.download.Handed.TheVariants as handed
@@ -74,8 +74,7 @@ brought c l p n t told =
 -- ---- what does not depend on the call
 
 module _ (c : ℕ) (s : State) (d : Desk) (x : Line) (t : Taking) (k : Keeps c s d x t) (w : State)
-    (g : Grows s.venue.kept w.venue.kept) (sound : Sound w.venue) (few : length w.venue.rows ≤ ORDERS)
-    (layered : SoundSession (session w c)) where
+    (g : Grows s.venue.kept w.venue.kept) (sound : Sound w.venue) (few : length w.venue.rows ≤ ORDERS) where
   abbrev f : Following
   f = d.follower
 
@@ -103,7 +102,6 @@ module _ (c : ℕ) (s : State) (d : Desk) (x : Line) (t : Taking) (k : Keeps c s
   keeps_on x' e ph = record {
     up = e ∙ k.up;
     quiet = k.quiet;
-    layered = layered;
     placed = placed_on;
     known = grows c old new f.standings (place d) g place_within k.known;
     hers = λ p n h. hers_grown c (at old p) (at new p) n (g p) (k.hers p n h);
@@ -126,8 +124,8 @@ module _ (c : ℕ) (s : State) (d : Desk) (x : Line) (t : Taking) (k : Keeps c s
   -- so does the rest, but for the recovery channel
   up_on : (x' : Line) → (session w c).sent ≡ (session s c).sent → x'.live ≡ x.live
       → ((b : PerPartition ℕ) → ((p : Partition) → at b p ≤ length (at old p))
-      → Staged f.download c new (place d) b (session s c).download x
-      → Staged f.download c new (place d) b (session w c).download x')
+      → Staged f.download c new (place d) b (download (session s c)) x
+      → Staged f.download c new (place d) b (download (session w c)) x')
       → Up c old (session s c) f (place d) x t → Up c new (session w c) f (place d) x' t
   up_on x' e l st u = record {
     y = u.y;
@@ -136,11 +134,11 @@ module _ (c : ℕ) (s : State) (d : Desk) (x : Line) (t : Taking) (k : Keeps c s
     bases = λ p. let a = u.bases p in let b = longer (at old p) (at new p) (g p) in omega (arith, a, b);
     sides = λ p. sided_grown c (at old p) (at new p) (at f.sides p) (at u.y p) (at u.b p) (g p) (u.flowing.within p)
         (u.sides p);
-    staged = st u.b u.bases (staged_grown f.download c old new (place d) u.b (session s c).download x g u.staged);
+    staged = st u.b u.bases (staged_grown f.download c old new (place d) u.b (download (session s c)) x g u.staged);
   }
 
   ready_on : (x' : Line) → (session w c).sent ≡ (session s c).sent → x'.live ≡ x.live
-      → (Still (session s c).download x → Still (session w c).download x') → Ready c old (session s c) (place d) x t
+      → (Still (download (session s c)) x → Still (download (session w c)) x') → Ready c old (session s c) (place d) x t
       → Ready c new (session w c) (place d) x' t
   ready_on x' e l st r = record {
     y = r.y;
@@ -173,9 +171,9 @@ module _ (c : ℕ) (s : State) (d : Desk) (x : Line) (t : Taking) (k : Keeps c s
       goes_on x refl refl
       (ready_on x es refl (λ st. still_none st))
       (up_on x es refl (λ b bases st. subst (λ o. Staged f.download c new (place d) b o x) (sym ed)
-      (staged_cut f.download c new (place d) b (session s c).download x st)))
+      (staged_cut f.download c new (place d) b (download (session s c)) x st)))
     where
-      still_none : Still (session s c).download x → Still (session w c).download x
+      still_none : Still (download (session s c)) x → Still (download (session w c)) x
       still_none (a, r, ag, e) = (a, r, ag, ed)
 
   -- ---- a Logon is accepted
@@ -254,7 +252,7 @@ module _ (c : ℕ) (s : State) (d : Desk) (x : Line) (t : Taking) (k : Keeps c s
   }
 
   -- by what was sent, one thing under way live more or none
-  goes_live : (ms : List (List ℕ)) → (session w c).download ≡ (session s c).download
+  goes_live : (ms : List (List ℕ)) → download (session w c) ≡ download (session s c)
       → ((y : PerPartition ℕ) → Flowing c old (session s c).sent (place d) x t y
       → Flowing c new (session w c).sent (place d) (record x { live = ms }) t y)
       → Keeps c w d (record x { live = ms }) t
@@ -273,15 +271,15 @@ module _ (c : ℕ) (s : State) (d : Desk) (x : Line) (t : Taking) (k : Keeps c s
         bases = λ p. let a = u.bases p in let b = longer (at old p) (at new p) (g p) in omega (arith, a, b);
         sides = λ p. sided_grown c (at old p) (at new p) (at f.sides p) (at u.y p) (at u.b p) (g p)
             (u.flowing.within p) (u.sides p);
-        staged = staged_live f.download c new (place d) u.b (session w c).download x ms
+        staged = staged_live f.download c new (place d) u.b (download (session w c)) x ms
             (subst (λ o. Staged f.download c new (place d) u.b o x) (sym ed)
-            (staged_grown f.download c old new (place d) u.b (session s c).download x g u.staged));
+            (staged_grown f.download c old new (place d) u.b (download (session s c)) x g u.staged));
       }
 
   sends_by : (o : Option (Partition × ℕ)) (sent' : PerPartition ℕ) (bytes : List ℕ)
       → ((y : PerPartition ℕ) → Flowing c old (session s c).sent (place d) x t y
       → SentBy c old (session s c).sent sent' o)
-      → bytes ≡ sent_bytes old o → (session w c).sent ≡ sent' → (session w c).download ≡ (session s c).download
+      → bytes ≡ sent_bytes old o → (session w c).sent ≡ sent' → download (session w c) ≡ download (session s c)
       → SentTold old o
       → Keeps c w d (record x { live = behind x.live bytes }) t
   sends_by None sent' bytes by e es ed told =
@@ -327,10 +325,10 @@ module _ (c : ℕ) (s : State) (d : Desk) (x : Line) (t : Taking) (k : Keeps c s
 
   -- what is under way there and asked changes alone
   goes_recovered : (rec ask : List (List ℕ)) → (session w c).sent ≡ (session s c).sent
-      → (Still (session s c).download x → Still (session w c).download (record x { recovered = rec; asked = ask }))
+      → (Still (download (session s c)) x → Still (download (session w c)) (record x { recovered = rec; asked = ask }))
       → ((b : PerPartition ℕ) → ((p : Partition) → at b p ≤ length (at old p))
-      → Staged f.download c new (place d) b (session s c).download x
-      → Staged f.download c new (place d) b (session w c).download (record x { recovered = rec; asked = ask }))
+      → Staged f.download c new (place d) b (download (session s c)) x
+      → Staged f.download c new (place d) b (download (session w c)) (record x { recovered = rec; asked = ask }))
       → Keeps c w d (record x { recovered = rec; asked = ask }) t
   goes_recovered rec ask es still staged =
       goes_on (record x { recovered = rec; asked = ask }) refl refl
@@ -351,16 +349,16 @@ module _ (c : ℕ) (s : State) (d : Desk) (x : Line) (t : Taking) (k : Keeps c s
     -- what the answer makes of a request that waits
     abbrev pub Answers : Type 0
     Answers =
-        (p : Partition) (b : ℕ) → b ≤ length (at old p) → Waits p (place d p) (session s c).download x
-        → AskedAs c (at new p) p b (place d p) (session w c).download answer_line
+        (p : Partition) (b : ℕ) → b ≤ length (at old p) → Waits p (place d p) (download (session s c)) x
+        → AskedAs c (at new p) p b (place d p) (download (session w c)) answer_line
 
     request_answered : (session w c).sent ≡ (session s c).sent → Answers → Keeps c w d answer_line t
     request_answered es ans = goes_recovered (x.recovered ++ reply ∷ []) rest es
         (λ st. no_asked m rest front st.0) staged
       where
         by : (g : Stage) (b : PerPartition ℕ) → ((p : Partition) → at b p ≤ length (at old p))
-            → Staged g c new (place d) b (session s c).download x
-            → Staged g c new (place d) b (session w c).download answer_line
+            → Staged g c new (place d) b (download (session s c)) x
+            → Staged g c new (place d) b (download (session w c)) answer_line
         by Idle b bases st = no_asked m rest front st.0
         by (Asked p) b bases (ag, inl h) = (ag, ans p (at b p) (bases p) h)
         by (Asked p) b bases (ag, inr (inl (k', o, h))) = no_asked m rest front k'
@@ -368,8 +366,8 @@ module _ (c : ℕ) (s : State) (d : Desk) (x : Line) (t : Taking) (k : Keeps c s
         by (Running p) b bases (k', r, z, zk, l) = no_asked m rest front k'
 
         staged : (b : PerPartition ℕ) → ((p : Partition) → at b p ≤ length (at old p))
-            → Staged f.download c new (place d) b (session s c).download x
-            → Staged f.download c new (place d) b (session w c).download answer_line
+            → Staged f.download c new (place d) b (download (session s c)) x
+            → Staged f.download c new (place d) b (download (session w c)) answer_line
         staged b bases st = by f.download b bases st
 
     reply_alone : x.recovered ≡ [] → x.recovered ++ reply ∷ [] ≡ reply ∷ []
@@ -387,8 +385,8 @@ module _ (c : ℕ) (s : State) (d : Desk) (x : Line) (t : Taking) (k : Keeps c s
         sent_same (inl (a, b)) = a
         sent_same (inr (a, b)) = a
 
-        none_after : Stays (session s c) (session w c) ⊎ Closes (session s c) (session w c) → (session s c).download
-            ≡ None → (session w c).download ≡ None
+        none_after : Stays (session s c) (session w c) ⊎ Closes (session s c) (session w c) → download (session s c)
+            ≡ None → download (session w c) ≡ None
         none_after (inl (a, b)) o = b ∙ o
         none_after (inr (a, b)) o = b
 
@@ -401,7 +399,7 @@ module _ (c : ℕ) (s : State) (d : Desk) (x : Line) (t : Taking) (k : Keeps c s
     granted : (b' : MissedMessageRequest) (q : Partition) → Reads reader.Recovery m (message.MissedMessageRequest b')
         → partition_of b'.partition ≡ Some q → heard_in reply ≡ Ok (Ack Successful) → (session w c).sent
         ≡ (session s c).sent
-        → (session w c).download ≡ Some (begun q b'.last.value (length (at old q))) → Keeps c w d answer_line t
+        → download (session w c) ≡ Some (begun q b'.last.value (length (at old q))) → Keeps c w d answer_line t
     granted i q reads is hd es ed = request_answered es ans
       where
         ans : Answers
@@ -506,16 +504,16 @@ module _ (c : ℕ) (s : State) (d : Desk) (x : Line) (t : Taking) (k : Keeps c s
 
   -- the download that is under way goes on
   abbrev Loading : List (List ℕ) → Type 0
-  Loading ms = (p : Partition) (b z : ℕ) (rec : List (List ℕ)) → Loads c (at new p) p b (session s c).download z rec
-      → Loads c (at new p) p b (session w c).download z (rec ++ ms)
+  Loading ms = (p : Partition) (b z : ℕ) (rec : List (List ℕ)) → Loads c (at new p) p b (download (session s c)) z rec
+      → Loads c (at new p) p b (download (session w c)) z (rec ++ ms)
 
-  loads_live : (rec ms : List (List ℕ)) → (session s c).download ≢ None → (session w c).sent ≡ (session s c).sent
+  loads_live : (rec ms : List (List ℕ)) → download (session s c) ≢ None → (session w c).sent ≡ (session s c).sent
       → Loading ms → x.recovered ≡ rec → Keeps c w d (record x { recovered = rec ++ ms; asked = x.asked }) t
   loads_live rec ms some es ld er = goes_recovered (rec ++ ms) x.asked es (λ st. absurd (some st.3))
       (λ b bases st. by f.download b st)
     where
-      by : (g : Stage) (b : PerPartition ℕ) → Staged g c new (place d) b (session s c).download x
-          → Staged g c new (place d) b (session w c).download (record x { recovered = rec ++ ms; asked = x.asked })
+      by : (g : Stage) (b : PerPartition ℕ) → Staged g c new (place d) b (download (session s c)) x
+          → Staged g c new (place d) b (download (session w c)) (record x { recovered = rec ++ ms; asked = x.asked })
       by Idle b (a, r, ag, o) = absurd (some o)
       by (Asked p) b (ag, inl (z, e, back, le, ra, o)) = absurd (some o)
       by (Asked p) b (ag, inr (inl (k', o, h))) = absurd (some o)
@@ -530,12 +528,12 @@ module _ (c : ℕ) (s : State) (d : Desk) (x : Line) (t : Taking) (k : Keeps c s
         z,
         zk,
         ld p (at b p) z rec
-            (subst (λ y. Loads c (at new p) p (at b p) (session s c).download z y) er l),
+            (subst (λ y. Loads c (at new p) p (at b p) (download (session s c)) z y) er l),
       )
 
   -- by what it hands out, from a store that stays
-  handed_on : (q : Download) (r : Handed × Option Download) → (session s c).download ≡ Some q
-      → HandedBy c (at new q.partition) q r → (session w c).sent ≡ (session s c).sent → (session w c).download ≡ r.1
+  handed_on : (q : Download) (r : Handed × Option Download) → download (session s c) ≡ Some q
+      → HandedBy c (at new q.partition) q r → (session w c).sent ≡ (session s c).sent → download (session w c) ≡ r.1
       → RecoveredTold new (Some r.0)
       → Keeps c w d (record x { recovered = behind x.recovered (recovered_bytes new (Some r.0)) }) t
   handed_on q (handed.Report p n, None) e h es ed told = absurd h
@@ -545,7 +543,7 @@ module _ (c : ℕ) (s : State) (d : Desk) (x : Line) (t : Taking) (k : Keeps c s
       (sym (behind_some x.recovered (end_bytes r) (End r) (end_heard r)))
       (loads_live x.recovered (end_bytes r ∷ []) none es ld refl)
     where
-      none : (session s c).download ≡ None → ⊥
+      none : download (session s c) ≡ None → ⊥
       none z = let y : Some q ≡ None = sym e ∙ z in cc
 
       ld : Loading (end_bytes r ∷ [])
@@ -564,7 +562,7 @@ module _ (c : ℕ) (s : State) (d : Desk) (x : Line) (t : Taking) (k : Keeps c s
       m : List ℕ
       m = entry_bytes p n (under (at new p) n)
 
-      none : (session s c).download ≡ None → ⊥
+      none : download (session s c) ≡ None → ⊥
       none z = let y : Some q ≡ None = sym e ∙ z in cc
 
       ld : Brings c (at new p) p n m → Loading (m ∷ [])
@@ -577,8 +575,8 @@ module _ (c : ℕ) (s : State) (d : Desk) (x : Line) (t : Taking) (k : Keeps c s
           (subst (λ v. Brings c (at new v) v n m) here b) l')
 
   -- nothing runs, or a download
-  hands_on : (o : Option Download) → (session s c).download ≡ o → (session w c).sent ≡ (session s c).sent
-      → (session w c).download ≡ (recovered new c o).1 → RecoveredTold new (recovered new c o).0
+  hands_on : (o : Option Download) → download (session s c) ≡ o → (session w c).sent ≡ (session s c).sent
+      → download (session w c) ≡ (recovered new c o).1 → RecoveredTold new (recovered new c o).0
       → Keeps c w d (record x { recovered = behind x.recovered (recovered_bytes new (recovered new c o).0) }) t
   hands_on None e es ed told = quietly (inr (es, ed))
   hands_on (Some q) e es ed told = handed_on q (handed_out q (remaining (at new q.partition) c q)) e
@@ -589,7 +587,7 @@ module _ (c : ℕ) (s : State) (d : Desk) (x : Line) (t : Taking) (k : Keeps c s
   recovers_on bytes same (inl (e, h)) told = subst (λ z. Keeps c w d (record x { recovered = behind x.recovered z }) t)
       (sym e) (quietly (inl h))
   recovers_on bytes same (inr (e, es, ed, fault)) told =
-      let o = (session s c).download in
+      let o = download (session s c) in
       subst (λ z. Keeps c w d (record x { recovered = behind x.recovered z }) t)
       (sym (e ∙ ap (λ k. recovered_bytes k (recovered k c o).0) (sym same)))
       (hands_on o refl es (ed ∙ ap (λ k. (recovered k c o).1) (sym same))
