@@ -1,17 +1,16 @@
 -- What a request for orders gets, as the gateway's answer. Assumes nothing.
-use Rattle.std.proofs.Common.{◌≡◌, List, None, Ok, Err, Result, refl, sym, ap, ◌∙◌, subst, arith}
+use Rattle.std.proofs.Common.{◌≡◌, None, Ok, Err, Result, refl, sym, ap, ◌∙◌, subst, arith}
 use Rattle.std.specs.Result.{result_err}
 use Rattle.keyed.proofs.Under.{none-some}
 use Rattle.answers.specs.declared.answer.Answer.{Answer}
 use Rattle.answers.specs.declared.answer.Answer.TheVariants.{Silent}
-use Rattle.answers.specs.declared.answer.Reason.TheVariants as reason
-use Rattle.gateway.specs.Hearing.{Took, answer_for, requested_as, rejection}
+use Rattle.gateway.specs.Hearing.{Took, answer_for, requested_as}
 use Rattle.gateway.specs.State.{State, venue_of, with_venue}
 use Rattle.matching.specs.Asked.{Asked, Asks}
 use Rattle.requests.specs.Deciding.{Decision, Does}
 use Rattle.refusals.specs.declared.Turned.{Turned}
 use Rattle.texts.specs.declared.values.Time.{Time}
-use Rattle.venue.specs.Acts.{Act, all_told, asked_all}
+use Rattle.venue.specs.Acts.{all_told, asked_all}
 use Rattle.venue.specs.Books.{Books, Over}
 use Rattle.venue.specs.Ledger.{Uses}
 use Rattle.wire.specs.declared.message.Message.{Message}

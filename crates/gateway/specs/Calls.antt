@@ -25,7 +25,6 @@ use Rattle.sessions.specs.declared.download.Handed.TheVariants.{Report, Ended}
 use Rattle.sessions.specs.declared.session.Channel.{Channel}
 use Rattle.sessions.specs.declared.session.Channel.TheVariants.{RealTime, Recovery}
 use Rattle.store.specs.Kept.{Kept}
-use Rattle.texts.specs.declared.values.Time.{Time}
 use Rattle.matching.specs.Meaning.{Allowed}
 use Rattle.matching.specs.declared.event.Event.{Event}
 use Rattle.venue.specs.Acts.{Act, Take, Void, step_of}

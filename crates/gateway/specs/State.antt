@@ -1,5 +1,5 @@
 -- What a gateway keeps. Assumes nothing.
-use Rattle.std.specs.Prelude.{◌≡◌, ℕ, List, length, replicate, slice_index_or, slice_set}
+use Rattle.std.specs.Prelude.{ℕ, List, length, replicate, slice_index_or, slice_set}
 use Rattle.codes.specs.declared.session.Partition.TheVariants.{One, Two, Three}
 use Rattle.configuration.specs.declared.participant.Participant.{Participant}
 use Rattle.partitions.specs.PerPartition.{at}
