@@ -2,33 +2,35 @@
 use crate::venue_side::{Call as VenueCall, Done as VenueDone};
 use follower::answer::{Live, Recovered};
 use follower::fault::FollowerFault;
-use wire::message::BUFFER;
 
-/// A call: one of the gateway's seven, or one of the follower's five, with what is passed.
-#[derive(Clone, Copy)]
-pub enum Call<'a> {
-    Venue(VenueCall<'a>),
+/// A call: one of the gateway's seven, or one of the follower's five, with what is passed; a request is written to the
+/// caller's buffer, of any length and content.
+#[derive(Drop)]
+pub enum Call {
+    Venue(VenueCall),
     Up,
-    Live(&'a [u8]),
-    Ask(u8),
-    Recovered(&'a [u8]),
+    Live(Vec<u8>),
+    Ask(u8, Vec<u8>),
+    Recovered(Vec<u8>),
     Lost,
 }
 
-/// What an asked request left: how many bytes, and the buffer that they stand at the front of.
-#[derive(Clone, Copy)]
+/// What an asked request left: its answer, which says how many bytes stand at the front of the buffer, and the buffer as
+/// it was passed and as it then is.
+#[derive(Drop)]
 pub struct Asked {
     pub answer: Result<usize, FollowerFault>,
-    pub buffer: [u8; BUFFER],
+    pub before: Vec<u8>,
+    pub after: Vec<u8>,
 }
 
 /// A call that was made, with what came back.
-#[derive(Clone, Copy)]
-pub enum Done<'a> {
-    Venue(VenueDone<'a>),
+#[derive(Drop)]
+pub enum Done {
+    Venue(VenueDone),
     Up,
-    Live(&'a [u8], Result<Live, FollowerFault>),
+    Live(Vec<u8>, Result<Live, FollowerFault>),
     Ask(u8, Asked),
-    Recovered(&'a [u8], Result<Recovered, FollowerFault>),
+    Recovered(Vec<u8>, Result<Recovered, FollowerFault>),
     Lost,
 }

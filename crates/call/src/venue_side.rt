@@ -2,32 +2,34 @@
 use gateway::fault::GatewayFault;
 use texts::values::Time;
 use venue::step::Step;
-use wire::message::BUFFER;
 
-/// A call of a gateway, with what is passed. A line is named by its place.
-#[derive(Clone, Copy)]
-pub enum Call<'a> {
-    RealTime(usize, &'a [u8], Time),
-    Recovery(usize, &'a [u8], Time),
+/// A call of a gateway, with what is passed; last, where something is written, the caller's buffer, of any length and
+/// content. A line is named by its place.
+#[derive(Drop)]
+pub enum Call {
+    RealTime(usize, Vec<u8>, Time, Vec<u8>),
+    Recovery(usize, Vec<u8>, Time, Vec<u8>),
     Step(Time),
     CancelTrade(u64, Time),
     LineLost(usize, Time),
-    Send(usize),
-    SendRecovered(usize),
+    Send(usize, Vec<u8>),
+    SendRecovered(usize, Vec<u8>),
 }
 
-/// What a call that writes left: how many bytes, and the buffer that they stand at the front of.
-#[derive(Clone, Copy)]
+/// What a call that writes left: its answer, which says how many bytes stand at the front of the buffer, and the buffer
+/// as it was passed and as it then is.
+#[derive(Drop)]
 pub struct Reply {
     pub answer: Result<usize, GatewayFault>,
-    pub buffer: [u8; BUFFER],
+    pub before: Vec<u8>,
+    pub after: Vec<u8>,
 }
 
 /// A call that was made, with what came back.
-#[derive(Clone, Copy)]
-pub enum Done<'a> {
-    RealTime(usize, &'a [u8], Time, Reply),
-    Recovery(usize, &'a [u8], Time, Reply),
+#[derive(Drop)]
+pub enum Done {
+    RealTime(usize, Vec<u8>, Time, Reply),
+    Recovery(usize, Vec<u8>, Time, Reply),
     Step(Time, Result<Step, GatewayFault>),
     CancelTrade(u64, Time, Result<(), GatewayFault>),
     LineLost(usize, Time, Result<(), GatewayFault>),

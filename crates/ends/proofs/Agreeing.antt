@@ -20,7 +20,7 @@ use Rattle.ends.proofs.Serves.{quietly, real_time, recovery, sends_on, recovers_
 use Rattle.ends.specs.Agreement.{Agrees, AllTaken, SameOrders, Taken, Takes, HeardAs, Took, is_hers, is_unfit, place, refuses_report}
 use Rattle.ends.specs.Allowed.{Allowed, Line, accepted, quiet, behind, after_logon, after_recovery, after_venue, after_up, after_ask, given_live, or_lost, after_call, after_log, onward}
 use Rattle.ends.specs.Laws.{is_full, state_of}
-use Rattle.ends.specs.Runs.{Desk, Does, Runs, Tells, moved, fresh, blank}
+use Rattle.ends.specs.Runs.{Desk, Does, Runs, Tells, moved, fresh}
 use Rattle.ends.specs.declared.allowed.Breach.TheVariants.{NoLogon}
 use Rattle.call.specs.declared.both_ends.Asked.{Asked}
 use Rattle.call.specs.declared.both_ends.Done.{Done}
@@ -89,7 +89,7 @@ module _ (c : ℕ) (s : State) (d : Desk) (x : Line) (t : Taking) (k : Keeps c s
 
   store_stays : (r : Reply) → venue.Turns s (call.SendRecovered c r) w → w.venue.kept ≡ s.venue.kept
   store_stays r (spare, h) = hands_by (λ (z : State). z.venue.kept ≡ s.venue.kept) s refl
-      (send_fault Recovery (length venue.blank) c s) (recovery_handed c s) venue.blank r.answer w r.buffer refl h
+      (send_fault Recovery (length r.before.items) c s) (recovery_handed c s) r.before.items r.answer w r.after.items refl h
 
   pub venue_keeps : (v : VenueDone) → venue.Turns s v w → venue.Tells s v → (x' : Line) → after_venue c v x ≡ Ok x'
       → Keeps c w d x' t
@@ -108,12 +108,12 @@ module _ (c : ℕ) (s : State) (d : Desk) (x : Line) (t : Taking) (k : Keeps c s
       by false q g = elsewhere (call.RealTime line m tm r) h (another line q) x' g
   venue_keeps (call.Recovery line m tm r) h told x' ok = by (eqb line c) refl ok
     where
-      by : (b : Bool) → eqb line c ≡ b → cond b (after_recovery (heard_in (bytes_of r)) (bytes_of r) m.now x) (Ok x)
+      by : (b : Bool) → eqb line c ≡ b → cond b (after_recovery (heard_in (bytes_of r)) (bytes_of r) m.items x) (Ok x)
           ≡ Ok x' → Keeps c w d x' t
       by true q g =
           let h' : venue.Turns s (call.Recovery c m tm r) w = subst (λ i. venue.Turns s (call.Recovery i m tm r) w)
           (eqb-true line c q) h in
-          recovery c s d x t k w (grown (call.Recovery c m tm r) h') sound few (bytes_of r) m.now
+          recovery c s d x t k w (grown (call.Recovery c m tm r) h') sound few (bytes_of r) m.items
           (effect_recovery c s m tm r w h') x' g
       by false q g = elsewhere (call.Recovery line m tm r) h (another line q) x' g
   venue_keeps (call.Step tm r) h told x' ok = elsewhere (call.Step tm r) h (λ e. cc) x' ok
@@ -137,7 +137,7 @@ module _ (c : ℕ) (s : State) (d : Desk) (x : Line) (t : Taking) (k : Keeps c s
           (eqb-true line c q) told in
           subst (λ y. Keeps c w d y t) (same_ok (record x { live = behind x.live (bytes_of r) }) x'
           (Ok (record x { live = behind x.live (bytes_of r) })) refl g)
-          (sends_on c s d x t k w (grown (call.Send c r) h') sound few (bytes_of r)
+          (sends_on c s d x t k w (grown (call.Send c r) h') sound few (length r.before.items) (bytes_of r)
           (effect_send c s r w h') told')
       by false q g = elsewhere (call.Send line r) h (another line q) x' g
   venue_keeps (call.SendRecovered line r) h told x' ok = by (eqb line c) refl ok
@@ -152,7 +152,7 @@ module _ (c : ℕ) (s : State) (d : Desk) (x : Line) (t : Taking) (k : Keeps c s
           subst (λ y. Keeps c w d y t) (same_ok (record x { recovered = behind x.recovered (bytes_of r) }) x'
           (Ok (record x { recovered = behind x.recovered (bytes_of r) })) refl g)
           (recovers_on c s d x t k w (grown (call.SendRecovered c r) h') sound few
-          (bytes_of r) (store_stays r h') (effect_recover c s r w h') told')
+          (length r.before.items) (bytes_of r) (store_stays r h') (effect_recover c s r w h') told')
       by false q g = elsewhere (call.SendRecovered line r) h (another line q) x' g
 
 -- ---- up and lost
@@ -255,8 +255,8 @@ module _ (c : ℕ) (s : State) (d : Desk) (x : Line) (t : Taking) (k : Keeps c s
     pub up : d.follower.up ≡ true
     pub idle : d.follower.download ≡ stage.Idle
 
-  free_of : (n : ℕ) (p : Partition) → asking d.follower d.token n (length blank) ≡ Ok p → Free p
-  free_of n p e = by (nat_lt (length blank) BUFFER) e
+  free_of : (b : List ℕ) (n : ℕ) (p : Partition) → asking d.follower d.token n (length b) ≡ Ok p → Free p
+  free_of b n p e = by (nat_lt (length b) BUFFER) e
     where
       idle_of : (g : Stage) (o : Option Partition) → is_free g o ≡ true → g ≡ stage.Idle
       idle_of stage.Idle o h = refl
@@ -282,12 +282,12 @@ module _ (c : ℕ) (s : State) (d : Desk) (x : Line) (t : Taking) (k : Keeps c s
       by true z = absurd cc
       by false z = by_up d.follower.up refl z
 
-  asked_for : (n : ℕ) (p : Partition) → asking d.follower d.token n (length blank) ≡ Ok p
+  asked_for : (b : List ℕ) (n : ℕ) (p : Partition) → asking d.follower d.token n (length b) ≡ Ok p
       → ReadBack p (at d.follower.sides p).place → (token : Pending) → (m : List ℕ) → m
       ≡ request p (at d.follower.sides p).place
       → Keeps c s (asked_desk p token) (record x { asked = x.asked ++ m ∷ [] }) t
-  asked_for n p e back token m is =
-      let fr = free_of n p e in
+  asked_for b n p e back token m is =
+      let fr = free_of b n p e in
       let (r, u) = up_of c s.venue.kept (session s c) d.follower (place d) x t x.ready x.up (k.up ∙ fr.up) k.phase in
       let st : Still (download (session s c)) x = subst
       (λ g. Staged g c s.venue.kept (place d) u.b (download (session s c)) x) fr.idle u.staged in
@@ -328,37 +328,37 @@ module _ (c : ℕ) (s : State) (d : Desk) (x : Line) (t : Taking) (k : Keeps c s
       }
 
   pub ask_keeps : (n : ℕ) (r : Asked) (e : Desk) → r.answer
-      ≡ (asks_of d.follower d.token blank (asking d.follower d.token n (length blank))).answer → r.buffer
-      ≡ (asks_of d.follower d.token blank (asking d.follower d.token n (length blank))).out
-      → e ≡ moved d (asks_of d.follower d.token blank (asking d.follower d.token n (length blank))).after
-      → IfOk (asking d.follower d.token n (length blank)) (λ p. ReadBack p (at d.follower.sides p).place)
-      → Keeps c s e (after_ask r.answer r.buffer x) t
-  ask_keeps n r e ea eb ee told = by (asking d.follower d.token n (length blank)) refl ea eb ee told
+      ≡ (asks_of d.follower d.token r.before.items (asking d.follower d.token n (length r.before.items))).answer → r.after.items
+      ≡ (asks_of d.follower d.token r.before.items (asking d.follower d.token n (length r.before.items))).out
+      → e ≡ moved d (asks_of d.follower d.token r.before.items (asking d.follower d.token n (length r.before.items))).after
+      → IfOk (asking d.follower d.token n (length r.before.items)) (λ p. ReadBack p (at d.follower.sides p).place)
+      → Keeps c s e (after_ask r.answer r.after.items x) t
+  ask_keeps n r e ea eb ee told = by (asking d.follower d.token n (length r.before.items)) refl ea eb ee told
     where
       same_desk : record { follower = d.follower; token = d.token } ≡ d
       same_desk = refl
 
-      by : (o : Result Partition FollowerFault) → asking d.follower d.token n (length blank) ≡ o → r.answer
-          ≡ (asks_of d.follower d.token blank o).answer → r.buffer ≡ (asks_of d.follower d.token blank o).out
-          → e ≡ moved d (asks_of d.follower d.token blank o).after → IfOk o (λ p. ReadBack p (at d.follower.sides p).place)
-          → Keeps c s e (after_ask r.answer r.buffer x) t
-      by (Err f) q a b z told = subst (λ y. Keeps c s e (after_ask y r.buffer x) t) (sym a)
+      by : (o : Result Partition FollowerFault) → asking d.follower d.token n (length r.before.items) ≡ o → r.answer
+          ≡ (asks_of d.follower d.token r.before.items o).answer → r.after.items ≡ (asks_of d.follower d.token r.before.items o).out
+          → e ≡ moved d (asks_of d.follower d.token r.before.items o).after → IfOk o (λ p. ReadBack p (at d.follower.sides p).place)
+          → Keeps c s e (after_ask r.answer r.after.items x) t
+      by (Err f) q a b z told = subst (λ y. Keeps c s e (after_ask y r.after.items x) t) (sym a)
           (subst (λ y. Keeps c s y x t) (sym z)
           (keeps_taken c s d x t t (token_after d.follower d.follower d.token) (λ p n i. i) k))
       by (Ok p) q a b z told =
           let m = request p (at d.follower.sides p).place in
-          let is : take (total_of Request) (m ++ drop (total_of Request) blank)
-          ≡ m = ap (λ i. take i (m ++ drop (total_of Request) blank))
+          let is : take (total_of Request) (m ++ drop (total_of Request) r.before.items)
+          ≡ m = ap (λ i. take i (m ++ drop (total_of Request) r.before.items))
           (sym (request_long p (at d.follower.sides p).place told)) ∙ take-append_seam m
-          (drop (total_of Request) blank) in
-          subst (λ y. Keeps c s e (after_ask y r.buffer x) t) (sym a)
+          (drop (total_of Request) r.before.items) in
+          subst (λ y. Keeps c s e (after_ask y r.after.items x) t) (sym a)
           (subst (λ y. Keeps c s e (record x { asked = x.asked ++ take (total_of Request) y ∷ [] }) t) (sym b)
           (subst (λ y. Keeps c s y (record x {
             asked = x.asked
-                ++ take (total_of Request) (m ++ drop (total_of Request) blank) ∷ [];
+                ++ take (total_of Request) (m ++ drop (total_of Request) r.before.items) ∷ [];
           }) t) (sym z)
-          (asked_for n p q told (token_after d.follower (asks_of d.follower d.token blank (Ok p)).after d.token)
-          (take (total_of Request) (m ++ drop (total_of Request) blank)) is)))
+          (asked_for r.before.items n p q told (token_after d.follower (asks_of d.follower d.token r.before.items (Ok p)).after d.token)
+          (take (total_of Request) (m ++ drop (total_of Request) r.before.items)) is)))
 
 -- ---- any call
 
@@ -402,31 +402,31 @@ call_keeps c s d x t (done.Ask n r) w e x' k (h, a, b, q) told sound few ok =
       refl,
       subst (λ y. Keeps c y e x' (λ p n. t p n ⊎ ⊥)) (sym h)
           (keeps_taken c s e x' t (λ p n. t p n ⊎ ⊥) e.token (no_more t (λ p n. ⊥) (λ p n i. i))
-          (subst (λ y. Keeps c s e y t) (same_ok (after_ask r.answer r.buffer x) x'
-          (Ok (after_ask r.answer r.buffer x)) refl ok) (ask_keeps c s d x t k sound' few' n r e a b q told))),
+          (subst (λ y. Keeps c s e y t) (same_ok (after_ask r.answer r.after.items x) x'
+          (Ok (after_ask r.answer r.after.items x)) refl ok) (ask_keeps c s d x t k sound' few' n r e a b q told))),
     )
 call_keeps c s d x t (done.Live m r) w e x' k (h, a, q) told sound few ok =
     let sound' = subst (λ (y : State). Sound y.venue) h sound in
     let few' = subst (λ (y : State). length y.venue.rows ≤ ORDERS) h few in
-    let g = given_live_keeps c s d x t sound' few' k m.now (heard_in m.now) refl x'
-    (subst (λ y. or_lost (is_full y) (given_live m.now (heard_in m.now) x) ≡ Ok x') a ok) in (
+    let g = given_live_keeps c s d x t sound' few' k m.items (heard_in m.items) refl x'
+    (subst (λ y. or_lost (is_full y) (given_live m.items (heard_in m.items) x) ≡ Ok x') a ok) in (
       ap is_unfit a ∙ g.fits,
-      subst (λ y. Keeps c y e x' (λ p n. t p n ⊎ Taken r (HeardAs p n (heard_in m.now)))) (sym h)
-          (subst (λ y. Keeps c s y x' (λ p n. t p n ⊎ Taken r (HeardAs p n (heard_in m.now)))) (sym q)
-          (subst (λ y. Keeps c s (moved d (live_step d.follower (heard_in m.now)).after) x'
-          (λ p n. t p n ⊎ Taken y (HeardAs p n (heard_in m.now)))) (sym a)
-          (g.keeps (token_after d.follower (live_step d.follower (heard_in m.now)).after d.token)))),
+      subst (λ y. Keeps c y e x' (λ p n. t p n ⊎ Taken r (HeardAs p n (heard_in m.items)))) (sym h)
+          (subst (λ y. Keeps c s y x' (λ p n. t p n ⊎ Taken r (HeardAs p n (heard_in m.items)))) (sym q)
+          (subst (λ y. Keeps c s (moved d (live_step d.follower (heard_in m.items)).after) x'
+          (λ p n. t p n ⊎ Taken y (HeardAs p n (heard_in m.items)))) (sym a)
+          (g.keeps (token_after d.follower (live_step d.follower (heard_in m.items)).after d.token)))),
     )
 call_keeps c s d x t (done.Recovered m r) w e x' k (h, a, q) told sound few ok =
     let sound' = subst (λ (y : State). Sound y.venue) h sound in
     let few' = subst (λ (y : State). length y.venue.rows ≤ ORDERS) h few in
-    let g = given_recovered_keeps c s d x t sound' few' k m.now (heard_in m.now) refl x' ok in (
+    let g = given_recovered_keeps c s d x t sound' few' k m.items (heard_in m.items) refl x' ok in (
       ap is_unfit a ∙ g.fits,
-      subst (λ y. Keeps c y e x' (λ p n. t p n ⊎ Taken r (HeardAs p n (heard_in m.now)))) (sym h)
-          (subst (λ y. Keeps c s y x' (λ p n. t p n ⊎ Taken r (HeardAs p n (heard_in m.now)))) (sym q)
-          (subst (λ y. Keeps c s (moved d (recovered_step d.follower (heard_in m.now)).after) x'
-          (λ p n. t p n ⊎ Taken y (HeardAs p n (heard_in m.now)))) (sym a)
-          (g.keeps (token_after d.follower (recovered_step d.follower (heard_in m.now)).after d.token)))),
+      subst (λ y. Keeps c y e x' (λ p n. t p n ⊎ Taken r (HeardAs p n (heard_in m.items)))) (sym h)
+          (subst (λ y. Keeps c s y x' (λ p n. t p n ⊎ Taken r (HeardAs p n (heard_in m.items)))) (sym q)
+          (subst (λ y. Keeps c s (moved d (recovered_step d.follower (heard_in m.items)).after) x'
+          (λ p n. t p n ⊎ Taken y (HeardAs p n (heard_in m.items)))) (sym a)
+          (g.keeps (token_after d.follower (recovered_step d.follower (heard_in m.items)).after d.token)))),
     )
 
 -- ---- any log

@@ -58,9 +58,9 @@ level_after : (c : ℕ) (s : State) (d : Desk) (y : Line) (xs : List Done) (x : 
     → d.follower.up ≡ true → d.follower.download ≡ Running p → state_of e p ≡ Level
 level_after c s d y xs (done.Recovered m r) w e z p k allowed (a, b, q) complete up run =
     let f = d.follower in
-    let h : heard_in m.now ≡ Ok (End Complete) = complete in
-    let goes = given_recovered_keeps c s d y (λ q n. ⊥ ⊎ Took q n xs) (k.sound up) (k.few up) k m.now
-    (heard_in m.now) refl z allowed in
+    let h : heard_in m.items ≡ Ok (End Complete) = complete in
+    let goes = given_recovered_keeps c s d y (λ q n. ⊥ ⊎ Took q n xs) (k.sound up) (k.few up) k m.items
+    (heard_in m.items) refl z allowed in
     let fits : is_unfit (recovered_step f (Ok (End Complete))).answer
     ≡ false = subst (λ i. is_unfit (recovered_step f i).answer ≡ false) h goes.fits in
     ap (λ (i : Desk). state_of i p) q ∙ subst (λ i. (at (recovered_step f i).after.sides p).state ≡ Level) (sym h)

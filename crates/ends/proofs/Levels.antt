@@ -11,7 +11,7 @@ use Rattle.codes.specs.declared.session.ReportResponse.{ReportResponse}
 use Rattle.codes.specs.declared.session.ReportResponse.TheVariants as ending
 use Rattle.codes.specs.Session.{same_partition}
 use Rattle.ends.specs.Laws.{StaysLevel, StaysBehind, state_of, is_full, gives}
-use Rattle.ends.specs.Runs.{Desk, Does, Runs, fresh, blank}
+use Rattle.ends.specs.Runs.{Desk, Does, Runs, fresh}
 use Rattle.call.specs.declared.both_ends.Done.{Done}
 use Rattle.call.specs.declared.both_ends.Done.TheVariants as done
 use Rattle.follower.specs.Asking.{asks_of, asking}
@@ -175,7 +175,7 @@ stays_level s d (done.Recovered bs r) w e p (m, a, k) b l =
 stays_level s d (done.Ask n r) w e p (m, a, c, k) b l =
     to_desk d e _ p Level (ap (λ (y : Desk). y.follower) k)
     (ap (λ (x : PerPartition Side). (at x p).state)
-    (asked_sides d.follower d.token blank (asking d.follower d.token n (length blank))) ∙ l)
+    (asked_sides d.follower d.token r.before.items (asking d.follower d.token n (length r.before.items))) ∙ l)
 
 -- ---- a follower that is given nothing
 
@@ -196,7 +196,7 @@ one_behind s d (done.Recovered bs r) w e p h g l = absurd (let z : true ≡ fals
 one_behind s d (done.Ask n r) w e p (m, a, c, k) g l =
     to_desk d e _ p Behind (ap (λ (y : Desk). y.follower) k)
     (ap (λ (x : PerPartition Side). (at x p).state)
-    (asked_sides d.follower d.token blank (asking d.follower d.token n (length blank))) ∙ l)
+    (asked_sides d.follower d.token r.before.items (asking d.follower d.token n (length r.before.items))) ∙ l)
 
 all_behind : (s : State) (d : Desk) (xs : List Done) (w : State) (e : Desk) (p : Partition) → Runs s d xs w e
     → list_any gives xs ≡ false → state_of d p ≡ Behind → state_of e p ≡ Behind

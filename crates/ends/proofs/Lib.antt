@@ -1,4 +1,3 @@
-pub mod Grown
 pub mod Levels
 pub mod Caught
 pub mod Flights
@@ -14,3 +13,5 @@ pub mod Requested
 pub mod Agreeing
 pub mod Levelling
 pub mod Refusals
+pub mod Erasing
+pub mod Kept

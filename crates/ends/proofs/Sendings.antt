@@ -15,8 +15,8 @@ use Rattle.sessions.proofs.Marks.{after, first}
 use Rattle.sessions.specs.Downloads.{up_to, remaining, handed_out}
 use Rattle.sessions.specs.Sending.{found as found_at, next_to_send, sent_after}
 use Rattle.sessions.specs.declared.download.Download.{Download}
-use Rattle.sessions.specs.declared.download.Handed.{Handed}
-use Rattle.sessions.specs.declared.download.Handed.TheVariants.{Report, Ended}
+use Rattle.sessions.specs.declared.download.HandedOut.{HandedOut}
+use Rattle.sessions.specs.declared.download.HandedOut.TheVariants.{Report, Ended}
 use Rattle.store.proofs.Nexts.{next-lowest}
 use Rattle.store.specs.Kept.{Kept, next_after}
 use Rattle.store.specs.Laws.{Lowest}
@@ -74,7 +74,7 @@ module _ (c : ℕ) (k : Kept) (s : PerPartition ℕ) (w : (p : Partition) → at
 -- ---- a download
 
 -- what is handed out, and what is left of the download
-abbrev pub HandedBy : ℕ → List Entry → Download → Handed × Option Download → Type 0
+abbrev pub HandedBy : ℕ → List Entry → Download → HandedOut × Option Download → Type 0
 HandedBy c l d (Report p n, None) = ⊥
 HandedBy c l d (Report p n, Some d') = (p ≡ d.partition) × Next c l d.last n × Further d d' n
 HandedBy c l d (Ended r, None) = r ≡ ending.Complete → Passed c l d.last d.target

@@ -37,7 +37,6 @@ use Rattle.keyed.specs.Numbers.{under}
 use Rattle.layout.specs.declared.fault.Fault.{Fault}
 use Rattle.limits.specs.declared.TheConstants.{ORDERS}
 use Rattle.line.proofs.Effects.{Stays, Closes, Opens, RealTimeDoes, Grants, RecoveryDoes, SendDoes, RecoverDoes}
-use Rattle.line.specs.Runs.{blank}
 use Rattle.line.proofs.Growing.{Grows}
 use Rattle.session_messages.specs.declared.missed_message_request.MissedMessageRequest.{MissedMessageRequest}
 use Rattle.partitions.specs.PerPartition.{at, with_at}
@@ -48,8 +47,8 @@ use Rattle.sessions.specs.Downloads.{begun, recovered, handed_out, remaining}
 use Rattle.sessions.specs.Sending.{next_to_send, sent_after}
 use Rattle.sessions.specs.Sessions.{download}
 use Rattle.sessions.specs.declared.download.Download.{Download}
-use Rattle.sessions.specs.declared.download.Handed.{Handed}
-use Rattle.sessions.specs.declared.download.Handed.TheVariants as handed
+use Rattle.sessions.specs.declared.download.HandedOut.{HandedOut}
+use Rattle.sessions.specs.declared.download.HandedOut.TheVariants as handed
 use Rattle.store.specs.Kept.{Kept}
 use Rattle.venue.specs.Books.{Sound}
 use Rattle.wire.specs.Messages.{Reads}
@@ -314,10 +313,10 @@ module _ (c : ℕ) (s : State) (d : Desk) (x : Line) (t : Taking) (k : Keeps c s
             heard = hd;
           }
 
-  pub sends_on : (bytes : List ℕ) → SendDoes s c bytes (session w c) → SendTold (length blank) c s
+  pub sends_on : (room : ℕ) (bytes : List ℕ) → SendDoes s c room bytes (session w c) → SendTold room c s
       → Keeps c w d (record x { live = behind x.live bytes }) t
-  sends_on bytes (inl (e, h)) told = sent_nothing bytes e (quietly (inl h))
-  sends_on bytes (inr (e, es, ed, fault)) told =
+  sends_on room bytes (inl (e, h)) told = sent_nothing bytes e (quietly (inl h))
+  sends_on room bytes (inr (e, es, ed, fault)) told =
       sends_by (next_to_send old c (session s c).sent) (sent_after old c (session s c).sent) bytes
       (λ y h. sends c old (session s c).sent (λ p. sent_within p y x.live h.flows)) e es ed (told fault)
 
@@ -532,7 +531,7 @@ module _ (c : ℕ) (s : State) (d : Desk) (x : Line) (t : Taking) (k : Keeps c s
       )
 
   -- by what it hands out, from a store that stays
-  handed_on : (q : Download) (r : Handed × Option Download) → download (session s c) ≡ Some q
+  handed_on : (q : Download) (r : HandedOut × Option Download) → download (session s c) ≡ Some q
       → HandedBy c (at new q.partition) q r → (session w c).sent ≡ (session s c).sent → download (session w c) ≡ r.1
       → RecoveredTold new (Some r.0)
       → Keeps c w d (record x { recovered = behind x.recovered (recovered_bytes new (Some r.0)) }) t
@@ -582,11 +581,12 @@ module _ (c : ℕ) (s : State) (d : Desk) (x : Line) (t : Taking) (k : Keeps c s
   hands_on (Some q) e es ed told = handed_on q (handed_out q (remaining (at new q.partition) c q)) e
       (hands c (at new q.partition) q) es ed told
 
-  pub recovers_on : (bytes : List ℕ) → new ≡ old → RecoverDoes s c bytes (session w c) → RecoverTold (length blank) c s
+  pub recovers_on : (room : ℕ) (bytes : List ℕ) → new ≡ old → RecoverDoes s c room bytes (session w c)
+      → RecoverTold room c s
       → Keeps c w d (record x { recovered = behind x.recovered bytes }) t
-  recovers_on bytes same (inl (e, h)) told = subst (λ z. Keeps c w d (record x { recovered = behind x.recovered z }) t)
+  recovers_on room bytes same (inl (e, h)) told = subst (λ z. Keeps c w d (record x { recovered = behind x.recovered z }) t)
       (sym e) (quietly (inl h))
-  recovers_on bytes same (inr (e, es, ed, fault)) told =
+  recovers_on room bytes same (inr (e, es, ed, fault)) told =
       let o = download (session s c) in
       subst (λ z. Keeps c w d (record x { recovered = behind x.recovered z }) t)
       (sym (e ∙ ap (λ k. recovered_bytes k (recovered k c o).0) (sym same)))

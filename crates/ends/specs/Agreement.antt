@@ -58,8 +58,8 @@ Taken (Err e) t = ⊥
 
 -- a call gave the follower a report, which was not refused
 abbrev pub Takes : Partition → ℕ → Done → Type 0
-Takes p n (done.Live m r) = Taken r (HeardAs p n (heard_in m.now))
-Takes p n (done.Recovered m r) = Taken r (HeardAs p n (heard_in m.now))
+Takes p n (done.Live m r) = Taken r (HeardAs p n (heard_in m.items))
+Takes p n (done.Recovered m r) = Taken r (HeardAs p n (heard_in m.items))
 Takes p n d = ⊥
 
 -- and one of these calls did
@@ -94,7 +94,7 @@ EndsAgree xs s d = (c : ℕ) → Allowed c xs → Agrees c xs s d
 
 -- the end of a download that says complete
 abbrev pub IsComplete : Done → Type 0
-IsComplete (done.Recovered m r) = heard_in m.now ≡ Ok (End Complete)
+IsComplete (done.Recovered m r) = heard_in m.items ≡ Ok (End Complete)
 IsComplete x = ⊥
 
 -- from every state that a log leads to: where the line allows the complete end of a partition's download, the

@@ -84,7 +84,7 @@ abbrev pub after_venue : ℕ → VenueDone → Line → Result Line Breach
 after_venue c (venue.RealTime line m t r) l =
     if line == c then after_logon (bytes_eq (bytes_of r) accepted) l else Ok l
 after_venue c (venue.Recovery line m t r) l =
-    if line == c then after_recovery (heard_in (bytes_of r)) (bytes_of r) m.now l else Ok l
+    if line == c then after_recovery (heard_in (bytes_of r)) (bytes_of r) m.items l else Ok l
 after_venue c (venue.Step t r) l = Ok l
 after_venue c (venue.CancelTrade n t r) l = Ok l
 after_venue c (venue.LineLost line t r) l = Ok l
@@ -146,9 +146,9 @@ abbrev pub after_call : ℕ → Done → Line → Result Line Breach
 after_call c (done.Venue d) l = after_venue c d l
 after_call c done.Up l = after_up l.ready l
 after_call c done.Lost l = Ok (record l { up = false })
-after_call c (done.Live m r) l = or_lost (is_full r) (given_live m.now (heard_in m.now) l)
-after_call c (done.Recovered m r) l = given_recovered m.now (heard_in m.now) l
-after_call c (done.Ask n r) l = Ok (after_ask r.answer r.buffer l)
+after_call c (done.Live m r) l = or_lost (is_full r) (given_live m.items (heard_in m.items) l)
+after_call c (done.Recovered m r) l = given_recovered m.items (heard_in m.items) l
+after_call c (done.Ask n r) l = Ok (after_ask r.answer r.after.items l)
 
 -- one call more, where all before were allowed
 abbrev pub onward : ℕ → Result Line Breach → Done → Result Line Breach

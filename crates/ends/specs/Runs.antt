@@ -1,5 +1,5 @@
 -- Runs of both ends. Assumes nothing.
-use Rattle.std.specs.Prelude.{◌≡◌, ℕ, ◌≤◌, true, false, List, [], ◌∷◌, length, replicate, Some, None, Option, IfOk}
+use Rattle.std.specs.Prelude.{◌≡◌, ℕ, ◌≤◌, true, false, List, [], ◌∷◌, length, Some, None, Option, IfOk}
 use Rattle.std.specs.List.{filter_map}
 use Rattle.call.specs.declared.both_ends.Call.{Call}
 use Rattle.call.specs.declared.both_ends.Call.TheVariants as call
@@ -11,7 +11,6 @@ use Rattle.follower.specs.Hearing.{heard_in}
 use Rattle.follower.specs.Owing.{Tied, token_after}
 use Rattle.follower.specs.declared.pending.Pending.{Pending}
 use Rattle.follower.specs.declared.pending.Pending.TheVariants.{Idle}
-use Rattle.wire.specs.declared.message.TheConstants.{BUFFER}
 use Rattle.gateway.specs.State.{State}
 use Rattle.limits.specs.declared.TheConstants.{ORDERS}
 use Rattle.line.specs.Runs as venue
@@ -25,7 +24,7 @@ abbrev pub call_of : Done → Call
 call_of (done.Venue d) = call.Venue (venue.call_of d)
 call_of done.Up = call.Up
 call_of (done.Live bs r) = call.Live bs
-call_of (done.Ask n r) = call.Ask n
+call_of (done.Ask n r) = call.Ask n r.before
 call_of (done.Recovered bs r) = call.Recovered bs
 call_of done.Lost = call.Lost
 
@@ -38,9 +37,6 @@ pub record Desk : Type 0 where
 abbrev pub fresh : Desk
 fresh = record { follower = start; token = Idle }
 
-abbrev pub blank : List ℕ
-blank = replicate BUFFER 0
-
 -- a desk after one of its follower's calls
 abbrev pub moved : Desk → Following → Desk
 moved d f = record { follower = f; token = token_after d.follower f d.token }
@@ -51,14 +47,14 @@ Does s d (done.Venue v) w e = venue.Turns s v w × (e ≡ d)
 Does s d done.Up w e = (w ≡ s) × (e ≡ moved d (turned true d.follower))
 Does s d done.Lost w e = (w ≡ s) × (e ≡ moved d (turned false d.follower))
 Does s d (done.Live bs r) w e =
-    let step = live_step d.follower (heard_in bs.now) in
+    let step = live_step d.follower (heard_in bs.items) in
     (w ≡ s) × (r ≡ step.answer) × (e ≡ moved d step.after)
 Does s d (done.Recovered bs r) w e =
-    let step = recovered_step d.follower (heard_in bs.now) in
+    let step = recovered_step d.follower (heard_in bs.items) in
     (w ≡ s) × (r ≡ step.answer) × (e ≡ moved d step.after)
 Does s d (done.Ask n r) w e =
-    let step = asks d.follower d.token n blank in
-    (w ≡ s) × (r.answer ≡ step.answer) × (r.buffer ≡ step.out) × (e ≡ moved d step.after)
+    let step = asks d.follower d.token n r.before.items in
+    (w ≡ s) × (r.answer ≡ step.answer) × (r.after.items ≡ step.out) × (e ≡ moved d step.after)
 
 -- the gateway as it is: a call of its own is done to it, and every other leaves it as it was
 abbrev pub Sided : {M : Type 0} → (M → Asked → M → Type 0) → Over State M → Done → Over State M → Type 0
@@ -69,7 +65,7 @@ Sided did x d y = y ≡ x
 abbrev pub Tells : State → Desk → Done → Type 0
 Tells s d (done.Venue v) = venue.Tells s v
 Tells s d (done.Ask n r) =
-    IfOk (asking d.follower d.token n (length blank)) (λ p. ReadBack p (at d.follower.sides p).place)
+    IfOk (asking d.follower d.token n (length r.before.items)) (λ p. ReadBack p (at d.follower.sides p).place)
 Tells s d x = Unit {0}
 
 -- calls made in turn; after each both ends keep what they are to keep

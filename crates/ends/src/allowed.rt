@@ -2,10 +2,11 @@
 ghost use Rattle.std.specs.Prelude.{◌≡◌, IfOk};
 ghost use Rattle.ends.specs.Allowed.{after_log, quiet};
 ghost use Rattle.ends.specs.Breaches.{breach_text};
-ghost use Rattle.ends.specs.Deciding.{verdict};
+ghost use Rattle.ends.specs.Asking.{made};
+ghost use Rattle.ends.specs.Deciding.{after_entry, onto, verdict};
 
+use crate::entry::Entry;
 use crate::watch::Watch;
-use call::both_ends::Done;
 use std::alloc::{AllocError, Global};
 
 /// Why the line does not allow a call: an accepted Logon while the follower is up, an up with no new accepted Logon, a
@@ -37,17 +38,30 @@ impl Breach {
     }
 }
 
-/// Whether the line of a CompID allows a log, or the first breach. Want of memory is its one error.
-pub fn line_allows(
+fn after_entry<'a, Q, A>(
+    watch: &mut Watch<'a>,
+    line: usize,
+    entry: &'a Entry<Q, A>,
+) -> Result<Result<(), Breach>, AllocError>
+    ensures { IfOk result (λ r. after_entry line entry.now watch.old ≡ onto r watch.new) }
+{
+    match entry {
+        Entry::Made(done) => watch.after_call(line, done),
+        Entry::Asked(_, _) => Ok(Ok(())),
+    }
+}
+
+/// Whether the line of a CompID allows the calls of a log, or the first breach. Want of memory is its one error.
+pub fn line_allows<Q, A>(
     alloc: Global,
     line: usize,
-    log: &[Done<'_>],
+    log: &[Entry<Q, A>],
 ) -> Result<Result<(), Breach>, AllocError>
-    ensures { IfOk result (λ r. r ≡ verdict (after_log line log.now quiet)) }
+    ensures { IfOk result (λ r. r ≡ verdict (after_log line (made log.now) quiet)) }
 {
     let mut watch = Watch::quiet(alloc);
-    for done in log {
-        if let Err(breach) = watch.after_call(line, done)? {
+    for entry in log {
+        if let Err(breach) = after_entry(&mut watch, line, entry)? {
             return Ok(Err(breach));
         }
     }

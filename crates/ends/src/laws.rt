@@ -1,6 +1,16 @@
 // What a desk asks of its follower, proved of the definitions that the calls' contracts cite.
+ghost use Rattle.ends.specs.Asking.{Erases};
 ghost use Rattle.ends.specs.Laws.{StaysBehind, StaysLevel};
 ghost use Rattle.ends.specs.Agreement.{DownloadsLevel};
+
+use crate::question::Question;
+use matching::matcher::Matcher;
+
+/// Leaving the questions out of a list of steps changes nothing else: no other answer, no byte that is handed out, and
+/// neither end.
+pub fn questions_change_nothing<M: Matcher, Q: Question<A>, A: Drop>()
+    ensures { Erases M.Did Q.answer }
+{}
 
 /// A partition goes from level to behind by up, by lost and by a full hold alone.
 #[tactic(auto, using(crate::proofs::Levels::stays_level))]

@@ -2,8 +2,11 @@
 #![tactic(auto)]
 
 pub mod allowed;
+pub mod both_ends;
+pub mod entry;
 pub mod laws;
+mod making;
+pub mod question;
 mod replies;
-pub mod run;
 mod under_way;
 mod watch;

@@ -19,11 +19,11 @@ pub(crate) fn same(message: &[u8], other: &[u8]) -> bool
 }
 
 /// The bytes that a call that writes left; a refused one none.
-pub(crate) fn bytes(reply: &Reply) -> &[u8]
+pub(crate) fn bytes<'a>(reply: &'a Reply) -> &'a [u8]
     ensures { result.now ≡ bytes_of reply.now }
 {
     match reply.answer {
-        Ok(count) => &reply.buffer[..count.min(BUFFER)],
+        Ok(count) => &reply.after[..count.min(reply.after.len())],
         Err(_) => &[],
     }
 }

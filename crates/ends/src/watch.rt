@@ -11,7 +11,6 @@ use follower::heard::Heard;
 use follower::reading::hear;
 use std::alloc::{AllocError, Global};
 use std::marker::Model;
-use wire::message::BUFFER;
 
 /// One line, as the calls so far left it.
 #[derive(Drop)]
@@ -112,7 +111,7 @@ impl<'a> Watch<'a> {
     fn after_venue(
         &mut self,
         line: usize,
-        done: &'a VenueDone<'a>,
+        done: &'a VenueDone,
     ) -> Result<Result<(), Breach>, AllocError>
         ensures { IfOk result (λ r. after_venue line done.now self.old ≡ onto r self.new) }
     {
@@ -213,10 +212,11 @@ impl<'a> Watch<'a> {
     }
 
     fn after_ask(&mut self, asked: &'a Asked) -> Result<(), AllocError>
-        ensures { IfOk result (λ _. self.new ≡ after_ask asked.now.answer asked.now.buffer self.old) }
+        ensures { IfOk result (λ _. self.new ≡ after_ask asked.now.answer asked.now.after.items self.old) }
     {
         if let Ok(count) = asked.answer {
-            self.asked.push(&asked.buffer[..count.min(BUFFER)])?;
+            self.asked
+                .push(&asked.after[..count.min(asked.after.len())])?;
         }
         Ok(())
     }
@@ -225,7 +225,7 @@ impl<'a> Watch<'a> {
     pub(crate) fn after_call(
         &mut self,
         line: usize,
-        done: &'a Done<'a>,
+        done: &'a Done,
     ) -> Result<Result<(), Breach>, AllocError>
         ensures { IfOk result (λ r. after_call line done.now self.old ≡ onto r self.new) }
     {

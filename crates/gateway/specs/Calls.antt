@@ -20,8 +20,8 @@ use Rattle.reports.specs.declared.report.Entry.{Entry}
 use Rattle.sessions.specs.Downloads.{recovered}
 use Rattle.sessions.specs.Sending.{next_to_send, sent_after}
 use Rattle.sessions.specs.Sessions.{download, on, with_download, with_sent}
-use Rattle.sessions.specs.declared.download.Handed.{Handed as Item}
-use Rattle.sessions.specs.declared.download.Handed.TheVariants.{Report, Ended}
+use Rattle.sessions.specs.declared.download.HandedOut.{HandedOut}
+use Rattle.sessions.specs.declared.download.HandedOut.TheVariants.{Report, Ended}
 use Rattle.sessions.specs.declared.session.Channel.{Channel}
 use Rattle.sessions.specs.declared.session.Channel.TheVariants.{RealTime, Recovery}
 use Rattle.store.specs.Kept.{Kept}
@@ -92,7 +92,7 @@ abbrev pub sent_bytes : Kept → Option (Partition × ℕ) → List ℕ
 sent_bytes k None = []
 sent_bytes k (Some (p, n)) = stored_bytes k p n
 
-abbrev pub recovered_bytes : Kept → Option Item → List ℕ
+abbrev pub recovered_bytes : Kept → Option HandedOut → List ℕ
 recovered_bytes k None = []
 recovered_bytes k (Some (Report p n)) = stored_bytes k p n
 recovered_bytes k (Some (Ended r)) = end_bytes r

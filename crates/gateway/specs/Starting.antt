@@ -18,11 +18,13 @@ is_unused k = length (at k One) == 0 && (length (at k Two) == 0 && length (at k 
 abbrev pub is_new : Meaning → Kept → Bool
 is_new m k = len m.orders == 0 && is_unused k
 
--- a new day over the matcher and the store, or both given back
-abbrev pub Starts : {M S : Type 0} → Bool → List Participant → Over Books M → M → S
-    → Result (Over State M) (StartRefusal × M × S) → Type 0
-Starts new ps v m s (Ok g) =
-    (new ≡ true) × (g ≡ record { state = fresh ps v.state; engine = v.engine; free = v.free })
-Starts new ps v m s (Err (NotEmpty, m', s')) = (new ≡ false) × (m' ≡ m) × (s' ≡ s)
-Starts new ps v m s (Err (NoMemory, m', s')) = (new ≡ true) × (m' ≡ m) × (s' ≡ s)
-Starts new ps v m s (Err (BadConfiguration, m', s')) = ⊥
+-- a gateway of a new day, over a venue's books
+abbrev pub opened : {M : Type 0} → List Participant → Over Books M → Over State M
+opened ps v = record { state = fresh ps v.state; engine = v.engine; free = v.free }
+
+-- something begins over a new matcher and a new store, or both are given back
+abbrev pub Starts : {M S V : Type 0} → Bool → (V → Type 0) → M → S → Result V (StartRefusal × M × S) → Type 0
+Starts new begins m s (Ok v) = (new ≡ true) × begins v
+Starts new begins m s (Err (NotEmpty, m', s')) = (new ≡ false) × (m' ≡ m) × (s' ≡ s)
+Starts new begins m s (Err (NoMemory, m', s')) = (new ≡ true) × (m' ≡ m) × (s' ≡ s)
+Starts new begins m s (Err (BadConfiguration, m', s')) = ⊥

@@ -10,8 +10,8 @@ use Rattle.reports.specs.declared.report.Entry.{Entry}
 use Rattle.sessions.specs.Downloads.{recovered}
 use Rattle.sessions.specs.Sending.{next_to_send}
 use Rattle.sessions.specs.Sessions.{download}
-use Rattle.sessions.specs.declared.download.Handed.{Handed}
-use Rattle.sessions.specs.declared.download.Handed.TheVariants.{Report, Ended}
+use Rattle.sessions.specs.declared.download.HandedOut.{HandedOut}
+use Rattle.sessions.specs.declared.download.HandedOut.TheVariants.{Report, Ended}
 use Rattle.sessions.specs.declared.session.Channel.TheVariants.{RealTime, Recovery}
 use Rattle.store.specs.Kept.{Kept}
 
@@ -27,7 +27,7 @@ abbrev pub SentTold : Kept → Option (Partition × ℕ) → Type 0
 SentTold k None = Unit {0}
 SentTold k (Some (p, n)) = StoredTold k p n
 
-abbrev pub RecoveredTold : Kept → Option Handed → Type 0
+abbrev pub RecoveredTold : Kept → Option HandedOut → Type 0
 RecoveredTold k None = Unit {0}
 RecoveredTold k (Some (Report p n)) = StoredTold k p n
 RecoveredTold k (Some (Ended r)) = EndTold r

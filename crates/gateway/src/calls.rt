@@ -17,7 +17,7 @@ use codes::session::Partition;
 use configuration::participant::Participant;
 use limits::TRADES;
 use matching::matcher::Matcher;
-use sessions::download::Handed;
+use sessions::download::HandedOut;
 use sessions::session::Channel;
 use store::Store;
 use texts::values::Time;
@@ -150,10 +150,10 @@ impl<M: Matcher, S: Store> Gateway<M, S> {
         let next = session.next_recovered(line, self.venue.store());
         self.set_session(line, session);
         match next {
-            Some(Handed::Report(partition, number)) => {
+            Some(HandedOut::Report(partition, number)) => {
                 Ok(self.write_stored(partition, number, out))
             }
-            Some(Handed::Ended(response)) => Ok(write_end(response, out)),
+            Some(HandedOut::Ended(response)) => Ok(write_end(response, out)),
             None => Ok(0),
         }
     }

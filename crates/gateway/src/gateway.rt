@@ -2,7 +2,7 @@
 ghost use Rattle.std.specs.Prelude.{◌≡◌, ◌<◌, [], length, replicate, IfOk};
 ghost use Rattle.std.specs.Result.{result_err};
 ghost use Rattle.sessions.specs.Sessions.{fresh as fresh_session};
-ghost use Rattle.gateway.specs.Starting.{is_unused};
+ghost use Rattle.gateway.specs.Starting.{is_new};
 
 use crate::fault::{GatewayFault, SessionFault};
 use codes::session::Partition;
@@ -52,17 +52,18 @@ fn new_sessions(alloc: Global, count: usize) -> Result<Vec<Session>, AllocError>
     vec![in alloc; Session::new(); count]
 }
 
-// Whether a store keeps no report.
-fn is_unused<S: Store>(store: &S) -> bool
-    ensures { result ≡ is_unused (S.kept store.now) }
+/// Whether a matcher holds no order and a store no report.
+pub fn is_new<M: Matcher, S: Store>(matcher: &M, store: &S) -> bool
+    ensures { result ≡ is_new (M.meaning matcher.now) (S.kept store.now) }
 {
-    store.last(Partition::One) == 0
+    matcher.is_empty()
+        && store.last(Partition::One) == 0
         && store.last(Partition::Two) == 0
         && store.last(Partition::Three) == 0
 }
 
 impl<M: Matcher, S: Store> Gateway<M, S> {
-    ghost use Rattle.gateway.specs.Starting.{is_new, Starts};
+    ghost use Rattle.gateway.specs.Starting.{Starts, opened};
     ghost use Rattle.gateway.specs.Calls.{on_fault};
     ghost use Rattle.gateway.specs.Hearing.{call_fault, line_fault};
     ghost use Rattle.gateway.specs.Doing.{Stays};
@@ -78,11 +79,13 @@ impl<M: Matcher, S: Store> Gateway<M, S> {
         matcher: M,
         store: S,
     ) -> Result<Gateway<M, S>, (StartRefusal, M, S)>
-        ensures { Starts (is_new (M.meaning matcher) (S.kept store)) config.participants.items
-            (record { state = fresh_books config.instruments.items (M.meaning matcher); engine = matcher; free = S.free store })
-            matcher store result }
+        ensures { Starts (is_new (M.meaning matcher) (S.kept store)) (λ g. g ≡ opened config.participants.items (record {
+          state = fresh_books config.instruments.items (M.meaning matcher);
+          engine = matcher;
+          free = S.free store;
+        })) matcher store result }
     {
-        if !matcher.is_empty() || !is_unused(&store) {
+        if !is_new(&matcher, &store) {
             return Err((StartRefusal::NotEmpty, matcher, store));
         }
         let Config {

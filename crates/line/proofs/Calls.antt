@@ -15,7 +15,7 @@ use Rattle.line.proofs.Fitting.{Alters}
 use Rattle.line.proofs.Walking.{hands_by}
 use Rattle.line.proofs.Moving.{Moving, adds, changes, onward, still}
 use Rattle.line.specs.Conservation.{Move, May, MayBy, MayStep, MayUndo, MayLose}
-use Rattle.line.specs.Runs.{Turns, blank, giving}
+use Rattle.line.specs.Runs.{Turns, giving}
 use Rattle.call.specs.declared.venue_side.Done.{Done}
 use Rattle.call.specs.declared.venue_side.Done.TheVariants as done
 use Rattle.matching.specs.declared.event.Event.{Event}
@@ -117,24 +117,25 @@ void_moves t n (Some tr) b =
 stays : (p : Move → Type 0) (s w : State) → w ≡ s → Moving p s.venue.rows w.venue.rows
 stays p s w e = subst (λ (z : State). Moving p s.venue.rows z.venue.rows) (sym e) (still p s.venue.rows)
 
-hands_moves : (p : Move → Type 0) (o : Option GatewayFault) (h : Handed) (s : State) (r : Result ℕ GatewayFault)
-    (w : State) (out : List ℕ) → h.after.venue ≡ s.venue → Hands (λ u acts. w ≡ u) o h s blank r out
+hands_moves : (p : Move → Type 0) (o : Option GatewayFault) (h : Handed) (s : State) (b : List ℕ)
+    (r : Result ℕ GatewayFault) (w : State) (out : List ℕ) → h.after.venue ≡ s.venue
+    → Hands (λ u acts. w ≡ u) o h s b r out
     → Moving p s.venue.rows w.venue.rows
-hands_moves p o h s r w out k d =
-    hands_by (λ z. Moving p s.venue.rows z.venue.rows) s (still p s.venue.rows) o h blank r w out
-    (subst (λ (b : Books). Moving p s.venue.rows b.rows) (sym k) (still p s.venue.rows)) d
+hands_moves p o h s b r w out k d =
+    hands_by (λ z. Moving p s.venue.rows z.venue.rows) s (still p s.venue.rows) o h b r w out
+    (subst (λ (v : Books). Moving p s.venue.rows v.rows) (sym k) (still p s.venue.rows)) d
 
 pub call_moves : (s : State) (d : Done) (w : State) → Turns s d w → Moving (May s d) s.venue.rows w.venue.rows
 call_moves s (done.RealTime line bs t r) w (n, h) =
-    let g = giving RealTime line bs.now t n in
+    let g = giving RealTime line bs.items t r.before.items n in
     acted_moves (May s (done.RealTime line bs t r)) (ByMessage g s) s w
     (λ a (m, reads, x). on_line (May s (done.RealTime line bs t r)) (MayBy m) s line (λ k c may. (m, reads, may)) a x)
-    (hears_acted g s r.answer w r.buffer h)
+    (hears_acted g s r.answer w r.after.items h)
 call_moves s (done.Recovery line bs t r) w (n, h) =
-    let g = giving Recovery line bs.now t n in
+    let g = giving Recovery line bs.items t r.before.items n in
     acted_moves (May s (done.Recovery line bs t r)) (ByMessage g s) s w
     (λ a (m, reads, x). on_line (May s (done.Recovery line bs t r)) (MayBy m) s line (λ k c may. (m, reads, may)) a x)
-    (hears_acted g s r.answer w r.buffer h)
+    (hears_acted g s r.answer w r.after.items h)
 call_moves s (done.Step t (Ok r)) w (n, (x, e, y, z, h)) =
     subst (λ (v : State). Moving (MayStep (Ok r)) s.venue.rows v.venue.rows) (sym h)
     (subst (λ q. Moving (MayStep (Ok q)) s.venue.rows (told_by t e s.venue).rows) (sym z) (event_moves t e s.venue))
@@ -147,6 +148,6 @@ call_moves s (done.LineLost line t r) w (n, h) =
     acted_moves (λ m. MayLose m.1) (OnLine MayLose s line) s w
     (on_line (λ m. MayLose m.1) MayLose s line (λ k c may. may)) (loses_acted line t s r w h)
 call_moves s (done.Send line r) w (n, h) =
-    hands_moves _ (send_fault RealTime (length blank) line s) (live_handed line s) s r.answer w r.buffer refl h
+    hands_moves _ (send_fault RealTime (length r.before.items) line s) (live_handed line s) s r.before.items r.answer w r.after.items refl h
 call_moves s (done.SendRecovered line r) w (n, h) =
-    hands_moves _ (send_fault Recovery (length blank) line s) (recovery_handed line s) s r.answer w r.buffer refl h
+    hands_moves _ (send_fault Recovery (length r.before.items) line s) (recovery_handed line s) s r.before.items r.answer w r.after.items refl h

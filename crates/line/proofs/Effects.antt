@@ -1,5 +1,5 @@
 -- What a call makes of the session of one line. Assumes nothing.
-use Rattle.std.specs.Borrow.{Bor}
+use Rattle.std.proofs.Common.{Vec, Global}
 use Rattle.std.specs.Prelude.{◌≢◌, drop, take, is_some, slice_get, slice_index_or, nat_le}
 use Rattle.std.proofs.Common.{◌≡◌, ◌⊎◌, inl, inr, ℕ, ◌+◌, ◌<◌, Bool, true, false, cond, List, [], Some, None, Option, Ok, Err, Result, length, refl, sym, ap, ◌∙◌, subst, arith}
 use Rattle.std.proofs.Math.Seq.{take-append_seam}
@@ -25,7 +25,7 @@ use Rattle.limits.specs.declared.TheConstants.{REQUESTS}
 use Rattle.line.proofs.Walking.{call_there, first_none, line_there}
 use Rattle.line.proofs.Lines.{lines_apart}
 use Rattle.line.specs.Laws.{line_of}
-use Rattle.line.specs.Runs.{Turns, blank, bytes_of, giving, left}
+use Rattle.line.specs.Runs.{Turns, bytes_of, giving, left}
 use Rattle.call.specs.declared.venue_side.Done.{Done}
 use Rattle.call.specs.declared.venue_side.Done.TheVariants as done
 use Rattle.call.specs.declared.venue_side.Reply.{Reply}
@@ -99,19 +99,19 @@ RecoveryDoes k bs bytes x y =
     ⊎ ((a : Answer) × (bytes ≡ answer_bytes a) × (Grants a ≡ false) × (Stays x y ⊎ Closes x y))
 
 -- a call for the line's next report: refused; or its bytes, and how far was sent moves on
-abbrev pub SendDoes : State → ℕ → List ℕ → Session → Type 0
-SendDoes s c bytes y =
+abbrev pub SendDoes : State → ℕ → ℕ → List ℕ → Session → Type 0
+SendDoes s c room bytes y =
     let k = s.venue.kept in
     let x = session s c in
     ((bytes ≡ []) × Stays x y)
     ⊎ ((bytes ≡ sent_bytes k (next_to_send k c x.sent))
     × (y.sent ≡ sent_after k c x.sent)
     × (download y ≡ download x)
-    × (send_fault RealTime (length blank) c s ≡ None))
+    × (send_fault RealTime room c s ≡ None))
 
 -- a call for the next of the line's download, in the same way
-abbrev pub RecoverDoes : State → ℕ → List ℕ → Session → Type 0
-RecoverDoes s c bytes y =
+abbrev pub RecoverDoes : State → ℕ → ℕ → List ℕ → Session → Type 0
+RecoverDoes s c room bytes y =
     let k = s.venue.kept in
     let x = session s c in
     let next = recovered k c (download x) in
@@ -119,7 +119,7 @@ RecoverDoes s c bytes y =
     ⊎ ((bytes ≡ recovered_bytes k next.0)
     × (y.sent ≡ x.sent)
     × (download y ≡ next.1)
-    × (send_fault Recovery (length blank) c s ≡ None))
+    × (send_fault Recovery room c s ≡ None))
 
 -- ---- what a call left, and the session after it
 
@@ -222,25 +222,25 @@ module _ (line : ℕ) (P : List ℕ → Session → Type 0) (ch : Channel) (bs :
     outcome_makes m t spare reads = silence m
 
   -- a call that takes a message
-  module _ (t : Time) (spare : ℕ) (r : Result ℕ GatewayFault) (w : State) (out : List ℕ)
+  module _ (t : Time) (buffer : List ℕ) (spare : ℕ) (r : Result ℕ GatewayFault) (w : State) (out : List ℕ)
       (ready : line < length s.lines → Holds line P ch bs s) where
     abbrev Ends : State → List Act → Type 0
     Ends u acts = w ≡ acted t acts u
 
-    read_makes : (o : Option Fault) → line < length s.lines → Read Ends o (giving ch line bs t spare) s r out
+    read_makes : (o : Option Fault) → line < length s.lines → Read Ends o (giving ch line bs t buffer spare) s r out
         → P (left r out) (session w line)
     read_makes (Some f) there (e, g, k) = kept line P [] s w r out (left_err r _ out e) g same
     read_makes None there (m, reads, k) =
-        settled_makes line P t (outcome_of ch line m t spare s) blank r w out
+        settled_makes line P t (outcome_of ch line m t spare s) buffer r w out
         (outcome_makes (ready there) m t spare reads) k
 
-    checked_makes : (o : Option GatewayFault) → call_fault (length blank) line s ≡ o
-        → Checked Ends o (giving ch line bs t spare) s r out → P (left r out) (session w line)
+    checked_makes : (o : Option GatewayFault) → call_fault (length buffer) line s ≡ o
+        → Checked Ends o (giving ch line bs t buffer spare) s r out → P (left r out) (session w line)
     checked_makes (Some f) n (e, g, k) = kept line P [] s w r out (left_err r f out e) g same
-    checked_makes None n k = read_makes (verdict (reader_of ch) bs) (call_there (length blank) line s n) k
+    checked_makes None n k = read_makes (verdict (reader_of ch) bs) (call_there (length buffer) line s n) k
 
-    hears_makes : Hears Ends (giving ch line bs t spare) s r out → P (left r out) (session w line)
-    hears_makes k = checked_makes (call_fault (length blank) line s) refl k
+    hears_makes : Hears Ends (giving ch line bs t buffer spare) s r out → P (left r out) (session w line)
+    hears_makes k = checked_makes (call_fault (length buffer) line s) refl k
 
   -- a call that hands something out
   hands_makes : (o : Option GatewayFault) (h : Handed) (buffer : List ℕ) (r : Result ℕ GatewayFault) (w : State)
@@ -325,12 +325,12 @@ module _ (line : ℕ) (s : State) where
     closes = placed line Tells s [] (closed (session s line)) there (inr (nothing_apart, inr (refl, refl)));
   }
 
-pub effect_realtime : (c : ℕ) (s : State) (bs : Bor (List ℕ)) (t : Time) (r : Reply) (w : State)
+pub effect_realtime : (c : ℕ) (s : State) (bs : Vec ℕ Global) (t : Time) (r : Reply) (w : State)
     → Turns s (done.RealTime c bs t r) w
     → RealTimeDoes s.venue.kept (bytes_of r) (session s c) (session w c)
 effect_realtime c s bs t r w (spare, k) =
-    hears_makes c (Tells c s) RealTime bs.now s
-    (inr (nothing_apart, inl (refl, refl))) t spare r.answer w r.buffer (real_holds c s bs.now) k
+    hears_makes c (Tells c s) RealTime bs.items s
+    (inr (nothing_apart, inl (refl, refl))) t r.before.items spare r.answer w r.after.items (real_holds c s bs.items) k
 
 -- ---- a recovery message
 
@@ -363,12 +363,12 @@ module _ (line : ℕ) (bs : List ℕ) (s : State) where
         (inr (Silent, refl, refl, inr (refl, ended (session s line).on)));
   }
 
-pub effect_recovery : (c : ℕ) (s : State) (bs : Bor (List ℕ)) (t : Time) (r : Reply) (w : State)
+pub effect_recovery : (c : ℕ) (s : State) (bs : Vec ℕ Global) (t : Time) (r : Reply) (w : State)
     → Turns s (done.Recovery c bs t r) w
-    → RecoveryDoes s.venue.kept bs.now (bytes_of r) (session s c) (session w c)
+    → RecoveryDoes s.venue.kept bs.items (bytes_of r) (session s c) (session w c)
 effect_recovery c s bs t r w (spare, k) =
-    hears_makes c (Replies c bs.now s) Recovery bs.now s (stays_by c bs.now s Silent refl) t spare r.answer w r.buffer
-    (recovery_holds c bs.now s) k
+    hears_makes c (Replies c bs.items s) Recovery bs.items s (stays_by c bs.items s Silent refl) t r.before.items spare r.answer w r.after.items
+    (recovery_holds c bs.items s) k
 
 -- ---- a lost line, and what is handed out
 
@@ -387,26 +387,26 @@ pub effect_lost : (c : ℕ) (s : State) (t : Time) (r : Result (Unit {0}) Gatewa
 effect_lost c s t r w (spare, k) =
     closing (λ y. Stays (session s c) y ⊎ Closes (session s c) y) c s t r w (inl (refl, refl)) (inr (refl, refl)) k
 
-sends_there : (ch : Channel) (line : ℕ) (s : State) → send_fault ch (length blank) line s ≡ None → line < length s.lines
-sends_there ch line s e = call_there (length blank) line s (first_none (call_fault (length blank) line s) _ e)
+sends_there : (ch : Channel) (line room : ℕ) (s : State) → send_fault ch room line s ≡ None → line < length s.lines
+sends_there ch line room s e = call_there room line s (first_none (call_fault room line s) _ e)
 
 pub effect_send : (c : ℕ) (s : State) (r : Reply) (w : State) → Turns s (done.Send c r) w
-    → SendDoes s c (bytes_of r) (session w c)
+    → SendDoes s c (length r.before.items) (bytes_of r) (session w c)
 effect_send c s r w (spare, k) =
     let x = session s c in
     let marked = with_sent x (sent_after s.venue.kept c x.sent) in
-    hands_makes c (SendDoes s c) RealTime [] s (inl (refl, (refl, refl))) (send_fault RealTime (length blank) c s)
-    (live_handed c s) blank r.answer w r.buffer
-    (λ e. placed c (SendDoes s c) s _ marked (sends_there RealTime c s e) (inr (refl, refl, refl, e))) k
+    hands_makes c (SendDoes s c (length r.before.items)) RealTime [] s (inl (refl, (refl, refl)))
+    (send_fault RealTime (length r.before.items) c s) (live_handed c s) r.before.items r.answer w r.after.items
+    (λ e. placed c (SendDoes s c (length r.before.items)) s _ marked (sends_there RealTime c (length r.before.items) s e) (inr (refl, refl, refl, e))) k
 
 pub effect_recover : (c : ℕ) (s : State) (r : Reply) (w : State) → Turns s (done.SendRecovered c r) w
-    → RecoverDoes s c (bytes_of r) (session w c)
+    → RecoverDoes s c (length r.before.items) (bytes_of r) (session w c)
 effect_recover c s r w (spare, k) =
     let x = session s c in
     let rest = with_download x (recovered s.venue.kept c (download x)).1 in
-    hands_makes c (RecoverDoes s c) Recovery [] s (inl (refl, (refl, refl))) (send_fault Recovery (length blank) c s)
-    (recovery_handed c s) blank r.answer w r.buffer
-    (λ e. placed c (RecoverDoes s c) s _ rest (sends_there Recovery c s e)
+    hands_makes c (RecoverDoes s c (length r.before.items)) Recovery [] s (inl (refl, (refl, refl)))
+    (send_fault Recovery (length r.before.items) c s) (recovery_handed c s) r.before.items r.answer w r.after.items
+    (λ e. placed c (RecoverDoes s c (length r.before.items)) s _ rest (sends_there Recovery c (length r.before.items) s e)
     (inr (refl, refl, left_running s.venue.kept c x.on, e))) k
 
 pub effect_other : (c : ℕ) (s : State) (d : Done) (w : State) → Turns s d w → line_of d ≢ Some c → session w c

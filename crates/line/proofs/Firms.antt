@@ -14,7 +14,7 @@ use Rattle.line.proofs.Acted.{Acted, OnLine, ByMessage, hears_acted, loses_acted
 use Rattle.line.proofs.Walking.{hands_by}
 use Rattle.line.specs.Conservation.{MayBy, MayLose}
 use Rattle.line.specs.Laws.{FirmOf, FirmsApart}
-use Rattle.line.specs.Runs.{blank, giving}
+use Rattle.line.specs.Runs.{giving}
 use Rattle.call.specs.declared.venue_side.Done.TheVariants as done
 use Rattle.orders.specs.declared.row.Row.{Row}
 use Rattle.sessions.specs.declared.session.Channel.TheVariants.{RealTime, Recovery}
@@ -67,26 +67,26 @@ module _ (s : State) (line n : ℕ) (r : Row) (sound : Sound s.venue) (was : und
   acted_apart p w one (t, acts, f, e) =
       ap (λ (b : Books). under b.rows n) e ∙ acts_apart p one t acts s.venue f was
 
-  hands_apart : (o : Option GatewayFault) (p : Handed) (x : Result ℕ GatewayFault) (w : State) (out : List ℕ)
-      → p.after.venue ≡ s.venue → Hands (λ u acts. w ≡ u) o p s blank x out → under w.venue.rows n ≡ Some r
-  hands_apart o p x w out k d =
-      hands_by (λ z. under z.venue.rows n ≡ Some r) s was o p blank x w out
-      (ap (λ (b : Books). under b.rows n) k ∙ was) d
+  hands_apart : (o : Option GatewayFault) (p : Handed) (b : List ℕ) (x : Result ℕ GatewayFault) (w : State) (out : List ℕ)
+      → p.after.venue ≡ s.venue → Hands (λ u acts. w ≡ u) o p s b x out → under w.venue.rows n ≡ Some r
+  hands_apart o p b x w out k d =
+      hands_by (λ z. under z.venue.rows n ≡ Some r) s was o p b x w out
+      (ap (λ (v : Books). under v.rows n) k ∙ was) d
 
 the : (k line : ℕ) → ◌≡◌ {A = Option ℕ} (Some k) (Some line) → k ≡ line
 the k line e = cc
 
 pub firms_apart : FirmsApart
 firms_apart s (done.RealTime k bs t x) w line n r sound (j, h) e was apart =
-    let g = giving RealTime k bs.now t j in
+    let g = giving RealTime k bs.items t x.before.items j in
     let far = λ (f : firm s r.terms.owner ≡ firm s k). apart (f ∙ ap (firm s) (the k line e)) in
     acted_apart s k n r sound was far (ByMessage g s) w
-    (λ z a b (m, reads, y). act_apart s k n r sound was far (MayBy m) z a b y) (hears_acted g s x.answer w x.buffer h)
+    (λ z a b (m, reads, y). act_apart s k n r sound was far (MayBy m) z a b y) (hears_acted g s x.answer w x.after.items h)
 firms_apart s (done.Recovery k bs t x) w line n r sound (j, h) e was apart =
-    let g = giving Recovery k bs.now t j in
+    let g = giving Recovery k bs.items t x.before.items j in
     let far = λ (f : firm s r.terms.owner ≡ firm s k). apart (f ∙ ap (firm s) (the k line e)) in
     acted_apart s k n r sound was far (ByMessage g s) w
-    (λ z a b (m, reads, y). act_apart s k n r sound was far (MayBy m) z a b y) (hears_acted g s x.answer w x.buffer h)
+    (λ z a b (m, reads, y). act_apart s k n r sound was far (MayBy m) z a b y) (hears_acted g s x.answer w x.after.items h)
 firms_apart s (done.Step t x) w line n r sound h e was apart = none-some line e
 firms_apart s (done.CancelTrade k t x) w line n r sound h e was apart = none-some line e
 firms_apart s (done.LineLost k t x) w line n r sound (j, h) e was apart =
@@ -94,8 +94,8 @@ firms_apart s (done.LineLost k t x) w line n r sound (j, h) e was apart =
     acted_apart s k n r sound was far (OnLine MayLose s k) w (act_apart s k n r sound was far MayLose)
     (loses_acted k t s x w h)
 firms_apart s (done.Send k x) w line n r sound (j, h) e was apart =
-    hands_apart s k n r sound was (λ f. apart (f ∙ ap (firm s) (the k line e))) (send_fault RealTime (length blank) k s)
-    (live_handed k s) x.answer w x.buffer refl h
+    hands_apart s k n r sound was (λ f. apart (f ∙ ap (firm s) (the k line e))) (send_fault RealTime (length x.before.items) k s)
+    (live_handed k s) x.before.items x.answer w x.after.items refl h
 firms_apart s (done.SendRecovered k x) w line n r sound (j, h) e was apart =
-    hands_apart s k n r sound was (λ f. apart (f ∙ ap (firm s) (the k line e))) (send_fault Recovery (length blank) k s)
-    (recovery_handed k s) x.answer w x.buffer refl h
+    hands_apart s k n r sound was (λ f. apart (f ∙ ap (firm s) (the k line e))) (send_fault Recovery (length x.before.items) k s)
+    (recovery_handed k s) x.before.items x.answer w x.after.items refl h

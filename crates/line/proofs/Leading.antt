@@ -15,7 +15,7 @@ use Rattle.line.proofs.Acted.{Acted, OnLine, ByMessage, hears_acted, loses_acted
 use Rattle.line.proofs.Fitting.{Alters}
 use Rattle.line.proofs.Walking.{hands_by}
 use Rattle.line.specs.Conservation.{MayBy, MayLose}
-use Rattle.line.specs.Runs.{Turns, blank, giving}
+use Rattle.line.specs.Runs.{Turns, giving}
 use Rattle.call.specs.declared.venue_side.Done.{Done}
 use Rattle.call.specs.declared.venue_side.Done.TheVariants as done
 use Rattle.matching.specs.declared.event.Event.{Event}
@@ -134,15 +134,15 @@ module _ (R : Ledger → Ledger → Type 0) (s : State) (leads : Leads R (length
   stays_to : (w : State) → w.venue ≡ s.venue → To w
   stays_to w e = subst (λ (b : Books). R (ledger_of s.venue) (ledger_of b)) (sym e) (leads.same (ledger_of s.venue))
 
-  hands_to : (o : Option GatewayFault) (p : Handed) (r : Result ℕ GatewayFault) (w : State) (out : List ℕ)
-      → p.after.venue ≡ s.venue → Hands (λ u acts. w ≡ u) o p s blank r out → To w
-  hands_to o p r w out k d = hands_by To s (leads.same (ledger_of s.venue)) o p blank r w out (stays_to p.after k) d
+  hands_to : (o : Option GatewayFault) (p : Handed) (b : List ℕ) (r : Result ℕ GatewayFault) (w : State) (out : List ℕ)
+      → p.after.venue ≡ s.venue → Hands (λ u acts. w ≡ u) o p s b r out → To w
+  hands_to o p b r w out k d = hands_by To s (leads.same (ledger_of s.venue)) o p b r w out (stays_to p.after k) d
 
   pub call_leads : (d : Done) (w : State) → Turns s d w → To w
   call_leads (done.RealTime line bs t r) w (n, h) =
-      let g = giving RealTime line bs.now t n in told_to g w (hears_acted g s r.answer w r.buffer h)
+      let g = giving RealTime line bs.items t r.before.items n in told_to g w (hears_acted g s r.answer w r.after.items h)
   call_leads (done.Recovery line bs t r) w (n, h) =
-      let g = giving Recovery line bs.now t n in told_to g w (hears_acted g s r.answer w r.buffer h)
+      let g = giving Recovery line bs.items t r.before.items n in told_to g w (hears_acted g s r.answer w r.after.items h)
   call_leads (done.Step t (Ok r)) w (n, (x, e, y, z, h)) = one_to t (Take e) w tt (ap (λ (z : State). z.venue) h)
   call_leads (done.Step t (Err f)) w (n, (x, h)) = stays_to w (ap (λ (z : State). z.venue) h)
   call_leads (done.CancelTrade k t (Ok u)) w (n, (x, h)) = one_to t (Void k) w tt (ap (λ (z : State). z.venue) h)
@@ -150,6 +150,6 @@ module _ (R : Ledger → Ledger → Type 0) (s : State) (leads : Leads R (length
   call_leads (done.LineLost line t r) w (n, h) =
       acted_to (OnLine MayLose s line) w (among MayLose s line) (loses_acted line t s r w h)
   call_leads (done.Send line r) w (n, h) =
-      hands_to (send_fault RealTime (length blank) line s) (live_handed line s) r.answer w r.buffer refl h
+      hands_to (send_fault RealTime (length r.before.items) line s) (live_handed line s) r.before.items r.answer w r.after.items refl h
   call_leads (done.SendRecovered line r) w (n, h) =
-      hands_to (send_fault Recovery (length blank) line s) (recovery_handed line s) r.answer w r.buffer refl h
+      hands_to (send_fault Recovery (length r.before.items) line s) (recovery_handed line s) r.before.items r.answer w r.after.items refl h

@@ -12,4 +12,3 @@ pub mod Owning
 pub mod Firms
 pub mod Refused
 pub mod Effects
-pub mod Grown

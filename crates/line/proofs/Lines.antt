@@ -12,7 +12,7 @@ use Rattle.gateway.specs.State.{State, session}
 use Rattle.gateway.specs.declared.fault.GatewayFault.{GatewayFault}
 use Rattle.line.proofs.Walking.{hears_by, hands_by}
 use Rattle.line.specs.Laws.{LinesApart, line_of}
-use Rattle.line.specs.Runs.{Turns, blank, giving}
+use Rattle.line.specs.Runs.{Turns, giving}
 use Rattle.call.specs.declared.venue_side.Done.{Done}
 use Rattle.call.specs.declared.venue_side.Done.TheVariants as done
 use Rattle.session_messages.specs.declared.missed_message_request.MissedMessageRequest.{MissedMessageRequest}
@@ -115,9 +115,9 @@ SetOn (Some line) s w = Set line s w
 
 pub call_sets : (s : State) (d : Done) (w : State) → Turns s d w → SetOn (line_of d) s w
 call_sets s (done.RealTime line bs t r) w (spare, h) =
-    hears_set (giving RealTime line bs.now t spare) s r.answer w r.buffer h
+    hears_set (giving RealTime line bs.items t r.before.items spare) s r.answer w r.after.items h
 call_sets s (done.Recovery line bs t r) w (spare, h) =
-    hears_set (giving Recovery line bs.now t spare) s r.answer w r.buffer h
+    hears_set (giving Recovery line bs.items t r.before.items spare) s r.answer w r.after.items h
 call_sets s (done.Step t (Ok x)) w (spare, (f, e, may, is, y)) = ap (λ (z : State). z.lines) y
 call_sets s (done.Step t (Err f)) w (spare, (x, e)) = ap (λ (z : State). z.lines) e
 call_sets s (done.CancelTrade n t (Ok u)) w (spare, (x, e)) = ap (λ (z : State). z.lines) e
@@ -125,10 +125,10 @@ call_sets s (done.CancelTrade n t (Err f)) w (spare, (x, e)) = ap (λ (z : State
 call_sets s (done.LineLost line t (Ok u)) w (spare, (x, e)) = inr (_, ap (λ (z : State). z.lines) e)
 call_sets s (done.LineLost line t (Err f)) w (spare, (x, e)) = stays_set line s w e
 call_sets s (done.Send line r) w (spare, h) =
-    hands_set line (send_fault RealTime (length blank) line s) (live_handed line s) s blank r.answer w r.buffer
+    hands_set line (send_fault RealTime (length r.before.items) line s) (live_handed line s) s r.before.items r.answer w r.after.items
     (inr (_, refl)) h
 call_sets s (done.SendRecovered line r) w (spare, h) =
-    hands_set line (send_fault Recovery (length blank) line s) (recovery_handed line s) s blank r.answer w r.buffer
+    hands_set line (send_fault Recovery (length r.before.items) line s) (recovery_handed line s) s r.before.items r.answer w r.after.items
     (inr (_, refl)) h
 
 -- ---- others stay

@@ -8,7 +8,7 @@ use Rattle.gateway.specs.State.{State}
 use Rattle.gateway.specs.declared.fault.GatewayFault.{GatewayFault}
 use Rattle.line.proofs.Walking.{hears_by}
 use Rattle.line.specs.Laws.{RefusedStand}
-use Rattle.line.specs.Runs.{blank, giving}
+use Rattle.line.specs.Runs.{giving}
 use Rattle.call.specs.declared.venue_side.Done.TheVariants as done
 use Rattle.sessions.specs.declared.session.Channel.TheVariants.{RealTime, Recovery}
 
@@ -27,9 +27,9 @@ hands None p s buffer r w out (x, e, y) h = not_refused r _ x h
 
 pub refused_stand : RefusedStand
 refused_stand s (done.RealTime line bs t r) w (spare, k) h =
-    hears (giving RealTime line bs.now t spare) s r.answer w r.buffer k h
+    hears (giving RealTime line bs.items t r.before.items spare) s r.answer w r.after.items k h
 refused_stand s (done.Recovery line bs t r) w (spare, k) h =
-    hears (giving Recovery line bs.now t spare) s r.answer w r.buffer k h
+    hears (giving Recovery line bs.items t r.before.items spare) s r.answer w r.after.items k h
 refused_stand s (done.Step t (Err f)) w (spare, (x, e)) h = e
 refused_stand s (done.Step t (Ok e)) w k h = absurd (cc)
 refused_stand s (done.CancelTrade n t (Err f)) w (spare, (x, e)) h = e
@@ -37,6 +37,6 @@ refused_stand s (done.CancelTrade n t (Ok u)) w k h = absurd (cc)
 refused_stand s (done.LineLost line t (Err f)) w (spare, (x, e)) h = e
 refused_stand s (done.LineLost line t (Ok u)) w k h = absurd (cc)
 refused_stand s (done.Send line r) w (spare, k) h =
-    hands (send_fault RealTime (length blank) line s) (live_handed line s) s blank r.answer w r.buffer k h
+    hands (send_fault RealTime (length r.before.items) line s) (live_handed line s) s r.before.items r.answer w r.after.items k h
 refused_stand s (done.SendRecovered line r) w (spare, k) h =
-    hands (send_fault Recovery (length blank) line s) (recovery_handed line s) s blank r.answer w r.buffer k h
+    hands (send_fault Recovery (length r.before.items) line s) (recovery_handed line s) s r.before.items r.answer w r.after.items k h

@@ -6,7 +6,7 @@ use Rattle.gateway.specs.Hearing.{Settled, Read, Checked, Given, Hears, call_fau
 use Rattle.gateway.specs.State.{State, venue_of}
 use Rattle.gateway.specs.declared.fault.GatewayFault.{GatewayFault}
 use Rattle.layout.specs.declared.fault.Fault.{Fault}
-use Rattle.line.specs.Runs.{Does, Makes, Turns, blank, giving}
+use Rattle.line.specs.Runs.{Does, Makes, Turns, giving}
 use Rattle.call.specs.declared.venue_side.Done.{Done}
 use Rattle.call.specs.declared.venue_side.Done.TheVariants as done
 use Rattle.matching.specs.Asked.{Asked}
@@ -60,16 +60,16 @@ module _ (G H : Time → State → List Act → Type 0) (I J : State → List Ac
     (or : (u : State) (acts : List Act) → I u acts → J u acts) where
   pub makes_by : (n : ℕ) (s : State) (d : Done) → Makes G I n s d → Makes H J n s d
   makes_by n s (done.RealTime line m t r) k =
-      hears (G t) (H t) (by t) (giving RealTime line m.now t n) s r.answer r.buffer k
+      hears (G t) (H t) (by t) (giving RealTime line m.items t r.before.items n) s r.answer r.after.items k
   makes_by n s (done.Recovery line m t r) k =
-      hears (G t) (H t) (by t) (giving Recovery line m.now t n) s r.answer r.buffer k
+      hears (G t) (H t) (by t) (giving Recovery line m.items t r.before.items n) s r.answer r.after.items k
   makes_by n s (done.Step t r) k = steps (G t) (H t) (by t) n s r k
   makes_by n s (done.CancelTrade x t r) k = undoes (G t) (H t) (by t) x n s r k
   makes_by n s (done.LineLost line t r) k = loses (G t) (H t) (by t) line s r k
   makes_by n s (done.Send line r) k =
-      hands I J or (send_fault RealTime (length blank) line s) (live_handed line s) s blank r.answer r.buffer k
+      hands I J or (send_fault RealTime (length r.before.items) line s) (live_handed line s) s r.before.items r.answer r.after.items k
   makes_by n s (done.SendRecovered line r) k =
-      hands I J or (send_fault Recovery (length blank) line s) (recovery_handed line s) s blank r.answer r.buffer k
+      hands I J or (send_fault Recovery (length r.before.items) line s) (recovery_handed line s) s r.before.items r.answer r.after.items k
 
 -- ---- what is done to a gateway ends in what is done to its state
 

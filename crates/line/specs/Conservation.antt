@@ -61,8 +61,8 @@ MayLose c = ⊥
 
 -- what a call may make of the orders
 abbrev pub May : State → Done → Move → Type 0
-May s (done.RealTime line bs t r) m = (x : Message) × Reads RealTime bs.now x × MayBy x m.1
-May s (done.Recovery line bs t r) m = (x : Message) × Reads Recovery bs.now x × MayBy x m.1
+May s (done.RealTime line bs t r) m = (x : Message) × Reads RealTime bs.items x × MayBy x m.1
+May s (done.Recovery line bs t r) m = (x : Message) × Reads Recovery bs.items x × MayBy x m.1
 May s (done.Step t r) m = MayStep r m
 May s (done.CancelTrade n t r) m = MayUndo (under s.venue.trades n) m.1
 May s (done.LineLost line t r) m = MayLose m.1

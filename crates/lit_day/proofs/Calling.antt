@@ -1,20 +1,19 @@
 -- Each call on a gateway over the lit book: the book follows it, and a trade that it reports is fair. Assumes nothing.
 use Rattle.std.specs.FinMap.{len}
 use Rattle.std.specs.List.{AllByRecursion}
-use Rattle.std.proofs.lemmas.Bool.{and_parts, eqb-true}
 use Rattle.std.proofs.Common.{◌≡◌, ℕ, zero, suc, true, eqb, arith, List, [], ◌∷◌, ◌++◌, Some, None, Option, Ok, Err, Result, length, refl, sym, ap, ◌∙◌, subst}
 use Rattle.call.specs.declared.venue_side.Done.{Done}
 use Rattle.call.specs.declared.venue_side.Done.TheVariants as done
+use Rattle.ends.specs.Both.{Begins}
 use Rattle.gateway.specs.Calls.{Handed, Hands, Loses, Steps, Undoes, live_handed, recovery_handed, send_fault}
 use Rattle.gateway.specs.Doing.{Comes, Stays}
 use Rattle.gateway.specs.Hearing.{Checked, Given, Hears, Read, call_fault, outcome_of, reader_of}
-use Rattle.gateway.specs.Starting.{is_new, is_unused}
 use Rattle.gateway.specs.State.{State, venue_of}
 use Rattle.gateway.specs.declared.fault.GatewayFault.{GatewayFault}
 use Rattle.keyed.specs.Numbers.{under}
 use Rattle.layout.specs.declared.fault.Fault.{Fault}
 use Rattle.line.proofs.Fitting.{outcome_fits}
-use Rattle.line.specs.Runs.{Does, blank, giving}
+use Rattle.line.specs.Runs.{Does, Runs, giving}
 use Rattle.lit_book.proofs.Fairs.{served}
 use Rattle.lit_book.proofs.Tables.{count}
 use Rattle.lit_book.specs.Books.{LitDid, lit, lit_meaning, table}
@@ -24,11 +23,10 @@ use Rattle.lit_book.specs.declared.order.Order.{Order}
 use Rattle.lit_day.proofs.Acting.{MayDo, acts_follow, all_of, apart_in}
 use Rattle.lit_day.proofs.Sending.{ends_may, outcome_may}
 use Rattle.lit_day.proofs.Taking.{within}
-use Rattle.lit_day.specs.Trading.{Answered, Fairly, Mirrors, Trades, open_order}
+use Rattle.lit_day.specs.Trading.{Answered, Fairly, Mirrors, Trades, TradesFairly, open_order}
 use Rattle.orders.specs.declared.row.Row.{Row}
 use Rattle.requests.specs.Deciding.{spare}
 use Rattle.sessions.specs.declared.session.Channel.TheVariants.{RealTime, Recovery}
-use Rattle.store.specs.Kept.{Kept}
 use Rattle.texts.specs.declared.values.Time.{Time}
 use Rattle.venue.specs.Acts.{Act, Take, Void}
 use Rattle.venue.specs.Books.{Books, Over}
@@ -83,23 +81,23 @@ module _ (x y : Over State LitBook) (k : Follows x) where
   stays u same e =
       subst Follows (sym e) (subst (λ (v : Books). Mirrors v.rows (lit x.engine)) (sym same) k)
 
-  hands : (o : Option GatewayFault) (h : Handed) (r : Result ℕ GatewayFault) (out : List ℕ)
-      → h.after.venue ≡ x.state.venue → Hands (Stays x y) o h x.state blank r out → Follows y
-  hands (Some f) h r out same d = stays x.state refl d.1
-  hands None h r out same d = stays h.after same d.1
+  hands : (o : Option GatewayFault) (h : Handed) (b : List ℕ) (r : Result ℕ GatewayFault) (out : List ℕ)
+      → h.after.venue ≡ x.state.venue → Hands (Stays x y) o h x.state b r out → Follows y
+  hands (Some f) h b r out same d = stays x.state refl d.1
+  hands None h b r out same d = stays h.after same d.1
 
   pub follows : (d : Done) → Does LitDid x d y → Follows y
   follows (done.RealTime line m t r) h =
-      hears (giving RealTime line m.now t (spare (venue_of x))) r.answer r.buffer h
+      hears (giving RealTime line m.items t r.before.items (spare (venue_of x))) r.answer r.after.items h
   follows (done.Recovery line m t r) h =
-      hears (giving Recovery line m.now t (spare (venue_of x))) r.answer r.buffer h
+      hears (giving Recovery line m.items t r.before.items (spare (venue_of x))) r.answer r.after.items h
   follows (done.Step t r) h = steps t (spare (venue_of x)) r h
   follows (done.CancelTrade n t r) h = undoes t n (spare (venue_of x)) r h
   follows (done.LineLost line t r) h = loses t line r h
   follows (done.Send line r) h =
-      hands (send_fault RealTime (length blank) line x.state) (live_handed line x.state) r.answer r.buffer refl h
+      hands (send_fault RealTime (length r.before.items) line x.state) (live_handed line x.state) r.before.items r.answer r.after.items refl h
   follows (done.SendRecovered line r) h =
-      hands (send_fault Recovery (length blank) line x.state) (recovery_handed line x.state) r.answer r.buffer refl h
+      hands (send_fault Recovery (length r.before.items) line x.state) (recovery_handed line x.state) r.before.items r.answer r.after.items refl h
 
   -- ---- a trade
 
@@ -118,11 +116,11 @@ module _ (x y : Over State LitBook) (k : Follows x) where
 
 -- ---- calls in turn
 
-pub trades_more : (x : Over State LitBook) (ds : List Done) (y : Over State LitBook) (d : Done) (z : Over State LitBook)
-    → Trades x ds y → Follows y → Does LitDid y d z → Trades x (ds ++ d ∷ []) z
-trades_more x [] y d z e k h =
-    subst (λ (a : Over State LitBook). Trades a (d ∷ []) z) e (z, h, k, fairly y z k d h, refl)
-trades_more x (b ∷ ds) y d z (a, f, g, i, r) k h = (a, f, g, i, trades_more a ds y d z r k h)
+pub trades_all : (x : Over State LitBook) (ds : List Done) (y : Over State LitBook) → Runs LitDid x ds y → Follows x
+    → Trades x ds y × Follows y
+trades_all x [] y e k = (e, subst Follows (sym e) k)
+trades_all x (d ∷ ds) y (z, h, sound, r) k =
+    let (t, m) = trades_all z ds y r (follows x z k d h) in ((z, h, k, fairly x z k d h, t), m)
 
 -- ---- a day that begins
 
@@ -134,10 +132,17 @@ none_under : (n : ℕ) → under {X = Row} [] n ≡ None
 none_under zero = refl
 none_under (suc n) = refl
 
-pub begins : (b : LitBook) (k : Kept) → is_new (lit_meaning b) k ≡ true → Mirrors [] (lit b)
-begins b k h n =
-    let none = eqb-true _ 0 (and_parts (eqb (len (orders_of (table b))) 0) (is_unused k) h).0 in
+none_open : (b : LitBook) → len (lit_meaning b).orders ≡ 0 → Mirrors [] (lit b)
+none_open b e n =
     let many = count (table b) b.apart in
     ap (λ (l : List Order). order_in l n) (all_of b)
     ∙ none_in (table b) n (omega arith)
     ∙ ap (open_order n) (sym (none_under n))
+
+begins : (x : Over State LitBook) → Begins lit_meaning x → Follows x
+begins x b =
+    subst (λ rows. Mirrors rows (lit x.engine)) (sym (ap (λ (s : State). s.venue.rows) b.is)) (none_open x.engine b.empty)
+
+pub fair : (x y : Over State LitBook) (ds : List Done) → Begins lit_meaning x → Runs LitDid x ds y → TradesFairly ds y
+fair x y ds b r =
+    let (t, m) = trades_all x ds y r (begins x b) in record { first = x; begins = b; trades = t; mirrors = m }

@@ -1,4 +1,3 @@
-pub mod Refusing
 pub mod Finding
 pub mod Mirroring
 pub mod Taking

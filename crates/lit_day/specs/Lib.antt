@@ -1,2 +1,1 @@
 pub mod Trading
-pub mod Refusing

@@ -2,11 +2,12 @@
 use Rattle.std.specs.Prelude.{◌≡◌, ℕ, ◌≤◌, true, List, [], ◌∷◌, Some, None, Ok, Err, Option, Result, if◌then◌else◌}
 use Rattle.call.specs.declared.venue_side.Done.{Done}
 use Rattle.call.specs.declared.venue_side.Done.TheVariants as done
+use Rattle.ends.specs.Both.{Begins}
 use Rattle.gateway.specs.State.{State}
 use Rattle.gateway.specs.declared.fault.GatewayFault.{GatewayFault}
 use Rattle.keyed.specs.Numbers.{under}
 use Rattle.line.specs.Runs.{Does}
-use Rattle.lit_book.specs.Books.{LitDid, lit}
+use Rattle.lit_book.specs.Books.{LitDid, lit, lit_meaning}
 use Rattle.lit_book.specs.Laws.{FirstServed, at_rest_for}
 use Rattle.lit_book.specs.Orders.{accepts, opposes}
 use Rattle.lit_book.specs.Rules.{Lit, order_under}
@@ -85,3 +86,10 @@ Trades x [] y = y ≡ x
 Trades x (d ∷ ds) y =
     (z : Over State LitBook) × Does LitDid x d z × Mirrors x.state.venue.rows (lit x.engine)
     × Fairly x.state.venue.rows (lit x.engine) d × Trades z ds y
+
+-- from the start of a day over the lit book these calls lead here, and so it was throughout, and is now
+pub record TradesFairly (ds : List Done) (y : Over State LitBook) : Type 0 where
+  pub first : Over State LitBook
+  pub begins : Begins lit_meaning first
+  pub trades : Trades first ds y
+  pub mirrors : Mirrors y.state.venue.rows (lit y.engine)

@@ -9,8 +9,8 @@ use Rattle.limits.specs.declared.TheConstants.{DOWNLOADED}
 use Rattle.partitions.specs.PerPartition.{at}
 use Rattle.reports.specs.declared.report.Entry.{Entry}
 use Rattle.sessions.specs.declared.download.Download.{Download}
-use Rattle.sessions.specs.declared.download.Handed.{Handed}
-use Rattle.sessions.specs.declared.download.Handed.TheVariants.{Report, Ended}
+use Rattle.sessions.specs.declared.download.HandedOut.{HandedOut}
+use Rattle.sessions.specs.declared.download.HandedOut.TheVariants.{Report, Ended}
 use Rattle.sessions.specs.Downloads.{up_to, handed_out, answered}
 use Rattle.sessions.specs.Laws.{Grown, Growing, owned, whole, hands_out, DownloadsWhole}
 use Rattle.sessions.proofs.Owned.{owned_grown, Next, next_owned}
@@ -24,10 +24,10 @@ nothing_more o (k ∷ ks) = nothing_more o ks
 
 -- what a download hands out first
 whole_none : (p : Partition) (m n : ℕ) → take (suc n) (whole p m []) ≡ Ended Complete ∷ []
-whole_none p m n = rw (take-nil {A = ℕ} m, leb-zero m, take-nil {A = Handed} n)
+whole_none p m n = rw (take-nil {A = ℕ} m, leb-zero m, take-nil {A = HandedOut} n)
 
 whole_full : (p : Partition) (x : ℕ) (ns : List ℕ) (n : ℕ) → take (suc n) (whole p 0 (x ∷ ns)) ≡ Ended MessageLimit ∷ []
-whole_full p x ns n = rw (leb-suc-zero (length ns), take-nil {A = Handed} n)
+whole_full p x ns n = rw (leb-suc-zero (length ns), take-nil {A = HandedOut} n)
 
 whole_some : (p : Partition) (m x : ℕ) (ns : List ℕ) (n : ℕ) → take (suc n) (whole p (suc m) (x ∷ ns)) ≡ Report p x
     ∷ take n (whole p m ns)
@@ -44,16 +44,16 @@ turn : (o : ℕ) (ks : List Kept) (l : List Entry) (p : Partition) (a t h m : �
     → cons_option (answered (handed_out (running p a t h) r)).0
     (hands_out o ks (answered (handed_out (running p a t h) r)).1) ≡ take (suc (length ks)) (whole p m (owned l o a t))
 turn o ks l p a t h m None e n next =
-    ap (λ (rs : List Handed). Ended Complete ∷ rs) (nothing_more o ks) ∙ sym (whole_none p m (length ks))
+    ap (λ (rs : List HandedOut). Ended Complete ∷ rs) (nothing_more o ks) ∙ sym (whole_none p m (length ks))
     ∙ ap (λ ns. take (suc (length ks)) (whole p m ns)) (sym n)
 turn o ks l p a t h zero (Some x) e n next =
     let b : leb DOWNLOADED h ≡ true = le-leb DOWNLOADED h (omega arith) in
-    rw b (ap (λ (rs : List Handed). Ended MessageLimit ∷ rs) (nothing_more o ks) ∙ sym
+    rw b (ap (λ (rs : List HandedOut). Ended MessageLimit ∷ rs) (nothing_more o ks) ∙ sym
     (whole_full p x (owned l o x t) (length ks))
     ∙ ap (λ ns. take (suc (length ks)) (whole p 0 ns)) (sym n))
 turn o ks l p a t h (suc m) (Some x) e n next =
     let b : leb DOWNLOADED h ≡ false = lt-leb DOWNLOADED h (omega arith) in
-    rw b (ap (λ (rs : List Handed). Report p x ∷ rs) (next x m (omega arith)) ∙ sym
+    rw b (ap (λ (rs : List HandedOut). Report p x ∷ rs) (next x m (omega arith)) ∙ sym
     (whole_some p m x (owned l o x t) (length ks))
     ∙ ap (λ ns. take (suc (length ks)) (whole p (suc m) ns)) (sym n))
 

@@ -11,8 +11,8 @@ use Rattle.partitions.specs.PerPartition.{at, with_at}
 use Rattle.reports.specs.declared.report.Entry.{Entry}
 use Rattle.reports.specs.Tally.{is_of}
 use Rattle.sessions.specs.declared.download.Download.{Download}
-use Rattle.sessions.specs.declared.download.Handed.{Handed}
-use Rattle.sessions.specs.declared.download.Handed.TheVariants.{Report, Ended}
+use Rattle.sessions.specs.declared.download.HandedOut.{HandedOut}
+use Rattle.sessions.specs.declared.download.HandedOut.TheVariants.{Report, Ended}
 use Rattle.sessions.specs.Downloads.{begun, recovered}
 use Rattle.sessions.specs.Sending.{next_to_send, sent_after}
 use Rattle.store.specs.Kept.{Kept}
@@ -31,12 +31,12 @@ abbrev pub owned : List Entry → ℕ → ℕ → ℕ → List ℕ
 owned l o above target = filter (λ n. is_of o (under l n)) (range_with_len (above + 1) (target - above))
 
 -- what a whole download of these numbers hands out: at most so many, and whether those were all
-abbrev pub whole : Partition → ℕ → List ℕ → List Handed
+abbrev pub whole : Partition → ℕ → List ℕ → List HandedOut
 whole p most ns =
     map (λ n. Report p n) (take most ns) ++ Ended (if nat_le (length ns) most then Complete else MessageLimit) ∷ []
 
 -- what a download hands out, one call after another, each over the store as it then is
-abbrev pub hands_out : ℕ → List Kept → Option Download → List Handed
+abbrev pub hands_out : ℕ → List Kept → Option Download → List HandedOut
 hands_out o [] d = []
 hands_out o (k ∷ ks) d = cons_option (recovered k o d).0 (hands_out o ks (recovered k o d).1)
 

@@ -18,7 +18,7 @@ pub struct Download {
 
 /// What a download hands out: a report by its number, or the end with its response.
 #[derive(Clone, Copy)]
-pub enum Handed {
+pub enum HandedOut {
     Report(Partition, u32),
     Ended(ReportResponse),
 }
@@ -46,13 +46,13 @@ impl Download {
     }
 
     /// What is handed out next, and the download if it goes on.
-    pub fn next<S: Store>(self, owner: usize, store: &S) -> (Handed, Option<Download>)
+    pub fn next<S: Store>(self, owner: usize, store: &S) -> (HandedOut, Option<Download>)
         ensures { result ≡ handed_out self (remaining (at (S.kept store.now) self.partition) owner self) }
     {
         match self.remaining(owner, store) {
-            None => (Handed::Ended(ReportResponse::Complete), None),
+            None => (HandedOut::Ended(ReportResponse::Complete), None),
             Some(_) if self.handed >= DOWNLOADED => {
-                (Handed::Ended(ReportResponse::MessageLimit), None)
+                (HandedOut::Ended(ReportResponse::MessageLimit), None)
             }
             Some(number) => {
                 let rest = Download {
@@ -60,7 +60,7 @@ impl Download {
                     handed: self.handed + 1,
                     ..self
                 };
-                (Handed::Report(self.partition, number), Some(rest))
+                (HandedOut::Report(self.partition, number), Some(rest))
             }
         }
     }

@@ -4,7 +4,7 @@ ghost use Rattle.sessions.specs.Sessions.{fresh, on, logged_on, closed, recovery
 ghost use Rattle.sessions.specs.Downloads.{recovered};
 ghost use Rattle.sessions.specs.Sending.{next_to_send, sent_after, found, looked};
 
-use crate::download::{Download, Handed};
+use crate::download::{Download, HandedOut};
 use codes::session::{AckResponse, Partition};
 use limits::REQUESTS;
 use partitions::per_partition::PerPartition;
@@ -163,7 +163,7 @@ impl Session {
     }
 
     /// What the download that runs hands out next; nothing where none runs.
-    pub fn next_recovered<S: Store>(&mut self, owner: usize, store: &S) -> Option<Handed>
+    pub fn next_recovered<S: Store>(&mut self, owner: usize, store: &S) -> Option<HandedOut>
         ensures answer { result ≡ (recovered (S.kept store.now) owner (download self.old)).0 }
         ensures after { self.new ≡ with_download self.old (recovered (S.kept store.now) owner (download self.old)).1 }
     {

@@ -3,7 +3,7 @@ use codes::session::{AckResponse, Partition, ReportResponse};
 use partitions::per_partition::PerPartition;
 use refusals::Refusal;
 use reports::report::{CancelReject, Entry, Report};
-use sessions::download::Handed;
+use sessions::download::HandedOut;
 use sessions::session::{Channel, Session};
 use std::test::Fail;
 use store::Store;
@@ -82,7 +82,7 @@ fn asking(store: &mut Records) -> Result<Session, Fail> {
 }
 
 // What it is then handed: a report, and the end.
-fn handed(store: &mut Records) -> Result<(Option<Handed>, Option<Handed>), Fail> {
+fn handed(store: &mut Records) -> Result<(Option<HandedOut>, Option<HandedOut>), Fail> {
     let mut line = asking(store)?;
     let first = line.next_recovered(1, store);
     Ok((first, line.next_recovered(1, store)))
@@ -94,7 +94,7 @@ fn recovered(rt: HostRuntime) -> Result<(), Fail> {
     let handed = handed(&mut store);
     drop(store);
     let (first, last) = handed?;
-    assert!(rt; matches!(first, Some(Handed::Report(Partition::Two, 1))));
-    assert!(rt; matches!(last, Some(Handed::Ended(ReportResponse::Complete))));
+    assert!(rt; matches!(first, Some(HandedOut::Report(Partition::Two, 1))));
+    assert!(rt; matches!(last, Some(HandedOut::Ended(ReportResponse::Complete))));
     Ok(())
 }

@@ -1,8 +1,13 @@
-use Rattle.std.proofs.Common.{arith}
+use Rattle.std.proofs.Common.{◌≡◌, IfOk, arith, subst}
+use Rattle.ends.specs.Deciding.{after_entry, onto}
+use Rattle.ends.specs.declared.entry.Entry.{Entry}
 use Rattle.ends.proofs.Refusals.{refused_at}
 use Rattle.ends.proofs.allowed.line_allows.Goals as goal
 
 pub returns-in-Err : goal.returns-in-Err
-returns-in-Err c =
-    refused_at c.args.line c.loop-done.done-index c.args.log.now _ c.loop-done.watch _ _ c.in-Err.breach
-    c.after_call.result (omega arith) c.loop-done.invariant c.after_call.ensures (grind arith)
+returns-in-Err g c =
+    let P : Entry g.row.Q.Denot g.row.A.Denot → Type 0 = λ x. IfOk c.after_entry.result
+    (λ r. after_entry c.args.line x c.loop-entry.watch ≡ onto r c.after_entry.new.watch) in
+    refused_at c.args.line c.loop-entry.entry-index c.args.log.now c.entry-item.result c.loop-entry.watch _ _
+    c.in-Err.breach c.after_entry.result (omega arith) c.loop-entry.invariant
+    (subst P c.entry-item.is c.after_entry.ensures) (grind arith)
