@@ -1,7 +1,7 @@
 // Plays a script of calls on a gateway, and prints what each was answered.
 #![tactic(auto)]
 
-use bench_person::failure::Failure;
+use bench_play::failure::Failure;
 use bench_play::play::Play;
 use console::{About, Session};
 use std::io;

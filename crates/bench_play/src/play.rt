@@ -1,44 +1,24 @@
-// A script as far as it has been played: what the gateway is started with, the gateway, and the follower of one of its
-// lines.
+// A script as far as it has been played: what both ends are started with, the two ends, and the line that is followed.
+use crate::came::Came;
+use crate::day::Day;
+use crate::failure::Failure;
+use crate::opening::{Engine, Opening, Shelf};
+use crate::ruling::Ruling;
+use crate::state::{State, reader};
+use crate::{asking, cable, calls, show, sides};
 use bench_account::answer::Answer;
 use bench_account::verdict::Verdict;
-use bench_calls::calls;
-use bench_calls::came::Came;
-use bench_calls::desk::Desk;
-use bench_calls::log::Log;
-use bench_calls::state::{State, reader};
-use bench_day::day::Day;
-use bench_day::opening::{Engine, Opening, Shelf};
-use bench_day::show;
-use bench_person::failure::Failure;
-use bench_person::{asking, cable};
 use bench_script::command;
 use bench_script::command::{Cable, Command, Setup};
-use bench_sides::ruling::Ruling;
-use bench_sides::sides;
+use call::both_ends::Call;
 use configuration::config::StartRefusal;
 use follower::hold;
-use gateway::gateway::Gateway;
 use inspector::answer::answer_message;
-use matching::matcher::Matcher;
 use script_words::bytes::Bytes;
 use script_words::line::{is_skipped, parted};
 use script_words::misread::Misread;
 use std::alloc::{AllocError, Global};
 use std::{io, mem};
-use store::Store;
-
-// Each day's gateway, whichever engine and store it has.
-macro_rules! of_day {
-    ($day:expr, $gateway:ident => $work:expr) => {
-        match $day {
-            Day::LitRecords($gateway) => $work,
-            Day::LitWire($gateway) => $work,
-            Day::TapeRecords($gateway) => $work,
-            Day::TapeWire($gateway) => $work,
-        }
-    };
-}
 
 /// The most reports of a partition that a follower holds until a download has ended.
 pub const HOLD: usize = hold::HOLD;
@@ -54,47 +34,14 @@ pub enum Played {
     Other,
 }
 
-/// A script as far as it has been played. It is not let go, but closed.
+/// A script as far as it has been played.
+#[derive(Drop)]
 pub struct Play {
     opening: Opening,
     day: Option<Day>,
-    desk: Option<Desk>,
+    /// The line that is followed.
+    line: Option<usize>,
     pub state: State,
-}
-
-// A line that a started gateway answers.
-fn obey<R: Print + AllocGlobal, M: Matcher, S: Store>(
-    rt: &R,
-    state: &mut State,
-    gateway: &mut Gateway<M, S>,
-    order: Command<'_>,
-) -> Result<(), Failure> {
-    match order {
-        Command::Call(call) => calls::make(rt, state, gateway, call)?,
-        Command::Request(line, request) => asking::ask(rt, state, gateway, line, request)?,
-        Command::Run => asking::run(rt, state, gateway)?,
-        Command::Drain(line) => asking::drain(rt, state, gateway, line)?,
-        Command::Download(line) => asking::download(rt, state, gateway, line)?,
-        Command::Orders => show::orders(rt, gateway)?,
-        _ => {}
-    }
-    Ok(())
-}
-
-fn close_day<R: Print + AllocGlobal, M: Matcher, S: Store>(
-    rt: &R,
-    gateway: &Gateway<M, S>,
-    desk: &Option<Desk>,
-    log: &Log,
-) -> io::Result<()> {
-    show::close(rt, gateway)?;
-    if let Some(desk) = desk {
-        sides::close(rt, gateway, desk)?;
-    }
-    if let Some(ruling) = Ruling::of_log(rt.alloc(), log)? {
-        rt.println(ruling)?;
-    }
-    Ok(())
 }
 
 fn show_message<R: Print + AllocGlobal>(rt: &R, bytes: Bytes<'_>) -> io::Result<()> {
@@ -103,32 +50,71 @@ fn show_message<R: Print + AllocGlobal>(rt: &R, bytes: Bytes<'_>) -> io::Result<
     rt.println(shown.text.as_str())
 }
 
+// A line that both ends answer.
+fn obey<R: Print + AllocGlobal>(
+    rt: &R,
+    state: &mut State,
+    day: &mut Day,
+    order: Command<'_>,
+) -> Result<(), Failure> {
+    match order {
+        Command::Call(call) => {
+            let call = calls::called(rt.alloc(), call)?;
+            let _more = calls::make(rt, state, day, call)?;
+        }
+        Command::Request(line, request) => asking::ask(rt, state, day, line, request)?,
+        Command::Run => asking::run(rt, state, day)?,
+        Command::Drain(line) => asking::drain(rt, state, day, line)?,
+        Command::Download(line) => asking::download(rt, state, day, line)?,
+        Command::Orders => day.show_orders(rt)?,
+        _ => {}
+    }
+    Ok(())
+}
+
+// A line that the desk of the line that is followed answers.
+fn obey_desk<R: Print + AllocGlobal>(
+    rt: &R,
+    state: &mut State,
+    day: &mut Day,
+    line: usize,
+    order: Command<'_>,
+) -> Result<(), Failure> {
+    match order {
+        Command::Desk(call) => {
+            let call = calls::followed(rt.alloc(), call)?;
+            let _more = calls::make(rt, state, day, call)?;
+        }
+        Command::Cable(action) => cable::play(rt, state, day, line, action)?,
+        Command::Follower => sides::show(rt, day)?,
+        _ => {}
+    }
+    Ok(())
+}
+
 impl Play {
     /// No line has been played.
     pub fn new(heap: Global) -> Play {
         Play {
             opening: Opening::new(heap),
             day: None,
-            desk: None,
+            line: None,
             state: State::new(heap),
         }
     }
 
-    /// Ends it; what the follower owes ends too. Each part is let go by a call: where a value goes at the end of a
-    /// scope, all that it holds is taken apart in that function's proof.
+    /// Ends it. Each part is let go by a call: where a value goes at the end of a scope, all that it holds is taken apart in
+    /// that function's proof.
     pub fn close(self) {
         let Play {
             opening,
             day,
-            desk,
+            line: _,
             state,
         } = self;
         drop(opening);
         drop(day);
         drop(state);
-        if let Some(desk) = desk {
-            desk.close();
-        }
     }
 
     /// Plays a line, and says what it was.
@@ -185,17 +171,6 @@ impl Play {
         }
     }
 
-    // A follower, in the place of one that was there before.
-    fn follow<R: AllocGlobal>(&mut self, rt: &R, line: usize) -> Result<(), AllocError> {
-        let desk = Desk::new(rt.alloc(), line)?;
-        self.state.under_way.follow(line);
-        self.state.log.follow(line);
-        if let Some(before) = mem::replace(&mut self.desk, Some(desk)) {
-            before.close();
-        }
-        Ok(())
-    }
-
     // A line of the configuration.
     fn set_up<R: Print + AllocGlobal>(
         &mut self,
@@ -224,22 +199,13 @@ impl Play {
             }
             Setup::Records(places) => self.opening.shelf(Shelf::Records(places)),
             Setup::Wire(bytes) => self.opening.shelf(Shelf::Wire(bytes)),
-            Setup::Follow(line) => self.follow(rt, line)?,
+            Setup::Follow(line) => {
+                self.line = Some(line);
+                self.state.under_way.follow(line);
+            }
             Setup::Start => return self.start(rt),
         }
         Ok(Played::Other)
-    }
-
-    /// Does what a person does with the line that is followed.
-    pub fn act<R: Print + AllocGlobal>(&mut self, rt: &R, action: Cable) -> Result<(), Failure> {
-        let Some(desk) = &mut self.desk else {
-            return Err(Failure::Misread(Misread::NoFollower));
-        };
-        match &mut self.day {
-            Some(day) =>
-                of_day!(day, gateway => cable::play(rt, &mut self.state, gateway, desk, action)),
-            None => Err(Failure::Misread(Misread::NotStarted)),
-        }
     }
 
     fn play<R: Print + AllocGlobal>(&mut self, rt: &R, order: Command<'_>) -> Result<(), Failure> {
@@ -247,26 +213,52 @@ impl Play {
             Command::Show(bytes) => show_message(rt, bytes)?,
             Command::Clock(time) => self.state.clock = time,
             Command::Print(style) => self.state.style = style,
-            Command::Desk(call) => match &mut self.desk {
-                Some(desk) => desk.make(rt, &mut self.state, call)?,
-                None => return Err(Failure::Misread(Misread::NoFollower)),
-            },
-            Command::Cable(action) => return self.act(rt, action),
-            Command::Follower => match &self.desk {
-                Some(desk) => desk.show(rt)?,
-                None => return Err(Failure::Misread(Misread::NoFollower)),
-            },
+            Command::Desk(_) | Command::Cable(_) | Command::Follower => {
+                return self.play_desk(rt, order);
+            }
             _ => match &mut self.day {
-                Some(day) =>
-                    return of_day!(day, gateway => obey(rt, &mut self.state, gateway, order)),
+                Some(day) => return obey(rt, &mut self.state, day, order),
                 None => return Err(Failure::Misread(Misread::NotStarted)),
             },
         }
         Ok(())
     }
 
+    fn play_desk<R: Print + AllocGlobal>(
+        &mut self,
+        rt: &R,
+        order: Command<'_>,
+    ) -> Result<(), Failure> {
+        let Some(line) = self.line else {
+            return Err(Failure::Misread(Misread::NoFollower));
+        };
+        match &mut self.day {
+            Some(day) => obey_desk(rt, &mut self.state, day, line, order),
+            None => Err(Failure::Misread(Misread::NotStarted)),
+        }
+    }
+
+    /// Does what a person does with the line that is followed.
+    pub fn act<R: Print + AllocGlobal>(&mut self, rt: &R, action: Cable) -> Result<(), Failure> {
+        self.play_desk(rt, Command::Cable(action))
+    }
+
+    // What both ends came to.
+    fn close_day<R: Print + AllocGlobal>(
+        rt: &R,
+        day: &mut Day,
+        line: Option<usize>,
+    ) -> io::Result<()> {
+        day.show_close(rt)?;
+        if let Some(line) = line {
+            sides::close(rt, day, line)?;
+            rt.println(Ruling::of_day(day, line)?)?;
+        }
+        Ok(())
+    }
+
     /// The account of what was played.
-    pub fn account<R: Print + AllocGlobal>(&self, rt: &R) -> io::Result<()> {
+    pub fn account<R: Print + AllocGlobal>(&mut self, rt: &R) -> io::Result<()> {
         rt.println(self.state.account)?;
         for number in 0..=u8::MAX {
             let count = self.state.account.refused_by(number);
@@ -274,9 +266,8 @@ impl Play {
                 println!(rt; "refused {number}: {count}")?;
             }
         }
-        match &self.day {
-            Some(day) =>
-                of_day!(day, gateway => close_day(rt, gateway, &self.desk, &self.state.log)),
+        match &mut self.day {
+            Some(day) => Play::close_day(rt, day, self.line),
             None => Ok(()),
         }
     }
@@ -288,22 +279,21 @@ impl Play {
 
     /// Whether a desk follows the day.
     pub fn is_followed(&self) -> bool {
-        self.desk.is_some()
+        self.line.is_some()
     }
 
     /// Whether the follower is up.
     pub fn is_up(&self) -> bool {
-        match &self.desk {
-            Some(desk) => desk.is_up(),
+        match &self.day {
+            Some(day) => day.follower().is_up(),
             None => false,
         }
     }
 
     /// Whether the line that is followed is a CompID's.
     pub fn is_somebody(&self) -> bool {
-        match (&self.day, &self.desk) {
-            (Some(day), Some(desk)) =>
-                of_day!(day, gateway => desk.line < gateway.participants().len()),
+        match (&self.day, self.line) {
+            (Some(day), Some(line)) => line < day.participants().len(),
             _ => false,
         }
     }
@@ -314,20 +304,21 @@ impl Play {
     }
 
     /// These messages come live to the follower, from the connection before.
-    pub fn late<R: Print>(&mut self, rt: &R, messages: &[Vec<u8>]) -> io::Result<()> {
-        let Some(desk) = &mut self.desk else {
+    pub fn late<R: Print + AllocGlobal>(&mut self, rt: &R, messages: &[Vec<u8>]) -> io::Result<()> {
+        let Some(day) = &mut self.day else {
             return Ok(());
         };
         for message in messages {
-            desk.live(rt, &mut self.state, message)?;
+            let message = Vec::from_slice(rt.alloc(), message)?;
+            let _more = calls::make(rt, &mut self.state, day, Call::Live(message))?;
         }
         Ok(())
     }
 
     /// How many orders of the follower's CompID are compared, and whether both ends agree.
-    pub fn verdict(&self, heap: Global) -> Result<(usize, Verdict), AllocError> {
-        match (&self.day, &self.desk) {
-            (Some(day), Some(desk)) => of_day!(day, gateway => sides::verdict(heap, gateway, desk)),
+    pub fn verdict(&mut self, heap: Global) -> Result<(usize, Verdict), AllocError> {
+        match (&mut self.day, self.line) {
+            (Some(day), Some(line)) => sides::verdict(heap, day, line),
             _ => Ok((0, Verdict::NoLine)),
         }
     }

@@ -8,7 +8,7 @@ mod silent;
 use crate::run::run;
 use crate::script::Script;
 use bench_account::cut::{Drilled, HEADING};
-use bench_person::failure::Failure;
+use bench_play::failure::Failure;
 use console::{About, Session};
 use std::io;
 use std::process::ExitCode;

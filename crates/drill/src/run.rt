@@ -2,7 +2,7 @@
 use crate::script::Script;
 use crate::silent::Silent;
 use bench_account::cut::Cut;
-use bench_person::failure::Failure;
+use bench_play::failure::Failure;
 use bench_play::play::{HOLD, Play};
 use bench_script::command::Cable;
 use std::alloc::{AllocError, Global};

@@ -1,6 +1,6 @@
 // A script that is drilled: its lines, and which of them are calls.
 use crate::silent::Silent;
-use bench_person::failure::Failure;
+use bench_play::failure::Failure;
 use bench_play::play::{Play, Played};
 use script_words::mistake::Mistake;
 use std::alloc::{AllocError, Global};

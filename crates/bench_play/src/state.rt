@@ -1,6 +1,5 @@
-// What a run keeps beside the gateway: the account, the clock, and how messages are shown.
+// What a run keeps beside both ends: the account, the clock, and how messages are shown.
 use crate::came::Came;
-use crate::log::Log;
 use crate::under_way::UnderWay;
 use bench_account::account::Account;
 use bench_account::answer::{Answer, Payload};
@@ -10,15 +9,14 @@ use std::alloc::Global;
 use std::io;
 use texts::values::Time;
 use wire::kinds::Channel;
-use wire::message::BUFFER;
 
 /// What a call left of a message in a buffer.
-pub fn front(buffer: &[u8; BUFFER], length: usize) -> &[u8] {
-    &buffer[..length.min(BUFFER)]
+pub fn front(buffer: &[u8], length: usize) -> &[u8] {
+    &buffer[..length.min(buffer.len())]
 }
 
 /// What is kept while a script is played: its account, the clock, how messages are printed, what is under way on the
-/// line, what came of it, and the log of the calls.
+/// line, and what came of it.
 #[derive(Drop)]
 pub struct State {
     pub account: Account,
@@ -26,7 +24,6 @@ pub struct State {
     pub style: Style,
     pub under_way: UnderWay,
     pub came: Came,
-    pub log: Log,
 }
 
 /// How a message comes: as an answer, as one that is sent, as a request that a follower writes, or as the Reject of a
@@ -71,7 +68,6 @@ impl State {
             style: Style::Hex,
             under_way: UnderWay::new(heap),
             came: Came::new(),
-            log: Log::new(heap),
         }
     }
 

@@ -1,21 +1,20 @@
 // Messages that a person asks for: built from words, and taken in as any other.
+use crate::calls::{buffer, make};
+use crate::day::Day;
 use crate::failure::Failure;
-use bench_calls::calls::{hear, send, send_recovered, step};
-use bench_calls::state::State;
+use crate::state::State;
 use bench_messages::letter::Letter;
 use bench_messages::session::Sender;
 use bench_script::command::Request;
-use gateway::gateway::Gateway;
+use call::both_ends::Call;
+use call::venue_side::Call as VenueCall;
 use limits::MESSAGE_BYTES;
-use matching::matcher::Matcher;
 use std::io;
-use store::Store;
-use wire::kinds::Channel;
 use wire::message::write;
 
 // Who sends on a line; nobody where there is no such line.
-fn sender<M: Matcher, S: Store>(gateway: &Gateway<M, S>, line: usize) -> Sender {
-    match gateway.participants().get(line) {
+fn sender(day: &Day, line: usize) -> Sender {
+    match day.participants().get(line) {
         Some(participant) => Sender {
             name: participant.name,
             password: participant.password,
@@ -24,48 +23,40 @@ fn sender<M: Matcher, S: Store>(gateway: &Gateway<M, S>, line: usize) -> Sender 
     }
 }
 
-fn channel(request: &Request<'_>) -> Channel {
-    match request {
-        Request::Recover | Request::Missed { .. } => Channel::Recovery,
-        _ => Channel::RealTime,
-    }
+fn is_on_recovery(request: &Request<'_>) -> bool {
+    matches!(request, Request::Recover | Request::Missed { .. })
 }
 
 /// Builds a message and has it taken in on its line, at the time of the clock.
-pub fn ask<R: Print + AllocGlobal, M: Matcher, S: Store>(
+pub fn ask<R: Print + AllocGlobal>(
     rt: &R,
     state: &mut State,
-    gateway: &mut Gateway<M, S>,
+    day: &mut Day,
     line: usize,
     request: Request<'_>,
 ) -> Result<(), Failure> {
-    let letter = match Letter::of(&request, &sender(gateway, line)) {
+    let letter = match Letter::of(&request, &sender(day, line)) {
         Ok(letter) => letter,
         Err(why) => return Err(Failure::Misread(why)),
     };
     let mut message = [0; MESSAGE_BYTES];
     let length = write(&letter.message(), &mut message).unwrap();
-    let bytes = &message[..length];
-    hear(
-        rt,
-        state,
-        gateway,
-        channel(&request),
-        line,
-        state.clock,
-        bytes,
-    )?;
+    let bytes = Vec::from_slice(rt.alloc(), &message[..length])?;
+    let buffer = buffer(rt.alloc())?;
+    let call = if is_on_recovery(&request) {
+        VenueCall::Recovery(line, bytes, state.clock, buffer)
+    } else {
+        VenueCall::RealTime(line, bytes, state.clock, buffer)
+    };
+    let _more = make(rt, state, day, Call::Venue(call))?;
     Ok(())
 }
 
 /// Every event of the matcher until there is none.
-pub fn run<R: Print, M: Matcher, S: Store>(
-    rt: &R,
-    state: &mut State,
-    gateway: &mut Gateway<M, S>,
-) -> io::Result<()> {
+pub fn run<R: Print + AllocGlobal>(rt: &R, state: &mut State, day: &mut Day) -> io::Result<()> {
     for _ in 0..u64::MAX {
-        if !step(rt, state, gateway, state.clock)? {
+        let call = Call::Venue(VenueCall::Step(state.clock));
+        if !make(rt, state, day, call)? {
             break;
         }
     }
@@ -73,14 +64,15 @@ pub fn run<R: Print, M: Matcher, S: Store>(
 }
 
 /// Every report that a line has still to be sent.
-pub fn drain<R: Print + AllocGlobal, M: Matcher, S: Store>(
+pub fn drain<R: Print + AllocGlobal>(
     rt: &R,
     state: &mut State,
-    gateway: &mut Gateway<M, S>,
+    day: &mut Day,
     line: usize,
 ) -> io::Result<()> {
     for _ in 0..u64::MAX {
-        if !send(rt, state, gateway, line)? {
+        let call = Call::Venue(VenueCall::Send(line, buffer(rt.alloc())?));
+        if !make(rt, state, day, call)? {
             break;
         }
     }
@@ -88,14 +80,15 @@ pub fn drain<R: Print + AllocGlobal, M: Matcher, S: Store>(
 }
 
 /// Everything of a line's download.
-pub fn download<R: Print + AllocGlobal, M: Matcher, S: Store>(
+pub fn download<R: Print + AllocGlobal>(
     rt: &R,
     state: &mut State,
-    gateway: &mut Gateway<M, S>,
+    day: &mut Day,
     line: usize,
 ) -> io::Result<()> {
     for _ in 0..u64::MAX {
-        if !send_recovered(rt, state, gateway, line)? {
+        let call = Call::Venue(VenueCall::SendRecovered(line, buffer(rt.alloc())?));
+        if !make(rt, state, day, call)? {
             break;
         }
     }

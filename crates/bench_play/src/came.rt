@@ -1,6 +1,6 @@
 // How the reports that came to a follower were taken.
 ghost use Rattle.std.specs.Prelude.{◌≡◌};
-ghost use Rattle.bench_calls.specs.Coming.{none_came, with_live, with_recovered};
+ghost use Rattle.bench_play.specs.Coming.{none_came, with_live, with_recovered};
 
 use follower::answer::{Live, Recovered};
 

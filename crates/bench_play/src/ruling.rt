@@ -1,10 +1,15 @@
 // What the line that is followed says to a day.
-ghost use Rattle.std.specs.Prelude.{◌≡◌, Some};
-ghost use Rattle.bench_sides.specs.Rulings.{ruling_of, ruling_text};
+ghost use Rattle.std.specs.Prelude.{◌≡◌, IfOk, Ok, Some};
+ghost use Rattle.bench_play.specs.Rulings.{ruling_of, ruling_text};
+ghost use Rattle.bench_play.specs.Days.{desk_of, log_of, state_of};
+ghost use Rattle.ends.specs.Agreement.{Agrees};
+ghost use Rattle.ends.specs.Allowed.{after_log, quiet};
+ghost use Rattle.ends.specs.Asking.{made};
+ghost use Rattle.ends.specs.Deciding.{verdict};
 
-use bench_calls::log::Log;
-use ends::allowed::{Breach, line_allows};
-use std::alloc::{AllocError, Global};
+use crate::day::Day;
+use ends::allowed::Breach;
+use std::alloc::AllocError;
 use std::fmt;
 
 /// Whether a line allows a day; if not, what was the first that it does not allow.
@@ -25,13 +30,13 @@ impl Ruling {
         }
     }
 
-    /// Of the line that is followed to the calls that were kept; none where none is followed.
-    pub fn of_log(heap: Global, log: &Log) -> Result<Option<Ruling>, AllocError> {
-        let Some(line) = log.line() else {
-            return Ok(None);
-        };
-        let outcome = line_allows(heap, line, &log.calls()?)?;
-        Ok(Some(Ruling::of(outcome)))
+    /// Of a line to what was called on both ends. Where it allows that, both ends agree. Its one error is want of memory.
+    pub fn of_day(day: &Day, line: usize) -> Result<Ruling, AllocError>
+        ensures ruled { IfOk result (λ r. r ≡ ruling_of (verdict (after_log line (made (log_of day.now)) quiet))) }
+        ensures agreed { result ≡ Ok Ruling.Allows
+            → Agrees line (made (log_of day.now)) (state_of day.now) (desk_of day.now) }
+    {
+        Ok(Ruling::of(day.verdict(line)?))
     }
 }
 

@@ -1,5 +1,5 @@
 -- How the reports that came are counted; a count stays at the largest number of 64 bits. Assumes nothing.
-use Rattle.bench_calls.specs.declared.came.Came.{Came}
+use Rattle.bench_play.specs.declared.came.Came.{Came}
 use Rattle.bench_account.specs.Accounts.{more}
 use Rattle.follower.specs.declared.answer.Live.{Live}
 use Rattle.follower.specs.declared.answer.Live.TheVariants as live

@@ -1,55 +1,57 @@
 // The line that is followed, as a person plays it: what is under way comes, comes again or is lost, and the follower
 // catches up.
 use crate::asking;
+use crate::calls::{buffer, make};
+use crate::day::Day;
 use crate::failure::Failure;
+use crate::state::{State, front};
 use bench_account::remark::Remark;
-use bench_calls::calls::{hear, line_lost, send_recovered};
-use bench_calls::desk::Desk;
-use bench_calls::state::{State, front};
 use bench_script::command::{Cable, Request};
+use call::both_ends::{Call, Done};
+use call::venue_side::Call as VenueCall;
 use codes::code::Code;
 use codes::session::Partition;
-use gateway::gateway::Gateway;
-use matching::matcher::Matcher;
+use ends::entry::Entry;
+use follower::side;
+use std::alloc::{AllocError, Global};
 use std::io;
-use store::Store;
 use wire::kinds::Channel;
 use wire::message::{Message, read};
 
-/// Does what a person asks of the line.
-pub fn play<R: Print + AllocGlobal, M: Matcher, S: Store>(
+/// Does what a person asks of the line that is followed.
+pub fn play<R: Print + AllocGlobal>(
     rt: &R,
     state: &mut State,
-    gateway: &mut Gateway<M, S>,
-    desk: &mut Desk,
+    day: &mut Day,
+    line: usize,
     action: Cable,
 ) -> Result<(), Failure> {
     match action {
         Cable::Deliver => {
-            if !deliver(rt, state, desk)? {
+            if !deliver(rt, state, day)? {
                 rt.println(Remark::NothingUnderWay)?;
             }
         }
         Cable::DeliverRecovered => {
-            if !deliver_recovered(rt, state, desk)? {
+            if !deliver_recovered(rt, state, day)? {
                 rt.println(Remark::NothingUnderWay)?;
             }
         }
-        Cable::Repeat(back) => repeat(rt, state, desk, back)?,
-        Cable::RepeatRecovered => repeat_recovered(rt, state, desk)?,
-        Cable::Pull => pull(rt, state, gateway, desk)?,
-        Cable::Reconnect => reconnect(rt, state, gateway, desk)?,
-        Cable::CatchUp => catch_up(rt, state, gateway, desk)?,
+        Cable::Repeat(back) => repeat(rt, state, day, back)?,
+        Cable::RepeatRecovered => repeat_recovered(rt, state, day)?,
+        Cable::Pull => pull(rt, state, day, line)?,
+        Cable::Reconnect => reconnect(rt, state, day, line)?,
+        Cable::CatchUp => catch_up(rt, state, day, line)?,
     }
     Ok(())
 }
 
 // The next live message comes. Says whether there was one.
-fn deliver<R: Print + AllocGlobal>(rt: &R, state: &mut State, desk: &mut Desk) -> io::Result<bool> {
+fn deliver<R: Print + AllocGlobal>(rt: &R, state: &mut State, day: &mut Day) -> io::Result<bool> {
     if !state.under_way.live.come() {
         return Ok(false);
     }
-    repeat(rt, state, desk, 1)?;
+    repeat(rt, state, day, 1)?;
     Ok(true)
 }
 
@@ -57,12 +59,12 @@ fn deliver<R: Print + AllocGlobal>(rt: &R, state: &mut State, desk: &mut Desk) -
 fn deliver_recovered<R: Print + AllocGlobal>(
     rt: &R,
     state: &mut State,
-    desk: &mut Desk,
+    day: &mut Day,
 ) -> io::Result<bool> {
     if !state.under_way.recovered.come() {
         return Ok(false);
     }
-    repeat_recovered(rt, state, desk)?;
+    repeat_recovered(rt, state, day)?;
     Ok(true)
 }
 
@@ -70,13 +72,14 @@ fn deliver_recovered<R: Print + AllocGlobal>(
 fn repeat<R: Print + AllocGlobal>(
     rt: &R,
     state: &mut State,
-    desk: &mut Desk,
+    day: &mut Day,
     back: usize,
 ) -> io::Result<()> {
     match state.under_way.live.again(back) {
         Some(message) => {
             let message = Vec::from_slice(rt.alloc(), message)?;
-            desk.live(rt, state, &message)
+            let _more = make(rt, state, day, Call::Live(message))?;
+            Ok(())
         }
         None => rt.println(Remark::NoneCame),
     }
@@ -86,27 +89,30 @@ fn repeat<R: Print + AllocGlobal>(
 fn repeat_recovered<R: Print + AllocGlobal>(
     rt: &R,
     state: &mut State,
-    desk: &mut Desk,
+    day: &mut Day,
 ) -> io::Result<()> {
     match state.under_way.recovered.again(1) {
         Some(message) => {
             let message = Vec::from_slice(rt.alloc(), message)?;
-            desk.recovered(rt, state, &message)
+            let _more = make(rt, state, day, Call::Recovered(message))?;
+            Ok(())
         }
         None => rt.println(Remark::NoneCame),
     }
 }
 
 // The cable is cut: what is under way is gone, and both ends are told.
-fn pull<R: Print, M: Matcher, S: Store>(
+fn pull<R: Print + AllocGlobal>(
     rt: &R,
     state: &mut State,
-    gateway: &mut Gateway<M, S>,
-    desk: &mut Desk,
+    day: &mut Day,
+    line: usize,
 ) -> io::Result<()> {
     state.under_way.cut();
-    line_lost(rt, state, gateway, desk.line, state.clock)?;
-    desk.lost(rt, state)
+    let lost = Call::Venue(VenueCall::LineLost(line, state.clock));
+    let _more = make(rt, state, day, lost)?;
+    let _more = make(rt, state, day, Call::Lost)?;
+    Ok(())
 }
 
 // Whether the message that was sent last accepts a Logon.
@@ -121,96 +127,109 @@ fn is_accepted(state: &State) -> bool {
 }
 
 // Both channels are logged on, and the follower is up. The Logon Replies are for the desk's link.
-fn reconnect<R: Print + AllocGlobal, M: Matcher, S: Store>(
+fn reconnect<R: Print + AllocGlobal>(
     rt: &R,
     state: &mut State,
-    gateway: &mut Gateway<M, S>,
-    desk: &mut Desk,
+    day: &mut Day,
+    line: usize,
 ) -> Result<(), Failure> {
-    asking::ask(rt, state, gateway, desk.line, Request::Logon)?;
+    asking::ask(rt, state, day, line, Request::Logon)?;
     if !is_accepted(state) {
         return Ok(());
     }
-    asking::ask(rt, state, gateway, desk.line, Request::Recover)?;
+    asking::ask(rt, state, day, line, Request::Recover)?;
     state.under_way.cut();
-    desk.up(rt, state)?;
+    let _more = make(rt, state, day, Call::Up)?;
     Ok(())
 }
 
 // Downloads each partition in turn until it is level.
-fn catch_up<R: Print + AllocGlobal, M: Matcher, S: Store>(
+fn catch_up<R: Print + AllocGlobal>(
     rt: &R,
     state: &mut State,
-    gateway: &mut Gateway<M, S>,
-    desk: &mut Desk,
+    day: &mut Day,
+    line: usize,
 ) -> io::Result<()> {
     for partition in [Partition::One, Partition::Two, Partition::Three] {
-        if !level(rt, state, gateway, desk, partition)? {
+        if !level(rt, state, day, line, partition)? {
             return rt.println(Remark::NotLevel);
         }
     }
     Ok(())
 }
 
+fn is_level(day: &Day, partition: Partition) -> bool {
+    day.follower().state(partition) == side::State::Level
+}
+
 // Downloads a partition until it is level. Says no where a download brings nothing more.
-fn level<R: Print + AllocGlobal, M: Matcher, S: Store>(
+fn level<R: Print + AllocGlobal>(
     rt: &R,
     state: &mut State,
-    gateway: &mut Gateway<M, S>,
-    desk: &mut Desk,
+    day: &mut Day,
+    line: usize,
     partition: Partition,
 ) -> io::Result<bool> {
     for _ in 0..u64::MAX {
-        finish(rt, state, gateway, desk)?;
-        if desk.is_level(partition) {
+        finish(rt, state, day, line)?;
+        if is_level(day, partition) {
             return Ok(true);
         }
-        let place = desk.place(partition);
-        ask(rt, state, gateway, desk, partition)?;
-        finish(rt, state, gateway, desk)?;
-        if !desk.is_level(partition) && desk.place(partition) == place {
+        let place = day.follower().place(partition);
+        ask(rt, state, day, line, partition)?;
+        finish(rt, state, day, line)?;
+        if !is_level(day, partition) && day.follower().place(partition) == place {
             return Ok(false);
         }
     }
     Ok(false)
 }
 
+// A copy of the request that was written last, if one was.
+fn written(heap: Global, day: &Day) -> Result<Option<Vec<u8>>, AllocError> {
+    match day.last() {
+        Some(Entry::Made(Done::Ask(_, asked))) => match asked.answer {
+            Ok(length) => Ok(Some(Vec::from_slice(heap, front(&asked.after, length))?)),
+            Err(_) => Ok(None),
+        },
+        _ => Ok(None),
+    }
+}
+
 // The follower asks for a download, and the gateway takes the request.
-fn ask<R: Print + AllocGlobal, M: Matcher, S: Store>(
+fn ask<R: Print + AllocGlobal>(
     rt: &R,
     state: &mut State,
-    gateway: &mut Gateway<M, S>,
-    desk: &mut Desk,
+    day: &mut Day,
+    line: usize,
     partition: Partition,
 ) -> io::Result<()> {
-    let asked = desk.ask(rt, state, partition.byte())?;
-    let Ok(length) = asked.answer else {
+    let asked = Call::Ask(partition.byte(), buffer(rt.alloc())?);
+    let _more = make(rt, state, day, asked)?;
+    let Some(request) = written(rt.alloc(), day)? else {
         return Ok(());
     };
-    let clock = state.clock;
-    hear(
-        rt,
-        state,
-        gateway,
-        Channel::Recovery,
-        desk.line,
-        clock,
-        front(&asked.buffer, length),
-    )
+    let taken = VenueCall::Recovery(line, request, state.clock, buffer(rt.alloc())?);
+    let _more = make(rt, state, day, Call::Venue(taken))?;
+    Ok(())
 }
 
 // A download that is owed to its end, or as far as it comes.
-fn finish<R: Print + AllocGlobal, M: Matcher, S: Store>(
+fn finish<R: Print + AllocGlobal>(
     rt: &R,
     state: &mut State,
-    gateway: &mut Gateway<M, S>,
-    desk: &mut Desk,
+    day: &mut Day,
+    line: usize,
 ) -> io::Result<()> {
     for _ in 0..u64::MAX {
-        if deliver_recovered(rt, state, desk)? {
+        if deliver_recovered(rt, state, day)? {
             continue;
         }
-        if !desk.owes() || !send_recovered(rt, state, gateway, desk.line)? {
+        if !day.owes() {
+            break;
+        }
+        let sent = Call::Venue(VenueCall::SendRecovered(line, buffer(rt.alloc())?));
+        if !make(rt, state, day, sent)? {
             break;
         }
     }

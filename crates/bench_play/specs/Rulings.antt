@@ -1,7 +1,7 @@
 -- What the line that is followed says to a day. Assumes nothing.
 use Rattle.std.specs.Prelude.{ℕ, List, ◌++◌, codes, Ok, Err, Result}
-use Rattle.bench_sides.specs.declared.ruling.Ruling.{Ruling}
-use Rattle.bench_sides.specs.declared.ruling.Ruling.TheVariants.{Allows, Forbids}
+use Rattle.bench_play.specs.declared.ruling.Ruling.{Ruling}
+use Rattle.bench_play.specs.declared.ruling.Ruling.TheVariants.{Allows, Forbids}
 use Rattle.ends.specs.Breaches.{breach_text}
 use Rattle.ends.specs.declared.allowed.Breach.{Breach}
 

@@ -1,2 +1,0 @@
-pub mod Coming
-pub mod Seeing

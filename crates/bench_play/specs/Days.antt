@@ -1,0 +1,35 @@
+-- What a day shows, whichever engine and store it has. Assumes nothing.
+use Rattle.std.specs.Prelude.{◌≡◌, List, [], ◌∷◌, ◌++◌}
+use Rattle.ends.specs.Asking.{made, step_of}
+use Rattle.ends.specs.Runs.{Desk}
+use Rattle.ends.specs.declared.entry.Entry.{Entry}
+use Rattle.ends.specs.declared.entry.Step.{Step}
+use Rattle.bench_play.specs.declared.day.Day.{Day}
+use Rattle.bench_play.specs.declared.day.Day.TheVariants.{LitRecords, LitWire, TapeRecords, TapeWire}
+use Rattle.bench_play.specs.declared.tables.Look.{Look}
+use Rattle.bench_play.specs.declared.tables.Shown.{Shown}
+use Rattle.gateway.specs.State.{State}
+
+abbrev pub log_of : Day → List (Entry Look Shown)
+log_of (LitRecords b) = b.log
+log_of (LitWire b) = b.log
+log_of (TapeRecords b) = b.log
+log_of (TapeWire b) = b.log
+
+abbrev pub state_of : Day → State
+state_of (LitRecords b) = b.gateway.state
+state_of (LitWire b) = b.gateway.state
+state_of (TapeRecords b) = b.gateway.state
+state_of (TapeWire b) = b.gateway.state
+
+abbrev pub desk_of : Day → Desk
+desk_of (LitRecords b) = b.desk
+desk_of (LitWire b) = b.desk
+desk_of (TapeRecords b) = b.desk
+desk_of (TapeWire b) = b.desk
+
+-- a step was taken, and kept with what came back
+pub record Keeps (step : Step Look) (b e : Day) : Type 0 where
+  pub entry : Entry Look Shown
+  pub same : step_of entry ≡ step
+  pub log : log_of e ≡ log_of b ++ entry ∷ []

@@ -1,0 +1,5 @@
+pub mod Coming
+pub mod Seeing
+pub mod Rulings
+pub mod Tables
+pub mod Days

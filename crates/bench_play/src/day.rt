@@ -1,0 +1,169 @@
+// A day of both ends, over either engine and either store.
+ghost use Rattle.std.specs.Prelude.{◌≡◌, IfOk, IsOk, OnOk, OnErr};
+ghost use Rattle.bench_play.specs.Days.{Keeps, desk_of, log_of, state_of};
+ghost use Rattle.ends.specs.Agreement.{Agrees};
+ghost use Rattle.ends.specs.Allowed.{after_log, quiet};
+ghost use Rattle.ends.specs.Asking.{made};
+ghost use Rattle.ends.specs.Both.{IsLast};
+ghost use Rattle.ends.specs.Deciding.{verdict};
+ghost use Rattle.ends.specs.declared.entry.Step.TheVariants.{Ask, Make};
+ghost use Rattle.keyed.specs.Numbers.{under};
+
+use crate::opening::{Engine, Opening, Shelf};
+use crate::show;
+use crate::tables::{Look, Shown};
+use byte_store::buffered::Buffered;
+use call::both_ends::Call;
+use configuration::config::{Config, StartRefusal};
+use configuration::instrument::Instrument;
+use configuration::participant::Participant;
+use ends::allowed::Breach;
+use ends::both_ends::BothEnds;
+use ends::entry::Entry;
+use follower::state::Follower;
+use lit_book::book::LitBook;
+use matching::matcher::Matcher;
+use matching::tape::Tape;
+use std::alloc::{AllocError, Global};
+use std::io;
+use store::Store;
+use store::records::Records;
+use wire_store::codec::WireCodec;
+
+type WireStore = Buffered<WireCodec>;
+
+/// Both ends over one of the two engines and one of the two stores.
+#[derive(Drop)]
+pub enum Day {
+    LitRecords(BothEnds<LitBook, Records, Look, Shown>),
+    LitWire(BothEnds<LitBook, WireStore, Look, Shown>),
+    TapeRecords(BothEnds<Tape, Records, Look, Shown>),
+    TapeWire(BothEnds<Tape, WireStore, Look, Shown>),
+}
+
+// Each day's two ends, whichever engine and store they have.
+macro_rules! of_day {
+    ($day:expr, $both:ident => $work:expr) => {
+        match $day {
+            Day::LitRecords($both) => $work,
+            Day::LitWire($both) => $work,
+            Day::TapeRecords($both) => $work,
+            Day::TapeWire($both) => $work,
+        }
+    };
+}
+
+fn started<M: Matcher + Drop, S: Store + Drop>(
+    heap: Global,
+    config: Config,
+    matcher: M,
+    store: S,
+) -> Result<BothEnds<M, S, Look, Shown>, StartRefusal> {
+    match BothEnds::start(heap, config, matcher, store) {
+        Ok(both) => Ok(both),
+        Err((refusal, _, _)) => Err(refusal),
+    }
+}
+
+impl Day {
+    /// Starts a day.
+    pub fn start(heap: Global, opening: Opening) -> Result<Day, StartRefusal> {
+        let (config, engine, shelf) = opening.finish(heap);
+        let config = config?;
+        match (engine, shelf) {
+            (Engine::Lit, Shelf::Records(places)) => {
+                let book = LitBook::new(heap)?;
+                let store = Records::new(heap, places)?;
+                Ok(Day::LitRecords(started(heap, config, book, store)?))
+            }
+            (Engine::Lit, Shelf::Wire(bytes)) => {
+                let book = LitBook::new(heap)?;
+                let store = wire_store::new(heap, bytes)?;
+                Ok(Day::LitWire(started(heap, config, book, store)?))
+            }
+            (Engine::Tape(lines), Shelf::Records(places)) => {
+                let tape = Tape::new(heap, lines)?;
+                let store = Records::new(heap, places)?;
+                Ok(Day::TapeRecords(started(heap, config, tape, store)?))
+            }
+            (Engine::Tape(lines), Shelf::Wire(bytes)) => {
+                let tape = Tape::new(heap, lines)?;
+                let store = wire_store::new(heap, bytes)?;
+                Ok(Day::TapeWire(started(heap, config, tape, store)?))
+            }
+        }
+    }
+
+    /// Makes a call on its end, and keeps it with what came back. Its one error is want of memory; then nothing was called.
+    pub fn make(&mut self, call: Call) -> Result<(), AllocError>
+        ensures made { OnOk result (Keeps (Make call) self.old self.new) }
+        ensures error { OnErr result (self.new ≡ self.old) }
+    {
+        of_day!(self, both => both.make(call))
+    }
+
+    /// Asks both ends for a part of their tables, and keeps the answer.
+    pub fn ask(&mut self, question: Look) -> Result<(), AllocError>
+        ensures made { OnOk result (Keeps (Ask question) self.old self.new) }
+        ensures error { OnErr result (self.new ≡ self.old) }
+    {
+        of_day!(self, both => both.ask(question))
+    }
+
+    /// What was called or asked last, with what came back.
+    pub fn last(&self) -> Option<&Entry<Look, Shown>>
+        ensures { IsLast (log_of self.now) result }
+    {
+        of_day!(self, both => both.last())
+    }
+
+    /// Whether the line of a CompID allows what was called, or the first breach. Where it does, both ends agree.
+    pub fn verdict(&self, line: usize) -> Result<Result<(), Breach>, AllocError>
+        ensures decided { IfOk result (λ r. r ≡ verdict (after_log line (made (log_of self.now)) quiet)) }
+        ensures agreed { IfOk result (λ r. IsOk r
+            → Agrees line (made (log_of self.now)) (state_of self.now) (desk_of self.now)) }
+    {
+        of_day!(self, both => both.verdict(line))
+    }
+
+    /// The follower.
+    pub fn follower(&self) -> &Follower
+        ensures { result.now ≡ (desk_of self.now).follower }
+    {
+        of_day!(self, both => both.follower())
+    }
+
+    /// Whether a download is owed.
+    pub fn owes(&self) -> bool {
+        of_day!(self, both => both.token().owed().is_some())
+    }
+
+    /// Shows every order, and how many orders, trades and reports there are.
+    pub fn show_orders<R: Print>(&self, rt: &R) -> io::Result<()> {
+        of_day!(self, both => show::orders(rt, both.gateway()))
+    }
+
+    /// Shows what the gateway's day came to.
+    pub fn show_close<R: Print>(&self, rt: &R) -> io::Result<()> {
+        of_day!(self, both => show::close(rt, both.gateway()))
+    }
+
+    /// How many orders there are: the highest number.
+    pub fn order_count(&self) -> u64 {
+        of_day!(self, both => both.gateway().venue().order_count())
+    }
+
+    /// The instruments, in the order in which they were given.
+    pub fn instruments(&self) -> &[Instrument]
+        ensures { result.now ≡ (state_of self.now).venue.instruments }
+    {
+        of_day!(self, both => both.gateway().venue().instruments())
+    }
+
+    /// The CompIDs, each with the line of its place.
+    pub fn participants(&self) -> &[Participant]
+        ensures { result.now ≡ (state_of self.now).participants }
+    {
+        of_day!(self, both => both.gateway().participants())
+    }
+}
