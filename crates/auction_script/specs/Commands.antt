@@ -9,7 +9,7 @@ use Rattle.auction_script.specs.declared.command.Command.{Command}
 use Rattle.auction_script.specs.declared.command.Command.TheVariants.{Enter, Cancel, Amend, Run, Show}
 use Rattle.auction_script.specs.declared.command.Misread.{Misread}
 use Rattle.auction_script.specs.declared.command.Misread.TheVariants.{Text, Call, Number, Instrument, Side, OrderType, TimeInForce, Price, Quantity}
-use Rattle.script_words.specs.Lines.{Words}
+use Rattle.bench_words.specs.Lines.{Words}
 use Rattle.auction_script.specs.Words.{ForceRead, IsNumber, IsPrice, KindRead, Neither, NumberRead, OneOf, PriceRead, SideRead}
 
 -- the words of a price by the word of the order's type; a market order's is read and not kept

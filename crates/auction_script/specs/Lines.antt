@@ -1,7 +1,7 @@
 -- What a line of a script says, by its bytes. Assumes nothing.
 use Rattle.std.specs.Prelude.{◌≡◌, ℕ, ◌⊎◌, true, false, List, Ok, Err}
 use Rattle.std.specs.Str.{IsUtf8}
-use Rattle.script_words.specs.Lines.{Words, IsWordsOf, skips}
+use Rattle.bench_words.specs.Lines.{Words, IsWordsOf, skips}
 use Rattle.auction_script.specs.declared.command.Misread.TheVariants.{Text}
 use Rattle.auction_script.specs.declared.line.Line.{Line as Says}
 use Rattle.auction_script.specs.declared.line.Line.TheVariants.{Skipped, Call, Misread as Unread}

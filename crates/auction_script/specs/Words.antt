@@ -8,7 +8,7 @@ use Rattle.codes.specs.declared.order.Side.TheVariants.{Buy, Sell}
 use Rattle.terms.specs.declared.lifetime.Lifetime.{Lifetime}
 use Rattle.terms.specs.declared.lifetime.Lifetime.TheVariants.{Day, ImmediateOrCancel}
 use Rattle.texts.specs.declared.values.Price.{Price}
-use Rattle.script_words.specs.Words.{price_of}
+use Rattle.bench_words.specs.Words.{price_of}
 use Rattle.auction_script.specs.declared.command.Misread.{Misread}
 use Rattle.auction_script.specs.declared.command.Misread.TheVariants as misread
 

@@ -4,7 +4,7 @@ ghost use Rattle.auction_script.specs.Lines.{LineRead};
 
 use crate::command;
 use crate::command::{Command, Misread};
-use script_words::line::{is_skipped, parted};
+use bench_words::line::{is_skipped, parted};
 use std::alloc::{AllocError, Global};
 
 /// What a line of a script says.

@@ -67,7 +67,7 @@ pub(crate) fn instrument(word: &str) -> Result<u8, Misread>
 pub(crate) fn price(word: &str) -> Result<Price, Misread>
     ensures { PriceRead word.now result }
 {
-    match script_words::words::price(word) {
+    match bench_words::words::price(word) {
         Ok(price) => Ok(price),
         Err(_) => Err(Misread::Price),
     }

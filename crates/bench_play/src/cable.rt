@@ -6,7 +6,7 @@ use crate::day::Day;
 use crate::failure::Failure;
 use crate::state::{State, front};
 use bench_account::remark::Remark;
-use bench_script::command::{Cable, Request};
+use bench_words::command::{Cable, Request};
 use call::both_ends::{Call, Done};
 use call::venue_side::Call as VenueCall;
 use codes::code::Code;

@@ -2,7 +2,7 @@
 use crate::day::Day;
 use crate::state::{Carried, State, front};
 use bench_account::answer::{Answer, Trade};
-use bench_script::command::{Call as Called, Desk};
+use bench_words::command::{Call as Called, Desk};
 use call::both_ends::{Asked, Call, Done};
 use call::venue_side::{Call as VenueCall, Done as VenueDone, Reply};
 use ends::entry::Entry;

@@ -1,5 +1,5 @@
 // Why a line of a script is not played.
-use script_words::misread::Misread;
+use bench_words::misread::Misread;
 use std::alloc::AllocError;
 use std::io;
 

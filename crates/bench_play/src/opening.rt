@@ -1,10 +1,10 @@
 // What a script says of a gateway before it starts.
+use bench_words::tape::Tape;
 use configuration::config::{Config, StartRefusal};
 use configuration::instrument::Instrument;
 use configuration::participant::Participant;
 use limits::REPORTS;
 use matching::tape::Line;
-use script_words::tape::Tape;
 use std::alloc::{AllocError, Global};
 
 /// The matching engine that a gateway is to have.

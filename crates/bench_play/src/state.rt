@@ -3,7 +3,7 @@ use crate::came::Came;
 use crate::under_way::UnderWay;
 use bench_account::account::Account;
 use bench_account::answer::{Answer, Payload};
-use bench_script::command::Style;
+use bench_words::command::Style;
 use inspector::answer::answer_message;
 use std::alloc::Global;
 use std::io;

@@ -4,7 +4,7 @@ use crate::silent::Silent;
 use bench_account::cut::Cut;
 use bench_play::failure::Failure;
 use bench_play::play::{HOLD, Play};
-use bench_script::command::Cable;
+use bench_words::command::Cable;
 use std::alloc::{AllocError, Global};
 
 // Copies of the messages that are under way.

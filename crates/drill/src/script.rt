@@ -2,7 +2,7 @@
 use crate::silent::Silent;
 use bench_play::failure::Failure;
 use bench_play::play::{Play, Played};
-use script_words::mistake::Mistake;
+use bench_words::mistake::Mistake;
 use std::alloc::{AllocError, Global};
 use std::io;
 

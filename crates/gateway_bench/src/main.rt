@@ -3,7 +3,7 @@
 
 mod walk;
 
-use bench_plan::{Asked, BLOCK, Plan, config, made_up};
+use bench_words::plan::{Asked, BLOCK, Plan, config, made_up};
 use codes::session::Partition;
 use console::{About, Task};
 use gateway::gateway::Gateway;

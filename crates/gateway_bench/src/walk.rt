@@ -1,5 +1,5 @@
 // The calls of a day, in rows of one kind. Each says how many calls it made.
-use bench_plan::{Asked, LINES, missed};
+use bench_words::plan::{Asked, LINES, missed};
 use gateway::gateway::Gateway;
 use matching::matcher::Matcher;
 use std::alloc::{AllocError, Global};

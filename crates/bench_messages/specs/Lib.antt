@@ -1,9 +1,0 @@
-pub mod Fitting
-pub mod Marks
-pub mod Letters
-pub mod Senders
-pub mod Sessions
-pub mod Takes
-pub mod Mass
-pub mod Missed
-pub mod Asked

@@ -1,6 +1,0 @@
-use Rattle.std.proofs.Common.{◌≡◌}
-use Rattle.bench_script.specs.Commands.{matcher_of}
-use Rattle.bench_script.proofs.command.by_verb.Goals as goal
-
-pub returns-in-Matcher : goal.returns-in-Matcher
-returns-in-Matcher c = let h : c.matcher.result ≡ matcher_of c.args.words = c.matcher.ensures in rw c.in-Matcher.is h

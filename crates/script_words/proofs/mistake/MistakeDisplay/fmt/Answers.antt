@@ -1,5 +1,0 @@
-use Rattle.script_words.proofs.mistake.MistakeDisplay.fmt.Goals as goal
-
-pub returns-in-Refused-clause-writes :
-    goal.returns-in-Refused-clause-writes
-returns-in-Refused-clause-writes g c = rw c.in-Refused.is c.write-in-Refused.ensures.writes
