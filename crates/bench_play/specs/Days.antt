@@ -1,9 +1,9 @@
 -- What a day shows, whichever engine and store it has. Assumes nothing.
 use Rattle.std.specs.Prelude.{◌≡◌, List, [], ◌∷◌, ◌++◌}
-use Rattle.ends.specs.Asking.{made, step_of}
-use Rattle.ends.specs.Runs.{Desk}
-use Rattle.ends.specs.declared.entry.Entry.{Entry}
-use Rattle.ends.specs.declared.entry.Step.{Step}
+use Rattle.both_ends.specs.Asking.{made, step_of}
+use Rattle.both_ends.specs.Runs.{Desk}
+use Rattle.both_ends.specs.declared.entry.Entry.{Entry}
+use Rattle.both_ends.specs.declared.entry.Step.{Step}
 use Rattle.bench_play.specs.declared.day.Day.{Day}
 use Rattle.bench_play.specs.declared.day.Day.TheVariants.{LitRecords, LitWire, TapeRecords, TapeWire}
 use Rattle.bench_play.specs.declared.tables.Look.{Look}

@@ -2,8 +2,8 @@
 use Rattle.std.specs.Prelude.{ℕ, List, ◌++◌, codes, Ok, Err, Result}
 use Rattle.bench_play.specs.declared.ruling.Ruling.{Ruling}
 use Rattle.bench_play.specs.declared.ruling.Ruling.TheVariants.{Allows, Forbids}
-use Rattle.ends.specs.Breaches.{breach_text}
-use Rattle.ends.specs.declared.allowed.Breach.{Breach}
+use Rattle.both_ends.specs.Breaches.{breach_text}
+use Rattle.both_ends.specs.declared.allowed.Breach.{Breach}
 
 -- by what was decided of the log
 abbrev pub ruling_of : Result (Unit {0}) Breach → Ruling

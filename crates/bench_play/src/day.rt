@@ -1,25 +1,25 @@
 // A day of both ends, over either engine and either store.
 ghost use Rattle.std.specs.Prelude.{◌≡◌, IfOk, IsOk, OnOk, OnErr};
 ghost use Rattle.bench_play.specs.Days.{Keeps, desk_of, log_of, state_of};
-ghost use Rattle.ends.specs.Agreement.{Agrees};
-ghost use Rattle.ends.specs.Allowed.{after_log, quiet};
-ghost use Rattle.ends.specs.Asking.{made};
-ghost use Rattle.ends.specs.Both.{IsLast};
-ghost use Rattle.ends.specs.Deciding.{verdict};
-ghost use Rattle.ends.specs.declared.entry.Step.TheVariants.{Ask, Make};
+ghost use Rattle.both_ends.specs.Agreement.{Agrees};
+ghost use Rattle.both_ends.specs.Allowed.{after_log, quiet};
+ghost use Rattle.both_ends.specs.Asking.{made};
+ghost use Rattle.both_ends.specs.Both.{IsLast};
+ghost use Rattle.both_ends.specs.Deciding.{verdict};
+ghost use Rattle.both_ends.specs.declared.entry.Step.TheVariants.{Ask, Make};
 ghost use Rattle.keyed.specs.Numbers.{under};
 
 use crate::opening::{Engine, Opening, Shelf};
 use crate::show;
 use crate::tables::{Look, Shown};
+use both_ends::allowed::Breach;
+use both_ends::call::Call;
+use both_ends::entry::Entry;
+use both_ends::state::BothEnds;
 use byte_store::buffered::Buffered;
-use call::both_ends::Call;
 use configuration::config::{Config, StartRefusal};
 use configuration::instrument::Instrument;
 use configuration::participant::Participant;
-use ends::allowed::Breach;
-use ends::both_ends::BothEnds;
-use ends::entry::Entry;
 use follower::state::Follower;
 use lit_book::book::LitBook;
 use matching::matcher::Matcher;

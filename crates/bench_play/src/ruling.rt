@@ -2,13 +2,13 @@
 ghost use Rattle.std.specs.Prelude.{◌≡◌, IfOk, Ok, Some};
 ghost use Rattle.bench_play.specs.Rulings.{ruling_of, ruling_text};
 ghost use Rattle.bench_play.specs.Days.{desk_of, log_of, state_of};
-ghost use Rattle.ends.specs.Agreement.{Agrees};
-ghost use Rattle.ends.specs.Allowed.{after_log, quiet};
-ghost use Rattle.ends.specs.Asking.{made};
-ghost use Rattle.ends.specs.Deciding.{verdict};
+ghost use Rattle.both_ends.specs.Agreement.{Agrees};
+ghost use Rattle.both_ends.specs.Allowed.{after_log, quiet};
+ghost use Rattle.both_ends.specs.Asking.{made};
+ghost use Rattle.both_ends.specs.Deciding.{verdict};
 
 use crate::day::Day;
-use ends::allowed::Breach;
+use both_ends::allowed::Breach;
 use std::alloc::AllocError;
 use std::fmt;
 

@@ -1,8 +1,8 @@
 // What the account asks of both ends: their tables, an order and a partition at a time.
 ghost use Rattle.bench_play.specs.Tables.{answer};
 
+use both_ends::question::Question;
 use codes::session::Partition;
-use ends::question::Question;
 use follower::side::State;
 use follower::state::Follower;
 use gateway::gateway::Gateway;

@@ -2,9 +2,9 @@
 use Rattle.std.specs.FinMap.{len}
 use Rattle.std.specs.List.{AllByRecursion}
 use Rattle.std.proofs.Common.{◌≡◌, ℕ, zero, suc, true, eqb, arith, List, [], ◌∷◌, ◌++◌, Some, None, Option, Ok, Err, Result, length, refl, sym, ap, ◌∙◌, subst}
-use Rattle.call.specs.declared.venue_side.Done.{Done}
-use Rattle.call.specs.declared.venue_side.Done.TheVariants as done
-use Rattle.ends.specs.Both.{Begins}
+use Rattle.gateway_runs.specs.declared.call.Done.{Done}
+use Rattle.gateway_runs.specs.declared.call.Done.TheVariants as done
+use Rattle.both_ends.specs.Both.{Begins}
 use Rattle.gateway.specs.Calls.{Handed, Hands, Loses, Steps, Undoes, live_handed, recovery_handed, send_fault}
 use Rattle.gateway.specs.Doing.{Comes, Stays}
 use Rattle.gateway.specs.Hearing.{Checked, Given, Hears, Read, call_fault, outcome_of, reader_of}
@@ -12,8 +12,8 @@ use Rattle.gateway.specs.State.{State, venue_of}
 use Rattle.gateway.specs.declared.fault.GatewayFault.{GatewayFault}
 use Rattle.keyed.specs.Numbers.{under}
 use Rattle.layout.specs.declared.fault.Fault.{Fault}
-use Rattle.line.proofs.Fitting.{outcome_fits}
-use Rattle.line.specs.Runs.{Does, Runs, giving}
+use Rattle.gateway_runs.proofs.Fitting.{outcome_fits}
+use Rattle.gateway_runs.specs.Runs.{Does, Runs, giving}
 use Rattle.lit_book.proofs.Fairs.{served}
 use Rattle.lit_book.proofs.Tables.{count}
 use Rattle.lit_book.specs.Books.{LitDid, lit, lit_meaning, table}

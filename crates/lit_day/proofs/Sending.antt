@@ -10,8 +10,8 @@ use Rattle.gateway.specs.Hearing.{answered, outcome_of, rejection, requested_as}
 use Rattle.gateway.specs.Lines.{ends_of}
 use Rattle.gateway.specs.State.{State, session}
 use Rattle.answers.specs.declared.answer.Reason.TheVariants as reason
-use Rattle.line.proofs.Fitting.{Fits, ends_fit, outcome_fits}
-use Rattle.line.specs.Conservation.{MayBy, MayLose}
+use Rattle.gateway_runs.proofs.Fitting.{Fits, ends_fit, outcome_fits}
+use Rattle.gateway_runs.specs.Conservation.{MayBy, MayLose}
 use Rattle.lit_day.proofs.Acting.{MayAlter, MayDo}
 use Rattle.order_messages.specs.declared.order_cancel_replace_request.OrderCancelReplaceRequest.{OrderCancelReplaceRequest}
 use Rattle.orders.specs.Orders.{replace_fault}

@@ -1,12 +1,12 @@
 -- What a trade of a gateway over the lit book is, in the gateway's own orders. Assumes nothing.
 use Rattle.std.specs.Prelude.{◌≡◌, ℕ, ◌≤◌, true, List, [], ◌∷◌, Some, None, Ok, Err, Option, Result, if◌then◌else◌}
-use Rattle.call.specs.declared.venue_side.Done.{Done}
-use Rattle.call.specs.declared.venue_side.Done.TheVariants as done
-use Rattle.ends.specs.Both.{Begins}
+use Rattle.gateway_runs.specs.declared.call.Done.{Done}
+use Rattle.gateway_runs.specs.declared.call.Done.TheVariants as done
+use Rattle.both_ends.specs.Both.{Begins}
 use Rattle.gateway.specs.State.{State}
 use Rattle.gateway.specs.declared.fault.GatewayFault.{GatewayFault}
 use Rattle.keyed.specs.Numbers.{under}
-use Rattle.line.specs.Runs.{Does}
+use Rattle.gateway_runs.specs.Runs.{Does}
 use Rattle.lit_book.specs.Books.{LitDid, lit, lit_meaning}
 use Rattle.lit_book.specs.Laws.{FirstServed, at_rest_for}
 use Rattle.lit_book.specs.Orders.{accepts, opposes}

@@ -1,10 +1,10 @@
 // The lit book's laws, said of whatever a gateway over it was called to do.
-ghost use Rattle.ends.specs.Asking.{made};
-ghost use Rattle.ends.specs.Runs.{venue_log};
+ghost use Rattle.both_ends.specs.Asking.{made};
+ghost use Rattle.both_ends.specs.Runs.{venue_log};
 ghost use Rattle.lit_day.specs.Trading.{TradesFairly};
 
-use ends::both_ends::BothEnds;
-use ends::question::Question;
+use both_ends::question::Question;
+use both_ends::state::BothEnds;
 use lit_book::book::LitBook;
 use store::Store;
 

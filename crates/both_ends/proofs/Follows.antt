@@ -1,0 +1,583 @@
+-- That each call of the follower keeps what holds of both ends. Assumes nothing.
+use Rattle.std.specs.List.{list_any}
+use Rattle.std.specs.Str.{bytes_eq}
+use Rattle.std.proofs.Common.{◌≡◌, ◌⊎◌, inl, inr, ℕ, ◌≤◌, Bool, true, false, cond, List, [], ◌∷◌, Some, None, Ok, Err, Option, Result, length, refl, sym, ap, ◌∙◌, subst}
+use Rattle.codes.specs.declared.session.Partition.{Partition}
+use Rattle.codes.specs.declared.session.Partition.TheVariants.{One, Two, Three}
+use Rattle.both_ends.proofs.Carrying.{held, Brings, Flows}
+use Rattle.both_ends.proofs.Flights.{Next}
+use Rattle.both_ends.proofs.Given.{same_bytes, Stands, Lives, lives, Recovers, acks, rejects, ends, reports, repeats}
+use Rattle.both_ends.proofs.Keeping.{Keeps, Phase, Ready, Up, Taking, keeps_taken}
+use Rattle.both_ends.proofs.Living.{place_in, Only, or_one, flowing_popped, tallied_as}
+use Rattle.both_ends.specs.Agreement.{is_hers, is_unfit, place, Taken, HeardAs}
+use Rattle.both_ends.specs.Allowed.{Line, next_of, next_live, given_live, or_lost, repeated, next_report, next_other, given_recovered}
+use Rattle.both_ends.specs.Laws.{is_full}
+use Rattle.both_ends.specs.Runs.{Desk}
+use Rattle.both_ends.specs.Tallied.{Tallied}
+use Rattle.both_ends.specs.declared.allowed.Breach.{Breach}
+use Rattle.both_ends.specs.declared.allowed.Breach.TheVariants.{LiveOutOfTurn, RecoveredOutOfTurn}
+use Rattle.follower.proofs.Quiets.{stays_quiet}
+use Rattle.follower.specs.Following.{Following, Step, turned, answered, refused, lived, recovering, live_step, recovered_step}
+use Rattle.follower.specs.Hearing.{heard_in}
+use Rattle.follower.specs.Numbers.{number_of}
+use Rattle.follower.specs.Quiet.{Quiet}
+use Rattle.follower.specs.declared.answer.Live.{Live}
+use Rattle.follower.specs.declared.answer.Live.TheVariants as live
+use Rattle.follower.specs.declared.answer.Recovered.{Recovered}
+use Rattle.follower.specs.declared.answer.Recovered.TheVariants as recovered
+use Rattle.follower.specs.declared.fault.FollowerFault.{FollowerFault}
+use Rattle.follower.specs.declared.fault.FollowerFault.TheVariants as fault
+use Rattle.follower.specs.declared.heard.Heard.{Heard}
+use Rattle.follower.specs.declared.heard.Heard.TheVariants.{Report, Ack, End, Reject, Nothing}
+use Rattle.follower.specs.declared.heard.NumberedReport.{NumberedReport}
+use Rattle.follower.specs.declared.pending.Pending.{Pending}
+use Rattle.gateway.specs.State.{State, session}
+use Rattle.layout.specs.declared.fault.Fault.{Fault}
+use Rattle.limits.specs.declared.TheConstants.{ORDERS}
+use Rattle.partitions.specs.PerPartition.{at, with_at}
+use Rattle.partitions.specs.declared.per_partition.PerPartition.{PerPartition}
+use Rattle.sessions.specs.declared.session.Session.{Session}
+use Rattle.store.specs.Kept.{Kept}
+use Rattle.venue.specs.Books.{Sound}
+
+-- ---- the phases of a connection
+
+module _ (c : ℕ) (k : Kept) (s : Session) (f : Following) (pl : Partition → ℕ) (x : Line) (t : Taking) where
+  pub up_of : (r u : Bool) → u ≡ true → Phase r u c k s f pl x t → (r ≡ false) × Up c k s f pl x t
+  up_of false true e h = (refl, h)
+  up_of true true e h = absurd h
+  up_of r false e h = absurd cc
+
+  pub to_up : (r u : Bool) → r ≡ false → u ≡ true → Up c k s f pl x t → Phase r u c k s f pl x t
+  to_up false true e g h = h
+  to_up true u e g h = absurd cc
+  to_up false false e g h = absurd cc
+
+  pub to_ready : (r u : Bool) → r ≡ true → u ≡ false → Ready c k s pl x t → Phase r u c k s f pl x t
+  to_ready true false e g h = h
+  to_ready true true e g h = absurd cc
+  to_ready false u e g h = absurd cc
+
+  pub to_away : (r u : Bool) → r ≡ false → u ≡ false → Phase r u c k s f pl x t
+  to_away false false e g = tt
+  to_away true u e g = absurd cc
+  to_away false true e g = absurd cc
+
+-- ---- a call that gives the follower something
+
+-- what a call answered and left: no report was refused by the fold, and all is kept
+pub record Goes {A : Type 0} (c : ℕ) (s : State) (a : Step A) (x : Line) (t : Taking) : Type 0 where
+  pub fits : is_unfit a.answer ≡ false
+  pub keeps : (token : Pending) → Keeps c s (record { follower = a.after; token = token }) x t
+
+abbrev pub took : {A : Type 0} → Step A → Result Heard Fault → Taking
+took a h p n = Taken a.answer (HeardAs p n h)
+
+pub next_is : (m : List ℕ) (ms rest : List (List ℕ)) → next_of m ms ≡ Some rest → ms ≡ m ∷ rest
+next_is m [] rest h = absurd cc
+next_is m (y ∷ ms) rest h = by (bytes_eq y m) refl h
+  where
+    by : (b : Bool) → bytes_eq y m ≡ b → cond b (Some ms) None ≡ Some rest → y ∷ ms ≡ m ∷ rest
+    by true e g =
+        let i : y ≡ m = same_bytes y m e in
+        let j : ms ≡ rest = cc in
+        ap (λ z. z ∷ ms) i ∙ ap (λ z. m ∷ z) j
+    by false e g = absurd cc
+
+abbrev pub Went : Type 0
+Went = Result Line Breach
+
+pub same_ok : (a b : Line) (r : Went) → r ≡ Ok a → r ≡ Ok b → a ≡ b
+same_ok a b r e g = cc
+
+pub ok_err : {X : Type 0} (b : Breach) (a : Line) (r : Went) → r ≡ Err b → r ≡ Ok a → X
+ok_err b a r e g = cc
+
+module _ (c : ℕ) (s : State) (d : Desk) (x : Line) (t : Taking) (sound : Sound s.venue)
+    (few : length s.venue.rows ≤ ORDERS) (k : Keeps c s d x t) where
+  abbrev f : Following
+  f = d.follower
+
+  -- nothing came of it
+  nothing : {A : Type 0} (a : Step A) (u : Taking) → a.after ≡ f → is_unfit a.answer ≡ false
+      → ((p : Partition) (n : ℕ) → u p n → ⊥) → Goes c s a x (or_one c s.venue.kept (session s c) t u)
+  nothing a u e fits none = record {
+    fits = fits;
+    keeps = λ token. subst (λ g. Keeps c s (record { follower = g; token = token }) x
+        (or_one c s.venue.kept (session s c) t u)) (sym e)
+        (keeps_taken c s d x t (or_one c s.venue.kept (session s c) t u) token old k);
+  }
+    where
+      old : (p : Partition) (n : ℕ) → or_one c s.venue.kept (session s c) t u p n → t p n
+      old p n (inl h) = h
+      old p n (inr h) = absurd (none p n h)
+
+  -- ---- live
+
+  unheard : (h : Heard) → lived f h ≡ answered live.Nothing f → ((p : Partition) (n : ℕ) → HeardAs p n (Ok h) → ⊥)
+      → (b : Bool) → Goes c s (cond b (lived f h) (refused fault.NotUp f)) x
+      (or_one c s.venue.kept (session s c) t (took (cond b (lived f h) (refused fault.NotUp f)) (Ok h)))
+  unheard h e none true =
+      subst (λ a. Goes c s a x (or_one c s.venue.kept (session s c) t (took a (Ok h)))) (sym e)
+      (nothing (answered live.Nothing f) (took {A = Live} (answered live.Nothing f) (Ok h)) refl refl none)
+  unheard h e none false = nothing (refused {A = Live} fault.NotUp f)
+      (took (refused {A = Live} fault.NotUp f) (Ok h)) refl refl (λ p n z. z)
+
+  abbrev stands : Up c s.venue.kept (session s c) f (place_in f) x t → Stands c s.venue (session s c) f x t
+  stands u = record { known = k.known; placed = k.placed; up = u }
+
+  -- a report comes live
+  module _ (m : List ℕ) (p : Partition) (h : NumberedReport) (heard : heard_in m ≡ Ok (Report p h)) (rest : List (List ℕ))
+      (front : x.live ≡ m ∷ rest) where
+    abbrev rest_line : Line
+    rest_line = record x { live = rest }
+
+    -- it is the owner's, and the next above the mark
+    pub record Comes (y : PerPartition ℕ) : Type 0 where
+      pub n : ℕ
+      pub brings : Brings c (at s.venue.kept p) p n m
+      pub is : h ≡ held n brings.entry
+      pub next : Next c (at s.venue.kept p) (at y p) n
+      pub flows : Flows c s.venue.kept (session s c).sent (with_at y p n) rest
+
+    comes : (y : PerPartition ℕ) → Flows c s.venue.kept (session s c).sent y x.live → Comes y
+    comes y fl = by (subst (λ z. Flows c s.venue.kept (session s c).sent y z) front fl)
+      where
+        part : (i j : Partition) (a b : NumberedReport) (r : Result Heard Fault) → r ≡ Ok (Report i a) → r ≡ Ok (Report j b)
+            → j ≡ i
+        part i j a b r e g = cc
+
+        told : (i j : Partition) (a b : NumberedReport) (r : Result Heard Fault) → r ≡ Ok (Report i a) → r ≡ Ok (Report j b)
+            → a ≡ b
+        told i j a b r e g = cc
+
+        moved_as : (q : Partition) (n : ℕ) → q ≡ p → (b : Brings c (at s.venue.kept q) q n m) → h ≡ held n b.entry
+            → Next c (at s.venue.kept q) (at y q) n → Flows c s.venue.kept (session s c).sent (with_at y q n) rest
+            → Comes y
+        moved_as q n e b i nx fl' =
+            subst (λ z. (b : Brings c (at s.venue.kept z) z n m) → h ≡ held n b.entry
+            → Next c (at s.venue.kept z) (at y z) n → Flows c s.venue.kept (session s c).sent (with_at y z n) rest
+            → Comes y) (sym e)
+            (λ b i nx fl'. record { n = n; brings = b; is = i; next = nx; flows = fl' }) b i nx fl'
+
+        by : Flows c s.venue.kept (session s c).sent y (m ∷ rest) → Comes y
+        by (q, n, b, nx, fl') =
+            moved_as q n (part p q h (held n b.entry) (heard_in m) heard b.heard) b
+            (told p q h (held n b.entry) (heard_in m) heard b.heard) nx fl'
+
+    only : (y : PerPartition ℕ) (w : Comes y) {A : Type 0} (a : Step A)
+        → Only c s.venue.kept (session s c) p w.n (took a (Ok (Report p h)))
+    only y w {A = A} a q i z = by a.answer z
+      where
+        by : (r : Result A FollowerFault) → Taken r (HeardAs q i (Ok (Report p h))) → (p ≡ q) × (w.n ≡ i)
+        by (Ok v) (e, g) = (e, sym (ap number_of w.is) ∙ g)
+        by (Err v) g = absurd g
+
+    hers_on : (y : PerPartition ℕ) (w : Comes y) {A : Type 0} (a : Step A) (q : Partition) (i : ℕ)
+        → or_one c s.venue.kept (session s c) t (took a (Ok (Report p h))) q i → is_hers c s q i ≡ true
+    hers_on y w a q i (inl z) = k.hers q i z
+    hers_on y w a q i (inr z) =
+        let (e, g) = only y w a q i z in
+        subst (λ r. is_hers c s r i ≡ true) e (subst (λ r. is_hers c s p r ≡ true) g w.next.hers)
+
+    -- the follower is not up: the report is gone
+    not_up : f.up ≡ false → Goes c s (refused {A = Live} fault.NotUp f) rest_line
+        (or_one c s.venue.kept (session s c) t (took (refused {A = Live} fault.NotUp f) (Ok (Report p h))))
+    not_up dn = record {
+      fits = refl;
+      keeps = λ token. record {
+        up = k.up;
+        quiet = k.quiet;
+        placed = k.placed;
+        known = k.known;
+        hers = λ q i z. old q i z;
+        sound = λ q. sound;
+        few = λ q. few;
+        phase = by x.ready x.up (k.up ∙ dn) k.phase;
+      };
+    }
+      where
+        none : Taking
+        none = took (refused {A = Live} fault.NotUp f) (Ok (Report p h))
+
+        old : (q : Partition) (i : ℕ) → or_one c s.venue.kept (session s c) t none q i → is_hers c s q i ≡ true
+        old q i (inl z) = k.hers q i z
+        old q i (inr z) = absurd z
+
+        by : (r b : Bool) → b ≡ false → Phase r b c s.venue.kept (session s c) f (place d) x t
+            → Phase r b c s.venue.kept (session s c) f (place d) rest_line (or_one c s.venue.kept (session s c) t none)
+        by false false e z = tt
+        by true false e z =
+            let w = comes z.y z.flowing.flows in
+            record {
+              y = with_at z.y p w.n;
+              flowing = flowing_popped c s.venue.kept (session s c) (place d) x m rest t none z.y p w.n w.next w.flows
+                  (λ q i a. absurd a) z.flowing;
+              still = z.still;
+            }
+        by r true e z = absurd cc
+
+    -- it is up
+    is_up : f.up ≡ true → (x' : Line) → or_lost (is_full (lived f (Report p h)).answer) (Ok rest_line) ≡ Ok x'
+        → Goes c s (lived f (Report p h)) x' (or_one c s.venue.kept (session s c) t
+        (took (lived f (Report p h)) (Ok (Report p h))))
+    is_up up x' ok =
+        let (r, u) = up_of c s.venue.kept (session s c) f (place d) x t x.ready x.up (k.up ∙ up) k.phase in
+        let w = comes u.y u.flowing.flows in
+        let g = lived f (Report p h) in
+        let done = subst (λ z. Lives c s.venue (session s c) sound few f (lived f (Report p z)) rest_line
+        (or_one c s.venue.kept (session s c) t (took g (Ok (Report p h))))) (sym w.is)
+        (lives c s.venue (session s c) sound few f x m rest t (took g (Ok (Report p h))) p w.n w.brings.entry
+        (stands u) w.brings.stands w.brings.owner w.next w.flows (only u.y w g)) in
+        by r u w done.0 done.1
+      where
+        lost : Taking
+        lost = took (lived f (Report p h)) (Ok (Report p h))
+
+        quiet : Quiet (lived f (Report p h)).after
+        quiet = subst (λ b. Quiet (cond b (lived f (Report p h)) (refused {A = Live} fault.NotUp f)).after) up
+            (stays_quiet.lives f (Ok (Report p h)) k.quiet)
+
+        up_after : Following → Type 0
+        up_after g = g.up ≡ true
+
+        by : x.ready ≡ false → (u : Up c s.venue.kept (session s c) f (place_in f) x t) (w : Comes u.y)
+            → is_unfit (lived f (Report p h)).answer ≡ false
+            → ((is_full (lived f (Report p h)).answer ≡ true) × ((lived f (Report p h)).after ≡ turned false f))
+            ⊎ ((is_full (lived f (Report p h)).answer ≡ false) × ((lived f (Report p h)).after.up ≡ f.up)
+            × Stands c s.venue (session s c) (lived f (Report p h)).after rest_line
+            (or_one c s.venue.kept (session s c) t lost))
+            → Goes c s (lived f (Report p h)) x' (or_one c s.venue.kept (session s c) t lost)
+        by r u w fits (inl (full, fell)) =
+            let lx : record rest_line { up = false }
+            ≡ x' = same_ok (record rest_line { up = false }) x' (or_lost true (Ok rest_line)) refl
+            (subst (λ b. or_lost b (Ok rest_line) ≡ Ok x') full ok) in
+            record {
+              fits = fits;
+              keeps = λ token. subst (λ y. Keeps c s
+                  (record { follower = (lived f (Report p h)).after; token = token }) y
+                  (or_one c s.venue.kept (session s c) t lost)) lx (record {
+                    up = ap (λ (g : Following). g.up) (sym fell);
+                    quiet = quiet;
+                    placed = λ q. subst (λ (g : Following). (place_in g q ≡ 0) ⊎ (is_hers c s q (place_in g q) ≡ true))
+                        (sym fell) (subst (λ z. (z ≡ 0) ⊎ (is_hers c s q z ≡ true)) (sym (turned_places q))
+                        (k.placed q));
+                    known = subst (λ (g : Following). Tallied c s.venue.kept g.standings (place_in g)) (sym fell)
+                        (tallied_as c s.venue.kept f.standings (place_in f)
+                        (place_in (turned false f)) turned_places k.known);
+                    hers = hers_on u.y w (lived f (Report p h));
+                    sound = λ q. sound;
+                    few = λ q. few;
+                    phase = to_away c s.venue.kept (session s c) (lived f (Report p h)).after
+                        (place_in (lived f (Report p h)).after) (record rest_line { up = false })
+                        (or_one c s.venue.kept (session s c) t lost) x.ready false r refl;
+                  });
+            }
+          where
+            turned_places : (q : Partition) → place_in (turned false f) q ≡ place_in f q
+            turned_places One = refl
+            turned_places Two = refl
+            turned_places Three = refl
+        by r u w fits (inr (room, same_up, st)) =
+            let lx : rest_line ≡ x' = same_ok rest_line x' (or_lost false (Ok rest_line)) refl
+            (subst (λ b. or_lost b (Ok rest_line) ≡ Ok x') room ok) in
+            record {
+              fits = fits;
+              keeps = λ token. subst (λ y. Keeps c s
+                  (record { follower = (lived f (Report p h)).after; token = token }) y
+                  (or_one c s.venue.kept (session s c) t lost)) lx (record {
+                    up = k.up ∙ sym same_up;
+                    quiet = quiet;
+                    placed = st.placed;
+                    known = st.known;
+                    hers = hers_on u.y w (lived f (Report p h));
+                    sound = λ q. sound;
+                    few = λ q. few;
+                    phase = to_up c s.venue.kept (session s c) (lived f (Report p h)).after
+                        (place_in (lived f (Report p h)).after) rest_line
+                        (or_one c s.venue.kept (session s c) t lost) x.ready x.up r (k.up ∙ up) st.up;
+                  });
+            }
+
+  -- any message that is given live
+  full_not : (b : Bool) (a : Step Live) → is_full (cond b a (refused fault.NotUp f)).answer ≡ true → b ≡ true
+  full_not true a e = refl
+  full_not false a e = absurd cc
+
+  report_live : (m : List ℕ) (p : Partition) (h : NumberedReport) → heard_in m ≡ Ok (Report p h) → (o : Option (List (List ℕ)))
+      → next_of m x.live ≡ o → (x' : Line) (b : Bool) → f.up ≡ b
+      → or_lost (is_full (cond b (lived f (Report p h)) (refused fault.NotUp f)).answer) (next_live o x) ≡ Ok x'
+      → Goes c s (cond b (lived f (Report p h)) (refused fault.NotUp f)) x'
+      (or_one c s.venue.kept (session s c) t (took (cond b (lived f (Report p h)) (refused fault.NotUp f))
+      (Ok (Report p h))))
+  report_live m p h heard None e x' b q ok = by
+      (is_full (cond b (lived f (Report p h)) (refused fault.NotUp f)).answer) ok
+    where
+      by : (z : Bool) → or_lost z (Err LiveOutOfTurn) ≡ Ok x'
+          → Goes c s (cond b (lived f (Report p h)) (refused fault.NotUp f)) x'
+          (or_one c s.venue.kept (session s c) t (took (cond b (lived f (Report p h)) (refused fault.NotUp f))
+          (Ok (Report p h))))
+      by true g = ok_err LiveOutOfTurn x' (Err LiveOutOfTurn) refl g
+      by false g = ok_err LiveOutOfTurn x' (Err LiveOutOfTurn) refl g
+  report_live m p h heard (Some rest) e x' true q ok = is_up m p h heard rest (next_is m x.live rest e) q x' ok
+  report_live m p h heard (Some rest) e x' false q ok =
+      subst (λ y. Goes c s (refused {A = Live} fault.NotUp f) y
+      (or_one c s.venue.kept (session s c) t (took (refused {A = Live} fault.NotUp f) (Ok (Report p h)))))
+      (same_ok (record x { live = rest }) x' (Ok (record x { live = rest })) refl ok)
+      (not_up m p h heard rest (next_is m x.live rest e) q)
+
+  not_full : (h : Heard) → lived f h ≡ answered live.Nothing f → (b : Bool)
+      → is_full (cond b (lived f h) (refused fault.NotUp f)).answer ≡ false
+  not_full h e true = ap (λ (a : Step Live). is_full a.answer) e
+  not_full h e false = refl
+
+  unheard_live : (h : Heard) → lived f h ≡ answered live.Nothing f → ((p : Partition) (n : ℕ) → HeardAs p n (Ok h) → ⊥)
+      → (x' : Line) → or_lost (is_full (live_step f (Ok h)).answer) (Ok x) ≡ Ok x'
+      → Goes c s (live_step f (Ok h)) x' (or_one c s.venue.kept (session s c) t (took (live_step f (Ok h)) (Ok h)))
+  unheard_live h e none x' ok =
+      subst (λ y. Goes c s (live_step f (Ok h)) y
+      (or_one c s.venue.kept (session s c) t (took (live_step f (Ok h)) (Ok h))))
+      (same_ok x x' (or_lost false (Ok x)) refl (subst (λ b. or_lost b (Ok x) ≡ Ok x') (not_full h e f.up) ok))
+      (unheard h e none f.up)
+
+  pub given_live_keeps : (m : List ℕ) (r : Result Heard Fault) → heard_in m ≡ r → (x' : Line)
+      → or_lost (is_full (live_step f r).answer) (given_live m r x) ≡ Ok x'
+      → Goes c s (live_step f r) x' (or_one c s.venue.kept (session s c) t (took (live_step f r) r))
+  given_live_keeps m (Err e) heard x' ok =
+      subst (λ y. Goes c s (live_step f (Err e)) y
+      (or_one c s.venue.kept (session s c) t (took (live_step f (Err e)) (Err e)))) (same_ok x x' (Ok x) refl ok)
+      (nothing (live_step f (Err e)) (took (live_step f (Err e)) (Err e)) refl refl (λ p n z. z))
+  given_live_keeps m (Ok (Report p h)) heard x' ok = report_live m p h heard (next_of m x.live) refl x' f.up refl ok
+  given_live_keeps m (Ok (Ack i)) heard x' ok = unheard_live (Ack i) refl (λ p n z. z) x' ok
+  given_live_keeps m (Ok (End i)) heard x' ok = unheard_live (End i) refl (λ p n z. z) x' ok
+  given_live_keeps m (Ok Reject) heard x' ok = unheard_live Reject refl (λ p n z. z) x' ok
+  given_live_keeps m (Ok Nothing) heard x' ok = unheard_live Nothing refl (λ p n z. z) x' ok
+
+  -- ---- the recovery channel
+
+  -- where both ends stand after it, and the follower is up still
+  gone_on : {y : Line} (a : Step Recovered) (u : Taking) → f.up ≡ true → y.ready ≡ x.ready → y.up ≡ x.up
+      → Recovers c s.venue (session s c) sound few f a y (or_one c s.venue.kept (session s c) t u) → Quiet a.after
+      → ((p : Partition) (n : ℕ) → u p n → is_hers c s p n ≡ true)
+      → Goes c s a y (or_one c s.venue.kept (session s c) t u)
+  gone_on {y} a u up er eu (fits, same_up, st) quiet hers = record {
+    fits = fits;
+    keeps = λ token. record {
+      up = eu ∙ k.up ∙ sym same_up;
+      quiet = quiet;
+      placed = st.placed;
+      known = st.known;
+      hers = λ p n h. by p n h;
+      sound = λ q. sound;
+      few = λ q. few;
+      phase = to_up c s.venue.kept (session s c) a.after (place_in a.after) y
+          (or_one c s.venue.kept (session s c) t u) y.ready y.up
+          (er ∙ (up_of c s.venue.kept (session s c) f (place d) x t x.ready x.up (k.up ∙ up) k.phase).0)
+          (eu ∙ k.up ∙ up) st.up;
+    };
+  }
+    where
+      by : (p : Partition) (n : ℕ) → or_one c s.venue.kept (session s c) t u p n → is_hers c s p n ≡ true
+      by p n (inl h) = k.hers p n h
+      by p n (inr h) = hers p n h
+
+  abbrev UpNow : Type 0
+  UpNow = Up c s.venue.kept (session s c) f (place_in f) x t
+
+  now_up : f.up ≡ true → UpNow
+  now_up up = (up_of c s.venue.kept (session s c) f (place d) x t x.ready x.up (k.up ∙ up) k.phase).1
+
+  abbrev step_on : Heard → Step Recovered
+  step_on h = recovered_step f (Ok h)
+
+  is_on : (h : Heard) → f.up ≡ true → step_on h ≡ recovering f h
+  is_on h up = ap (λ b. cond b (recovering f h) (refused fault.NotUp f)) up
+
+  is_off : (h : Heard) → f.up ≡ false → step_on h ≡ refused fault.NotUp f
+  is_off h dn = ap (λ b. cond b (recovering f h) (refused fault.NotUp f)) dn
+
+  quiet_on : (h : Heard) → f.up ≡ true → Quiet (recovering f h).after
+  quiet_on h up = subst (λ (a : Step Recovered). Quiet a.after) (is_on h up) (stays_quiet.recovers f (Ok h) k.quiet)
+
+  -- a follower that is not up takes nothing, and has nothing under way on the recovery channel; or no connection counts
+  off_still : (y : Line) (h : Heard) → f.up ≡ false → y.ready ≡ x.ready → y.up ≡ x.up → (x.recovered ≡ [] → y ≡ x)
+      → Goes c s (refused {A = Recovered} fault.NotUp f) y
+      (or_one c s.venue.kept (session s c) t (took (refused {A = Recovered} fault.NotUp f) (Ok h)))
+  off_still y h dn er eu same = record {
+    fits = refl;
+    keeps = λ token. record {
+      up = eu ∙ k.up;
+      quiet = k.quiet;
+      placed = k.placed;
+      known = k.known;
+      hers = λ p n z. old_hers p n z;
+      sound = λ q. sound;
+      few = λ q. few;
+      phase = by x.ready x.up (k.up ∙ dn) er eu k.phase;
+    };
+  }
+    where
+      none : Taking
+      none = took (refused {A = Recovered} fault.NotUp f) (Ok h)
+
+      old : (p : Partition) (n : ℕ) → or_one c s.venue.kept (session s c) t none p n → t p n
+      old p n (inl z) = z
+      old p n (inr z) = absurd z
+
+      old_hers : (p : Partition) (n : ℕ) → or_one c s.venue.kept (session s c) t none p n → is_hers c s p n ≡ true
+      old_hers p n z = k.hers p n (old p n z)
+
+      ready : Ready c s.venue.kept (session s c) (place d) x t
+          → Ready c s.venue.kept (session s c) (place d) y (or_one c s.venue.kept (session s c) t none)
+      ready z =
+          subst (λ l. Ready c s.venue.kept (session s c) (place d) l (or_one c s.venue.kept (session s c) t none))
+          (sym (same z.still.1))
+          (record {
+            y = z.y;
+            flowing = record {
+              within = z.flowing.within;
+              flows = z.flowing.flows;
+              taken = λ p n i. z.flowing.taken p n (old p n i);
+            };
+            still = z.still;
+          })
+
+      by : (r b : Bool) → b ≡ false → y.ready ≡ r → y.up ≡ b → Phase r b c s.venue.kept (session s c) f (place d) x t
+          → Phase y.ready y.up c s.venue.kept (session s c) f (place d) y (or_one c s.venue.kept (session s c) t none)
+      by false false e er eu z = to_away c s.venue.kept (session s c) f (place d) y
+          (or_one c s.venue.kept (session s c) t none) y.ready y.up er eu
+      by true false e er eu z = to_ready c s.venue.kept (session s c) f (place d) y
+          (or_one c s.venue.kept (session s c) t none) y.ready y.up er eu (ready z)
+      by r true e er eu z = absurd cc
+
+  taken_none : {A : Type 0} (r : Result A FollowerFault) → Taken r ⊥ → ⊥
+  taken_none (Ok a) h = h
+  taken_none (Err e) h = h
+
+  -- what is no report comes next
+  other_came : (m : List ℕ) (h : Heard) → ((p : Partition) (n : ℕ) → HeardAs p n (Ok h) ≡ ⊥)
+      → ((u : UpNow) (rest : List (List ℕ)) (w : Taking) → x.recovered ≡ m ∷ rest
+      → ((p : Partition) (n : ℕ) → w p n → ⊥)
+      → Recovers c s.venue (session s c) sound few f (recovering f h) (record x { recovered = rest; again = [] })
+      (or_one c s.venue.kept (session s c) t w))
+      → (o : Option (List (List ℕ))) → next_of m x.recovered ≡ o → (x' : Line) → next_other o x ≡ Ok x' → (b : Bool)
+      → f.up ≡ b
+      → Goes c s (step_on h) x' (or_one c s.venue.kept (session s c) t (took (step_on h) (Ok h)))
+  other_came m h tells on None e x' ok b q = ok_err RecoveredOutOfTurn x' (Err RecoveredOutOfTurn) refl ok
+  other_came m h tells on (Some rest) e x' ok true q =
+      subst (λ y. Goes c s (step_on h) y (or_one c s.venue.kept (session s c) t (took (step_on h) (Ok h))))
+      (same_ok (record x { recovered = rest; again = [] }) x' (Ok (record x { recovered = rest; again = [] })) refl ok)
+      (subst (λ a. Goes c s a (record x { recovered = rest; again = [] })
+      (or_one c s.venue.kept (session s c) t (took a (Ok h)))) (sym (is_on h q))
+      (gone_on (recovering f h) (took (recovering f h) (Ok h)) q refl refl
+      (on (now_up q) rest (took (recovering f h) (Ok h)) (next_is m x.recovered rest e) none) (quiet_on h q)
+      (λ p n z. absurd (none p n z))))
+    where
+      none : (p : Partition) (n : ℕ) → took (recovering f h) (Ok h) p n → ⊥
+      none p n z = taken_none (recovering f h).answer (subst (λ y. Taken (recovering f h).answer y) (tells p n) z)
+  other_came m h tells on (Some rest) e x' ok false q =
+      subst (λ y. Goes c s (step_on h) y (or_one c s.venue.kept (session s c) t (took (step_on h) (Ok h))))
+      (same_ok (record x { recovered = rest; again = [] }) x' (Ok (record x { recovered = rest; again = [] })) refl ok)
+      (subst (λ a. Goes c s a (record x { recovered = rest; again = [] })
+      (or_one c s.venue.kept (session s c) t (took a (Ok h)))) (sym (is_off h q))
+      (off_still (record x { recovered = rest; again = [] }) h q refl refl
+      (λ z. absurd (empty (sym (next_is m x.recovered rest e) ∙ z)))))
+    where
+      empty : m ∷ rest ≡ [] → ⊥
+      empty z = cc
+
+  -- a report comes next, or again
+  module _ (m : List ℕ) (p : Partition) (h : NumberedReport) (heard : heard_in m ≡ Ok (Report p h)) where
+    abbrev told : Heard
+    told = Report p h
+
+    only_told : {A : Type 0} (a : Step A) → Only c s.venue.kept (session s c) p (number_of h) (took a (Ok told))
+    only_told {A = A} a q i z = by a.answer z
+      where
+        by : (r : Result A FollowerFault) → Taken r (HeardAs q i (Ok (Report p h))) → (p ≡ q) × (number_of h ≡ i)
+        by (Ok v) g = g
+        by (Err v) g = absurd g
+
+    hers_told : {A : Type 0} (a : Step A) → is_hers c s p (number_of h) ≡ true → (q : Partition) (i : ℕ)
+        → took a (Ok told) q i → is_hers c s q i ≡ true
+    hers_told a w q i z =
+        let (e, g) = only_told a q i z in
+        subst (λ r. is_hers c s r i ≡ true) e (subst (λ r. is_hers c s p r ≡ true) g w)
+
+    report_came : (o : Option (List (List ℕ))) → next_of m x.recovered ≡ o → (w : Bool) → list_any (bytes_eq m) x.again
+        ≡ w → (x' : Line) → (b : Bool) → f.up ≡ b → next_report m o x ≡ Ok x'
+        → Goes c s (step_on told) x' (or_one c s.venue.kept (session s c) t (took (step_on told) (Ok told)))
+    report_came (Some rest) e w i x' true q ok =
+        let y : Line = record x { recovered = rest; again = m ∷ x.again } in
+        let u = now_up q in
+        let r = reports c s.venue (session s c) sound few f x m t (took (recovering f told) (Ok told))
+        (stands u) p h heard (only_told (recovering f told)) rest
+        (next_is m x.recovered rest e) f.download refl u.staged in
+        subst (λ z. Goes c s (step_on told) z (or_one c s.venue.kept (session s c) t (took (step_on told) (Ok told))))
+        (same_ok y x' (Ok y) refl ok)
+        (subst (λ a. Goes c s a y (or_one c s.venue.kept (session s c) t (took a (Ok told)))) (sym (is_on told q))
+        (gone_on (recovering f told) (took (recovering f told) (Ok told)) q refl refl r.0 (quiet_on told q)
+        (hers_told (recovering f told) r.1)))
+    report_came (Some rest) e w i x' false q ok =
+        let y : Line = record x { recovered = rest; again = m ∷ x.again } in
+        subst (λ z. Goes c s (step_on told) z (or_one c s.venue.kept (session s c) t (took (step_on told) (Ok told))))
+        (same_ok y x' (Ok y) refl ok)
+        (subst (λ a. Goes c s a y (or_one c s.venue.kept (session s c) t (took a (Ok told)))) (sym (is_off told q))
+        (off_still y told q refl refl (λ z. absurd (empty (sym (next_is m x.recovered rest e) ∙ z)))))
+      where
+        empty : m ∷ rest ≡ [] → ⊥
+        empty z = cc
+    report_came None e true i x' true q ok =
+        let u = now_up q in
+        let r = repeats c s.venue (session s c) sound few f x m t (took (recovering f told) (Ok told))
+        (stands u) p h heard (only_told (recovering f told)) i f.download refl u.staged in
+        subst (λ z. Goes c s (step_on told) z (or_one c s.venue.kept (session s c) t (took (step_on told) (Ok told))))
+        (same_ok x x' (repeated true x) refl (subst (λ z. repeated z x ≡ Ok x') i ok))
+        (subst (λ a. Goes c s a x (or_one c s.venue.kept (session s c) t (took a (Ok told)))) (sym (is_on told q))
+        (gone_on (recovering f told) (took (recovering f told) (Ok told)) q refl refl r.0 (quiet_on told q)
+        (hers_told (recovering f told) r.1)))
+    report_came None e true i x' false q ok =
+        subst (λ z. Goes c s (step_on told) z (or_one c s.venue.kept (session s c) t (took (step_on told) (Ok told))))
+        (same_ok x x' (repeated true x) refl (subst (λ z. repeated z x ≡ Ok x') i ok))
+        (subst (λ a. Goes c s a x (or_one c s.venue.kept (session s c) t (took a (Ok told)))) (sym (is_off told q))
+        (off_still x told q refl refl (λ z. refl)))
+    report_came None e false i x' b q ok = ok_err RecoveredOutOfTurn x' (repeated false x) refl
+        (subst (λ z. repeated z x ≡ Ok x') i ok)
+
+  unheard_recovered : (h : Heard) → recovering f h ≡ answered recovered.Nothing f
+      → ((p : Partition) (n : ℕ) → HeardAs p n (Ok h) ≡ ⊥) → (b : Bool) → f.up ≡ b
+      → Goes c s (step_on h) x (or_one c s.venue.kept (session s c) t (took (step_on h) (Ok h)))
+  unheard_recovered h e tells true q =
+      let a : step_on h ≡ answered recovered.Nothing f = is_on h q ∙ e in
+      nothing (step_on h) (took (step_on h) (Ok h)) (ap (λ (y : Step Recovered). y.after) a)
+      (ap (λ (y : Step Recovered). is_unfit y.answer) a)
+      (λ p n z. taken_none (step_on h).answer (subst (λ y. Taken (step_on h).answer y) (tells p n) z))
+  unheard_recovered h e tells false q =
+      let a = is_off h q in
+      nothing (step_on h) (took (step_on h) (Ok h)) (ap (λ (y : Step Recovered). y.after) a)
+      (ap (λ (y : Step Recovered). is_unfit y.answer) a)
+      (λ p n z. taken_none (step_on h).answer (subst (λ y. Taken (step_on h).answer y) (tells p n) z))
+
+  pub given_recovered_keeps : (m : List ℕ) (r : Result Heard Fault) → heard_in m ≡ r → (x' : Line)
+      → given_recovered m r x ≡ Ok x'
+      → Goes c s (recovered_step f r) x' (or_one c s.venue.kept (session s c) t (took (recovered_step f r) r))
+  given_recovered_keeps m (Err e) heard x' ok =
+      subst (λ y. Goes c s (recovered_step f (Err e)) y
+      (or_one c s.venue.kept (session s c) t (took (recovered_step f (Err e)) (Err e)))) (same_ok x x' (Ok x) refl ok)
+      (nothing (recovered_step f (Err e)) (took (recovered_step f (Err e)) (Err e)) refl refl (λ p n z. z))
+  given_recovered_keeps m (Ok (Report p h)) heard x' ok = report_came m p h heard (next_of m x.recovered) refl
+      (list_any (bytes_eq m) x.again) refl x' f.up refl ok
+  given_recovered_keeps m (Ok (Ack r)) heard x' ok =
+      other_came m (Ack r) (λ p n. refl) (λ u rest w front none. acks c s.venue (session s c) sound few f x m rest t w
+      (stands u) front none f.download u.staged r heard) (next_of m x.recovered) refl x' ok f.up refl
+  given_recovered_keeps m (Ok (End r)) heard x' ok =
+      other_came m (End r) (λ p n. refl) (λ u rest w front none. ends c s.venue (session s c) sound few f x m rest t w
+      (stands u) front none f.download u.staged r heard) (next_of m x.recovered) refl x' ok f.up refl
+  given_recovered_keeps m (Ok Reject) heard x' ok =
+      other_came m Reject (λ p n. refl) (λ u rest w front none. rejects c s.venue
+      (session s c) sound few f x m rest t w (stands u) front none f.download u.staged heard)
+      (next_of m x.recovered) refl x' ok f.up refl
+  given_recovered_keeps m (Ok Nothing) heard x' ok =
+      subst (λ y. Goes c s (step_on Nothing) y
+      (or_one c s.venue.kept (session s c) t (took (step_on Nothing) (Ok Nothing)))) (same_ok x x' (Ok x) refl ok)
+      (unheard_recovered Nothing refl (λ p n. refl) f.up refl)

@@ -1,0 +1,594 @@
+-- That each call of the gateway keeps what holds of both ends. Assumes nothing.
+use Rattle.std.specs.Str.{bytes_eq}
+use Rattle.std.proofs.Common.{◌≡◌, ◌≢◌, ◌⊎◌, inl, inr, ℕ, ◌≤◌, Bool, true, false, cond, List, [], ◌∷◌, ◌++◌, Some, None, Ok, Err, Option, Result, length, pos, refl, sym, ap, ◌∙◌, subst, arith}
+use Rattle.std.proofs.lemmas.Bool.{eqb-true}
+use Rattle.std.proofs.lemmas.Slice.Eq.{bytes_eq-Decides}
+use Rattle.answers.specs.Bytes.{answer_bytes, end_bytes}
+use Rattle.answers.specs.declared.answer.Answer.{Answer}
+use Rattle.answers.specs.declared.answer.Answer.TheVariants as answer
+use Rattle.codes.specs.Session.{partition_code}
+use Rattle.codes.specs.declared.session.AckResponse.{AckResponse}
+use Rattle.codes.specs.declared.session.AckResponse.TheVariants.{Successful, LimitReached, InvalidAppId, ServiceUnavailable}
+use Rattle.codes.specs.declared.session.Partition.{Partition}
+use Rattle.codes.specs.declared.session.Partition.TheVariants.{One, Two, Three}
+use Rattle.both_ends.proofs.Carrying.{held, Brings, Flows, Ahead, Moves, Sent, Loads, flows_grown, flows_on, flows_more, loads_more, loads_end}
+use Rattle.both_ends.proofs.Caught.{grows}
+use Rattle.both_ends.proofs.Flights.{Passed, Next, there_within, hers_grown, longer, hers_is}
+use Rattle.both_ends.proofs.Follows.{to_up, to_ready, to_away, next_is, same_ok, ok_err}
+use Rattle.both_ends.proofs.Heard.{report_heard, end_heard, ack_heard, reject_heard, logon_heard, nothing_heard}
+use Rattle.both_ends.proofs.Keeping.{Keeps, Phase, Ready, Up, Still, Staged, AskedAs, Waits, Refuses, Taking, Flowing, sided_grown, staged_grown, staged_cut, staged_live}
+use Rattle.both_ends.proofs.Sendings.{SentBy, sends, HandedBy, hands}
+use Rattle.both_ends.specs.Agreement.{is_hers, place}
+use Rattle.both_ends.specs.Allowed.{Line, connected, accepted, next_of, after_logon, behind, answered, after_recovery}
+use Rattle.both_ends.specs.Runs.{Desk}
+use Rattle.both_ends.specs.declared.allowed.Breach.TheVariants.{StillUp, NotAsked}
+use Rattle.follower.specs.Asking.{request, IsRequest}
+use Rattle.follower.specs.Following.{Following}
+use Rattle.follower.specs.Hearing.{heard_in}
+use Rattle.follower.specs.declared.heard.Heard.{Heard}
+use Rattle.follower.specs.declared.heard.Heard.TheVariants.{Report, Ack, End, Reject, Nothing}
+use Rattle.follower.specs.declared.stage.Stage.{Stage}
+use Rattle.follower.specs.declared.stage.Stage.TheVariants.{Idle, Asked, Running}
+use Rattle.gateway.specs.Calls.{entry_bytes, sent_bytes, recovered_bytes}
+use Rattle.gateway.specs.Hearing.{partition_of}
+use Rattle.gateway.specs.State.{State, session, lasts}
+use Rattle.gateway.specs.Telling.{EntryTold, SentTold, RecoveredTold, SendTold, RecoverTold}
+use Rattle.keyed.specs.Numbers.{under}
+use Rattle.layout.specs.declared.fault.Fault.{Fault}
+use Rattle.limits.specs.declared.TheConstants.{ORDERS}
+use Rattle.gateway_runs.proofs.Effects.{Stays, Closes, Opens, RealTimeDoes, Grants, RecoveryDoes, SendDoes, RecoverDoes}
+use Rattle.gateway_runs.proofs.Growing.{Grows}
+use Rattle.session_messages.specs.declared.missed_message_request.MissedMessageRequest.{MissedMessageRequest}
+use Rattle.partitions.specs.PerPartition.{at, with_at}
+use Rattle.partitions.specs.declared.per_partition.PerPartition.{PerPartition}
+use Rattle.reports.specs.Tally.{is_of}
+use Rattle.reports.specs.declared.report.Entry.{Entry}
+use Rattle.sessions.specs.Downloads.{begun, recovered, handed_out, remaining}
+use Rattle.sessions.specs.Sending.{next_to_send, sent_after}
+use Rattle.sessions.specs.Sessions.{download}
+use Rattle.sessions.specs.declared.download.Download.{Download}
+use Rattle.sessions.specs.declared.download.HandedOut.{HandedOut}
+use Rattle.sessions.specs.declared.download.HandedOut.TheVariants as handed
+use Rattle.store.specs.Kept.{Kept}
+use Rattle.venue.specs.Books.{Sound}
+use Rattle.wire.specs.Messages.{Reads}
+use Rattle.wire.specs.declared.kinds.Channel.TheVariants as reader
+use Rattle.wire.specs.declared.message.Message.TheVariants as message
+
+-- ---- what the gateway hands out is heard
+
+behind_some : (ms : List (List ℕ)) (m : List ℕ) (h : Heard) → heard_in m ≡ Ok h → behind ms m ≡ ms ++ m ∷ []
+behind_some ms [] h e = absurd (let (f, g) = nothing_heard in let z : Ok h ≡ Err f = sym e ∙ g in cc)
+behind_some ms (b ∷ m) h e = refl
+
+-- the owner's report under a number is heard in its bytes
+brought : (c : ℕ) (l : List Entry) (p : Partition) (n : ℕ) → is_of c (under l n) ≡ true → EntryTold p n (under l n)
+    → Brings c l p n (entry_bytes p n (under l n))
+brought c l p n t told =
+    let h = hers_is c l n t in
+    subst (λ (o : Option Entry). EntryTold p n o → Brings c l p n (entry_bytes p n o)) (sym h.stands)
+    (λ w. record { entry = h.entry; stands = h.stands; owner = h.owner; heard = report_heard p n h.entry.report w })
+    told
+
+-- ---- what does not depend on the call
+
+module _ (c : ℕ) (s : State) (d : Desk) (x : Line) (t : Taking) (k : Keeps c s d x t) (w : State)
+    (g : Grows s.venue.kept w.venue.kept) (sound : Sound w.venue) (few : length w.venue.rows ≤ ORDERS) where
+  abbrev f : Following
+  f = d.follower
+
+  abbrev old : Kept
+  old = s.venue.kept
+
+  abbrev new : Kept
+  new = w.venue.kept
+
+  place_within : (p : Partition) → place d p ≤ length (at old p)
+  place_within p = by (k.placed p)
+    where
+      by : (place d p ≡ 0) ⊎ (is_hers c s p (place d p) ≡ true) → place d p ≤ length (at old p)
+      by (inl e) = omega (arith, e)
+      by (inr h) = there_within c (at old p) (place d p) h
+
+  placed_on : (p : Partition) → (place d p ≡ 0) ⊎ (is_hers c w p (place d p) ≡ true)
+  placed_on p = by (k.placed p)
+    where
+      by : (place d p ≡ 0) ⊎ (is_hers c s p (place d p) ≡ true) → (place d p ≡ 0) ⊎ (is_hers c w p (place d p) ≡ true)
+      by (inl e) = inl e
+      by (inr h) = inr (hers_grown c (at old p) (at new p) (place d p) (g p) h)
+
+  keeps_on : (x' : Line) → x'.up ≡ x.up → Phase x'.ready x'.up c new (session w c) f (place d) x' t → Keeps c w d x' t
+  keeps_on x' e ph = record {
+    up = e ∙ k.up;
+    quiet = k.quiet;
+    placed = placed_on;
+    known = grows c old new f.standings (place d) g place_within k.known;
+    hers = λ p n h. hers_grown c (at old p) (at new p) n (g p) (k.hers p n h);
+    sound = λ q. sound;
+    few = λ q. few;
+    phase = ph;
+  }
+
+  -- what is under way live stays
+  flowing_on : (sent' : PerPartition ℕ) (y : PerPartition ℕ) (x' : Line) → sent' ≡ (session s c).sent → x'.live
+      ≡ x.live → Flowing c old (session s c).sent (place d) x t y → Flowing c new sent' (place d) x' t y
+  flowing_on sent' y x' e l h = record {
+    within = λ p. let a = h.within p in let b = longer (at old p) (at new p) (g p) in omega (arith, a, b);
+    flows = subst (λ z. Flows c new z y x'.live) (sym e)
+        (subst (λ z. Flows c new (session s c).sent y z) (sym l)
+        (flows_grown c old new (session s c).sent y x.live g h.flows));
+    taken = h.taken;
+  }
+
+  -- so does the rest, but for the recovery channel
+  up_on : (x' : Line) → (session w c).sent ≡ (session s c).sent → x'.live ≡ x.live
+      → ((b : PerPartition ℕ) → ((p : Partition) → at b p ≤ length (at old p))
+      → Staged f.download c new (place d) b (download (session s c)) x
+      → Staged f.download c new (place d) b (download (session w c)) x')
+      → Up c old (session s c) f (place d) x t → Up c new (session w c) f (place d) x' t
+  up_on x' e l st u = record {
+    y = u.y;
+    b = u.b;
+    flowing = flowing_on (session w c).sent u.y x' e l u.flowing;
+    bases = λ p. let a = u.bases p in let b = longer (at old p) (at new p) (g p) in omega (arith, a, b);
+    sides = λ p. sided_grown c (at old p) (at new p) (at f.sides p) (at u.y p) (at u.b p) (g p) (u.flowing.within p)
+        (u.sides p);
+    staged = st u.b u.bases (staged_grown f.download c old new (place d) u.b (download (session s c)) x g u.staged);
+  }
+
+  ready_on : (x' : Line) → (session w c).sent ≡ (session s c).sent → x'.live ≡ x.live
+      → (Still (download (session s c)) x → Still (download (session w c)) x') → Ready c old (session s c) (place d) x t
+      → Ready c new (session w c) (place d) x' t
+  ready_on x' e l st r = record {
+    y = r.y;
+    flowing = flowing_on
+        (session w c).sent r.y x' e l r.flowing;
+    still = st r.still;
+  }
+
+  -- by the phase, where the line goes on
+  goes_on : (x' : Line) → x'.ready ≡ x.ready → x'.up ≡ x.up
+      → (Ready c old (session s c) (place d) x t → Ready c new (session w c) (place d) x' t)
+      → (Up c old (session s c) f (place d) x t → Up c new (session w c) f (place d) x' t)
+      → Keeps c w d x' t
+  goes_on x' er eu on_ready on_up = keeps_on x' eu (by x.ready x.up er eu k.phase)
+    where
+      by : (r u : Bool) → x'.ready ≡ r → x'.up ≡ u → Phase r u c old (session s c) f (place d) x t
+          → Phase x'.ready x'.up c new (session w c) f (place d) x' t
+      by false false er eu z = to_away c new (session w c) f (place d) x' t x'.ready x'.up er eu
+      by true false er eu z = to_ready c new (session w c) f (place d) x' t x'.ready x'.up er eu (on_ready z)
+      by false true er eu z = to_up c new (session w c) f (place d) x' t x'.ready x'.up er eu (on_up z)
+      by true true er eu z = absurd z
+
+  -- the session stays, or its channels are closed
+  pub quietly : Stays (session s c) (session w c) ⊎ Closes (session s c) (session w c) → Keeps c w d x t
+  quietly (inl (es, ed)) =
+      goes_on x refl refl
+      (ready_on x es refl (λ st. subst (λ o. Still o x) (sym ed) st))
+      (up_on x es refl (λ b bases st. subst (λ o. Staged f.download c new (place d) b o x) (sym ed) st))
+  quietly (inr (es, ed)) =
+      goes_on x refl refl
+      (ready_on x es refl (λ st. still_none st))
+      (up_on x es refl (λ b bases st. subst (λ o. Staged f.download c new (place d) b o x) (sym ed)
+      (staged_cut f.download c new (place d) b (download (session s c)) x st)))
+    where
+      still_none : Still (download (session s c)) x → Still (download (session w c)) x
+      still_none (a, r, ag, e) = (a, r, ag, ed)
+
+  -- ---- a Logon is accepted
+
+  pub logs_on : Opens old (session w c) → (b : Bool) → x.up ≡ b → (x' : Line) → cond b (Err StillUp) (Ok connected)
+      ≡ Ok x' → Keeps c w d x' t
+  logs_on o true e x' ok = ok_err StillUp x' (Err StillUp) refl ok
+  logs_on (es, ed) false e x' ok =
+      subst (λ y. Keeps c w d y t) (same_ok connected x' (Ok connected) refl ok) (keeps_on connected (sym e) ready)
+    where
+      last : (p : Partition) → at (lasts old) p ≡ length (at old p)
+      last One = refl
+      last Two = refl
+      last Three = refl
+
+      none : (p : Partition) → at (lasts old) p ≤ length (at new p)
+      none p =
+          let a = longer (at old p) (at new p) (g p) in let z : at (lasts old) p
+          ≡ length (at old p) = last p in omega (arith, a, z)
+
+      ready : Ready c new (session w c) (place d) connected t
+      ready = record {
+        y = lasts old;
+        flowing = record {
+          within = none;
+          flows = λ p. subst (λ z. Ahead c (at new p) (at (lasts old) p) (at z p)) (sym es)
+              (record { from = omega arith; within = none p; passed = λ j lt le. absurd (omega (arith, lt, le)) });
+          taken = λ p n h. let a = there_within c (at old p) n (k.hers p n h) in let z : at (lasts old) p
+              ≡ length (at old p) = last p in omega (arith, a, z);
+        };
+        still = (refl, refl, refl, ed);
+      }
+
+  pub real_time : (bytes : List ℕ) → RealTimeDoes old bytes (session s c) (session w c) → (b : Bool)
+      → bytes_eq bytes accepted ≡ b → (x' : Line) → after_logon b x ≡ Ok x' → Keeps c w d x' t
+  real_time bytes (inl (e, o)) true q x' ok = logs_on o x.up refl x' ok
+  real_time bytes (inl (e, o)) false q x' ok = absurd
+      (let z : true ≡ false = sym ((bytes_eq-Decides bytes accepted).1 e) ∙ q in cc)
+  real_time bytes (inr (ne, h)) true q x' ok = absurd (ne ((bytes_eq-Decides bytes accepted).0 q))
+  real_time bytes (inr (ne, h)) false q x' ok = subst (λ y. Keeps c w d y t) (same_ok x x' (Ok x) refl ok) (quietly h)
+
+  -- ---- the real-time channel
+
+  -- nothing was sent
+  sent_nothing : (bytes : List ℕ) → bytes ≡ [] → Keeps c w d x t
+      → Keeps c w d (record x { live = behind x.live bytes }) t
+  sent_nothing bytes e h = subst (λ z. Keeps c w d (record x { live = behind x.live z }) t) (sym e) h
+
+  sent_within : (p : Partition) → (y : PerPartition ℕ) (ms : List (List ℕ)) → Flows c old (session s c).sent y ms
+      → at (session s c).sent p ≤ length (at old p)
+  sent_within p y [] h = (h p).within
+  sent_within p y (m ∷ ms) (q, n, b, nx, h) = sent_within p (with_at y q n) ms h
+
+  -- the marks moved on, and nothing was sent
+  marks_moved : (sent' y : PerPartition ℕ) → (session w c).sent ≡ sent'
+      → ((p : Partition) → Moves c (at old p) (at (session s c).sent p) (at sent' p))
+      → Flowing c old (session s c).sent (place d) x t y → Flowing c new (session w c).sent (place d) x t y
+  marks_moved sent' y e mv h = record {
+    within = λ p. let a = h.within p in let b = longer (at old p) (at new p) (g p) in omega (arith, a, b);
+    flows = subst (λ z. Flows c new z y x.live) (sym e)
+        (flows_grown c old new sent' y x.live g (flows_on c old (session s c).sent sent' y x.live mv h.flows));
+    taken = h.taken;
+  }
+
+  -- a report was sent
+  report_sent : (sent' y : PerPartition ℕ) (q : Partition) (n : ℕ) (m : List ℕ) → (session w c).sent ≡ sent'
+      → Sent c old (session s c).sent sent' q n → Brings c (at old q) q n m
+      → Flowing c old (session s c).sent (place d) x t y
+      → Flowing c new (session w c).sent (place d) (record x { live = x.live ++ m ∷ [] }) t y
+  report_sent sent' y q n m e st b h = record {
+    within = λ p. let a = h.within p in let b' = longer (at old p) (at new p) (g p) in omega (arith, a, b');
+    flows = subst (λ z. Flows c new z y (x.live ++ m ∷ [])) (sym e)
+        (flows_grown c old new sent' y (x.live ++ m ∷ []) g
+        (flows_more c old (session s c).sent sent' y x.live q n m st b h.flows));
+    taken = h.taken;
+  }
+
+  -- by what was sent, one thing under way live more or none
+  goes_live : (ms : List (List ℕ)) → download (session w c) ≡ download (session s c)
+      → ((y : PerPartition ℕ) → Flowing c old (session s c).sent (place d) x t y
+      → Flowing c new (session w c).sent (place d) (record x { live = ms }) t y)
+      → Keeps c w d (record x { live = ms }) t
+  goes_live ms ed on = goes_on (record x { live = ms }) refl refl on_ready on_up
+    where
+      on_ready : Ready c old (session s c) (place d) x t
+          → Ready c new (session w c) (place d) (record x { live = ms }) t
+      on_ready r =
+          record { y = r.y; flowing = on r.y r.flowing; still = (let (a, b, e, o) = r.still in (a, b, e, ed ∙ o)) }
+
+      on_up : Up c old (session s c) f (place d) x t → Up c new (session w c) f (place d) (record x { live = ms }) t
+      on_up u = record {
+        y = u.y;
+        b = u.b;
+        flowing = on u.y u.flowing;
+        bases = λ p. let a = u.bases p in let b = longer (at old p) (at new p) (g p) in omega (arith, a, b);
+        sides = λ p. sided_grown c (at old p) (at new p) (at f.sides p) (at u.y p) (at u.b p) (g p)
+            (u.flowing.within p) (u.sides p);
+        staged = staged_live f.download c new (place d) u.b (download (session w c)) x ms
+            (subst (λ o. Staged f.download c new (place d) u.b o x) (sym ed)
+            (staged_grown f.download c old new (place d) u.b (download (session s c)) x g u.staged));
+      }
+
+  sends_by : (o : Option (Partition × ℕ)) (sent' : PerPartition ℕ) (bytes : List ℕ)
+      → ((y : PerPartition ℕ) → Flowing c old (session s c).sent (place d) x t y
+      → SentBy c old (session s c).sent sent' o)
+      → bytes ≡ sent_bytes old o → (session w c).sent ≡ sent' → download (session w c) ≡ download (session s c)
+      → SentTold old o
+      → Keeps c w d (record x { live = behind x.live bytes }) t
+  sends_by None sent' bytes by e es ed told =
+      subst (λ z. Keeps c w d (record x { live = behind x.live z }) t) (sym e)
+      (goes_live x.live ed (λ y h. marks_moved sent' y es (by y h) h))
+  sends_by (Some (q, n)) sent' bytes by e es ed told =
+      subst (λ z. Keeps c w d (record x { live = behind x.live z }) t) (sym e) (all (under (at old q) n) refl told)
+    where
+      all : (o : Option Entry) → under (at old q) n ≡ o → EntryTold q n o
+          → Keeps c w d (record x { live = behind x.live (entry_bytes q n (under (at old q) n)) }) t
+      all None z tl =
+          subst (λ (i : Option Entry). Keeps c w d (record x { live = behind x.live (entry_bytes q n i) }) t) (sym z)
+          (goes_live x.live ed (λ y h. absurd (none y h)))
+        where
+          none : (y : PerPartition ℕ) → Flowing c old (session s c).sent (place d) x t y → ⊥
+          none y h =
+              let a = (by y h).next.hers in let b : is_of c None
+              ≡ true = subst (λ (i : Option Entry). is_of c i ≡ true) z a in cc
+      all (Some i) z tl =
+          let m = entry_bytes q n (under (at old q) n) in
+          let hd : heard_in m ≡ Ok (Report q (held n i)) = ap
+          (λ (j : Option Entry). heard_in (entry_bytes q n j)) z ∙ report_heard q n i.report tl in
+          subst (λ ms. Keeps c w d (record x { live = ms }) t) (sym (behind_some x.live m (Report q (held n i)) hd))
+          (goes_live (x.live ++ m ∷ []) ed (λ y h. report_sent sent' y q n m es (by y h) (brings y h m hd) h))
+        where
+          brings : (y : PerPartition ℕ) → Flowing c old (session s c).sent (place d) x t y → (m : List ℕ) → heard_in m
+              ≡ Ok (Report q (held n i)) → Brings c (at old q) q n m
+          brings y h m hd = record {
+            entry = i;
+            stands = z;
+            owner = eqb-true i.owner c (subst (λ (j : Option Entry). is_of c j ≡ true) z (by y h).next.hers);
+            heard = hd;
+          }
+
+  pub sends_on : (room : ℕ) (bytes : List ℕ) → SendDoes s c room bytes (session w c) → SendTold room c s
+      → Keeps c w d (record x { live = behind x.live bytes }) t
+  sends_on room bytes (inl (e, h)) told = sent_nothing bytes e (quietly (inl h))
+  sends_on room bytes (inr (e, es, ed, fault)) told =
+      sends_by (next_to_send old c (session s c).sent) (sent_after old c (session s c).sent) bytes
+      (λ y h. sends c old (session s c).sent (λ p. sent_within p y x.live h.flows)) e es ed (told fault)
+
+  -- ---- the recovery channel
+
+  -- what is under way there and asked changes alone
+  goes_recovered : (rec ask : List (List ℕ)) → (session w c).sent ≡ (session s c).sent
+      → (Still (download (session s c)) x → Still (download (session w c)) (record x { recovered = rec; asked = ask }))
+      → ((b : PerPartition ℕ) → ((p : Partition) → at b p ≤ length (at old p))
+      → Staged f.download c new (place d) b (download (session s c)) x
+      → Staged f.download c new (place d) b (download (session w c)) (record x { recovered = rec; asked = ask }))
+      → Keeps c w d (record x { recovered = rec; asked = ask }) t
+  goes_recovered rec ask es still staged =
+      goes_on (record x { recovered = rec; asked = ask }) refl refl
+      (ready_on (record x { recovered = rec; asked = ask }) es refl still)
+      (up_on (record x { recovered = rec; asked = ask }) es refl staged)
+
+  no_asked : {X : Type 0} (m : List ℕ) (rest : List (List ℕ)) → x.asked ≡ m ∷ rest → x.asked ≡ [] → X
+  no_asked m rest e h = absurd (let z : m ∷ rest ≡ [] = sym e ∙ h in cc)
+
+  one_asked : (m n : List ℕ) (rest : List (List ℕ)) → x.asked ≡ m ∷ rest → x.asked ≡ n ∷ [] → (n ≡ m) × (rest ≡ [])
+  one_asked m n rest e h = (let z : m ∷ rest ≡ n ∷ [] = sym e ∙ h in cc, let z : m ∷ rest ≡ n ∷ [] = sym e ∙ h in cc)
+
+  -- a request that was asked gets an answer
+  module _ (reply m : List ℕ) (rest : List (List ℕ)) (front : x.asked ≡ m ∷ rest) where
+    abbrev answer_line : Line
+    answer_line = record x { recovered = x.recovered ++ reply ∷ []; asked = rest }
+
+    -- what the answer makes of a request that waits
+    abbrev pub Answers : Type 0
+    Answers =
+        (p : Partition) (b : ℕ) → b ≤ length (at old p) → Waits p (place d p) (download (session s c)) x
+        → AskedAs c (at new p) p b (place d p) (download (session w c)) answer_line
+
+    request_answered : (session w c).sent ≡ (session s c).sent → Answers → Keeps c w d answer_line t
+    request_answered es ans = goes_recovered (x.recovered ++ reply ∷ []) rest es
+        (λ st. no_asked m rest front st.0) staged
+      where
+        by : (g : Stage) (b : PerPartition ℕ) → ((p : Partition) → at b p ≤ length (at old p))
+            → Staged g c new (place d) b (download (session s c)) x
+            → Staged g c new (place d) b (download (session w c)) answer_line
+        by Idle b bases st = no_asked m rest front st.0
+        by (Asked p) b bases (ag, inl h) = (ag, ans p (at b p) (bases p) h)
+        by (Asked p) b bases (ag, inr (inl (k', o, h))) = no_asked m rest front k'
+        by (Asked p) b bases (ag, inr (inr (k', m', ms, e, h, z, le, l))) = no_asked m rest front k'
+        by (Running p) b bases (k', r, z, zk, l) = no_asked m rest front k'
+
+        staged : (b : PerPartition ℕ) → ((p : Partition) → at b p ≤ length (at old p))
+            → Staged f.download c new (place d) b (download (session s c)) x
+            → Staged f.download c new (place d) b (download (session w c)) answer_line
+        staged b bases st = by f.download b bases st
+
+    reply_alone : x.recovered ≡ [] → x.recovered ++ reply ∷ [] ≡ reply ∷ []
+    reply_alone e = ap (λ ms. ms ++ reply ∷ []) e
+
+    -- no download is granted
+    refuses : Refuses (heard_in reply) → Stays (session s c) (session w c) ⊎ Closes (session s c) (session w c)
+        → Keeps c w d answer_line t
+    refuses r h = request_answered (sent_same h)
+        (λ p b bases (z, e, back, le, ra, o). inr
+        (inl ((one_asked m (request p z) rest front e).1, none_after h o, inr (reply, reply_alone ra, r))))
+      where
+        sent_same : Stays (session s c) (session w c) ⊎ Closes (session s c) (session w c) → (session w c).sent
+            ≡ (session s c).sent
+        sent_same (inl (a, b)) = a
+        sent_same (inr (a, b)) = a
+
+        none_after : Stays (session s c) (session w c) ⊎ Closes (session s c) (session w c) → download (session s c)
+            ≡ None → download (session w c) ≡ None
+        none_after (inl (a, b)) o = b ∙ o
+        none_after (inr (a, b)) o = b
+
+    -- one is
+    partition_is : (p q : Partition) (n : ℕ) → pos n ≡ pos (partition_code p) → partition_of (pos n) ≡ Some q → q ≡ p
+    partition_is One q n e h = let z : n ≡ 1 = cc in cc
+    partition_is Two q n e h = let z : n ≡ 2 = cc in cc
+    partition_is Three q n e h = let z : n ≡ 3 = cc in cc
+
+    granted : (b' : MissedMessageRequest) (q : Partition) → Reads reader.Recovery m (message.MissedMessageRequest b')
+        → partition_of b'.partition ≡ Some q → heard_in reply ≡ Ok (Ack Successful) → (session w c).sent
+        ≡ (session s c).sent
+        → download (session w c) ≡ Some (begun q b'.last.value (length (at old q))) → Keeps c w d answer_line t
+    granted i q reads is hd es ed = request_answered es ans
+      where
+        ans : Answers
+        ans p b bases (z, e, back, le, ra, o) =
+            let same = one_asked m (request p z) rest front e in
+            let asks : IsRequest p z (message.MissedMessageRequest i) = back.read (message.MissedMessageRequest i)
+            (subst (λ bs. Reads reader.Recovery bs (message.MissedMessageRequest i)) (sym same.0) reads) in
+            let part : q ≡ p = partition_as p q (subst (λ y. partition_of y ≡ Some q) asks.0 is) in
+            inr (inr (
+              same.1,
+              reply,
+              [],
+              reply_alone ra,
+              hd,
+              z,
+              le,
+              inr (
+                begun q i.last.value (length (at old q)),
+                ed,
+                record {
+                  partition = part;
+                  last = asks.1;
+                  covers = subst (λ y. b ≤ length (at old y)) (sym part) bases;
+                  within = subst (λ y. length (at old q) ≤ length (at new y)) part (longer (at old q) (at new q) (g q));
+                },
+              ),
+            ))
+          where
+            partition_as : (p q : Partition) → partition_of (pos (partition_code p)) ≡ Some q → q ≡ p
+            partition_as One q h = cc
+            partition_as Two q h = cc
+            partition_as Three q h = cc
+
+  -- a message on the recovery channel: what it is answered
+  answers_as : (reply m : List ℕ) (o : Option (List (List ℕ))) → next_of m x.asked ≡ o
+      → ((rest : List (List ℕ)) → x.asked ≡ m ∷ rest
+      → Keeps c w d (record x { recovered = x.recovered ++ reply ∷ []; asked = rest }) t)
+      → (x' : Line) → answered reply o x ≡ Ok x' → Keeps c w d x' t
+  answers_as reply m None e on x' ok = ok_err NotAsked x' (Err NotAsked) refl ok
+  answers_as reply m (Some rest) e on x' ok =
+      subst (λ y. Keeps c w d y t) (same_ok (record x { recovered = x.recovered ++ reply ∷ []; asked = rest }) x'
+      (Ok (record x { recovered = x.recovered ++ reply ∷ []; asked = rest })) refl ok)
+      (on rest (next_is m x.asked rest e))
+
+  unanswered : (h : Stays (session s c) (session w c) ⊎ Closes (session s c) (session w c)) (r : Result Heard Fault)
+      (reply m : List ℕ) → after_recovery r reply m x ≡ Ok x → (x' : Line) → (hr : Result Heard Fault) → hr ≡ r
+      → after_recovery hr reply m x ≡ Ok x' → Keeps c w d x' t
+  unanswered h r reply m e x' hr q ok = subst (λ y. Keeps c w d y t)
+      (same_ok x x' (after_recovery r reply m x) e (subst (λ z. after_recovery z reply m x ≡ Ok x') q ok)) (quietly h)
+
+  -- it grants nothing
+  answered_no : (a : Answer) (reply m : List ℕ) → reply ≡ answer_bytes a → Grants a ≡ false
+      → Stays (session s c) (session w c) ⊎ Closes (session s c) (session w c) → (x' : Line)
+      → after_recovery (heard_in reply) reply m x ≡ Ok x' → Keeps c w d x' t
+  answered_no answer.Silent reply m e nn h x' ok =
+      let (i, q) = nothing_heard in
+      unanswered h (Err i) reply m refl x' (heard_in reply) (ap heard_in e ∙ q) ok
+  answered_no (answer.LogonReply z) reply m e nn h x' ok = by (logon_heard z)
+    where
+      by : (heard_in (answer_bytes (answer.LogonReply z)) ≡ Ok Nothing)
+          ⊎ ((i : Fault) × (heard_in (answer_bytes (answer.LogonReply z)) ≡ Err i)) → Keeps c w d x' t
+      by (inl q) = unanswered h (Ok Nothing) reply m refl x' (heard_in reply) (ap heard_in e ∙ q) ok
+      by (inr (i, q)) = unanswered h (Err i) reply m refl x' (heard_in reply) (ap heard_in e ∙ q) ok
+  answered_no (answer.Ack r) reply m e nn h x' ok =
+      let hd : heard_in reply ≡ Ok (Ack r) = ap heard_in e ∙ ack_heard r in
+      answers_as reply m (next_of m x.asked) refl
+      (λ rest front. refuses reply m rest front (subst Refuses (sym hd) (refusal r nn)) h) x'
+      (subst (λ z. after_recovery z reply m x ≡ Ok x') hd ok)
+    where
+      refusal : (r : AckResponse) → Grants (answer.Ack r) ≡ false → Refuses (Ok (Ack r))
+      refusal Successful n = absurd cc
+      refusal LimitReached n = tt
+      refusal InvalidAppId n = tt
+      refusal ServiceUnavailable n = tt
+  answered_no (answer.Reject r) reply m e nn h x' ok = by (reject_heard r)
+    where
+      by : (heard_in (answer_bytes (answer.Reject r)) ≡ Ok Reject)
+          ⊎ ((i : Fault) × (heard_in (answer_bytes (answer.Reject r)) ≡ Err i)) → Keeps c w d x' t
+      by (inl q) =
+          let hd : heard_in reply ≡ Ok Reject = ap heard_in e ∙ q in
+          answers_as reply m (next_of m x.asked) refl
+          (λ rest front. refuses reply m rest front (subst Refuses (sym hd) tt) h) x'
+          (subst (λ z. after_recovery z reply m x ≡ Ok x') hd ok)
+      by (inr (i, q)) = unanswered h (Err i) reply m refl x' (heard_in reply) (ap heard_in e ∙ q) ok
+
+  pub recovery : (reply m : List ℕ) → RecoveryDoes old m reply (session s c) (session w c) → (x' : Line)
+      → after_recovery (heard_in reply) reply m x ≡ Ok x' → Keeps c w d x' t
+  recovery reply m (inr (a, e, nn, h)) x' ok = answered_no a reply m e nn h x' ok
+  recovery reply m (inl (i, q, reads, is, e, o, es, ed)) x' ok =
+      let hd : heard_in reply ≡ Ok (Ack Successful) = ap heard_in e ∙ ack_heard Successful in
+      answers_as reply m (next_of m x.asked) refl (λ rest front. granted reply m rest front i q reads is hd es ed) x'
+      (subst (λ z. after_recovery z reply m x ≡ Ok x') hd ok)
+
+  -- ---- what a download hands out
+
+  loads_of : (p : Partition) (b z : ℕ) (q : Download) (rec : List (List ℕ)) → Loads c (at new p) p b (Some q) z rec
+      → q.partition ≡ p
+  loads_of p b z q [] (inl e) = absurd cc
+  loads_of p b z q [] (inr (i, e, r)) = let same : q ≡ i = cc in ap (λ (u : Download). u.partition) same ∙ r.partition
+  loads_of p b z q (m ∷ rec) (inl (r, h, e1, e2, v)) = absurd cc
+  loads_of p b z q (m ∷ rec) (inr (n, h, nx, l)) = loads_of p b n q rec l
+
+  -- the download that is under way goes on
+  abbrev Loading : List (List ℕ) → Type 0
+  Loading ms = (p : Partition) (b z : ℕ) (rec : List (List ℕ)) → Loads c (at new p) p b (download (session s c)) z rec
+      → Loads c (at new p) p b (download (session w c)) z (rec ++ ms)
+
+  loads_live : (rec ms : List (List ℕ)) → download (session s c) ≢ None → (session w c).sent ≡ (session s c).sent
+      → Loading ms → x.recovered ≡ rec → Keeps c w d (record x { recovered = rec ++ ms; asked = x.asked }) t
+  loads_live rec ms some es ld er = goes_recovered (rec ++ ms) x.asked es (λ st. absurd (some st.3))
+      (λ b bases st. by f.download b st)
+    where
+      by : (g : Stage) (b : PerPartition ℕ) → Staged g c new (place d) b (download (session s c)) x
+          → Staged g c new (place d) b (download (session w c)) (record x { recovered = rec ++ ms; asked = x.asked })
+      by Idle b (a, r, ag, o) = absurd (some o)
+      by (Asked p) b (ag, inl (z, e, back, le, ra, o)) = absurd (some o)
+      by (Asked p) b (ag, inr (inl (k', o, h))) = absurd (some o)
+      by (Asked p) b (ag, inr (inr (k', m', rest, e, h, z, le, l))) = (
+        ag,
+        inr
+            (inr (k', m', rest ++ ms, ap (λ y. y ++ ms) (sym er ∙ e), h, z, le, ld p (at b p) z rest l)),
+      )
+      by (Running p) b (k', r, z, zk, l) = (
+        k',
+        r,
+        z,
+        zk,
+        ld p (at b p) z rec
+            (subst (λ y. Loads c (at new p) p (at b p) (download (session s c)) z y) er l),
+      )
+
+  -- by what it hands out, from a store that stays
+  handed_on : (q : Download) (r : HandedOut × Option Download) → download (session s c) ≡ Some q
+      → HandedBy c (at new q.partition) q r → (session w c).sent ≡ (session s c).sent → download (session w c) ≡ r.1
+      → RecoveredTold new (Some r.0)
+      → Keeps c w d (record x { recovered = behind x.recovered (recovered_bytes new (Some r.0)) }) t
+  handed_on q (handed.Report p n, None) e h es ed told = absurd h
+  handed_on q (handed.Ended r, Some i) e h es ed told = absurd h
+  handed_on q (handed.Ended r, None) e h es ed told =
+      subst (λ ms. Keeps c w d (record x { recovered = ms }) t)
+      (sym (behind_some x.recovered (end_bytes r) (End r) (end_heard r)))
+      (loads_live x.recovered (end_bytes r ∷ []) none es ld refl)
+    where
+      none : download (session s c) ≡ None → ⊥
+      none z = let y : Some q ≡ None = sym e ∙ z in cc
+
+      ld : Loading (end_bytes r ∷ [])
+      ld p b z rec l =
+          let l' = subst (λ o. Loads c (at new p) p b o z rec) e l in
+          let part = loads_of p b z q rec l' in
+          subst (λ o. Loads c (at new p) p b o z (rec ++ end_bytes r ∷ [])) (sym ed)
+          (loads_end c (at new p) p b q z rec r (end_bytes r)
+          (λ y. subst (λ u. Passed c (at new u) q.last q.target) part (h y)) (end_heard r) l')
+  handed_on q (handed.Report p n, Some i) e (is, nx, fu) es ed told =
+      let b = brought c (at new p) p n (subst (λ u. is_of c (under (at new u) n) ≡ true) (sym is) nx.hers) told in
+      subst (λ ms. Keeps c w d (record x { recovered = ms }) t)
+      (sym (behind_some x.recovered m (Report p (held n b.entry)) b.heard))
+      (loads_live x.recovered (m ∷ []) none es (ld b) refl)
+    where
+      m : List ℕ
+      m = entry_bytes p n (under (at new p) n)
+
+      none : download (session s c) ≡ None → ⊥
+      none z = let y : Some q ≡ None = sym e ∙ z in cc
+
+      ld : Brings c (at new p) p n m → Loading (m ∷ [])
+      ld b u y z rec l =
+          let l' = subst (λ o. Loads c (at new u) u y o z rec) e l in
+          let part = loads_of u y z q rec l' in
+          let here : p ≡ u = is ∙ part in
+          subst (λ o. Loads c (at new u) u y o z (rec ++ m ∷ [])) (sym ed)
+          (loads_more c (at new u) u y q i z rec n m fu (subst (λ v. Next c (at new v) q.last n) part nx)
+          (subst (λ v. Brings c (at new v) v n m) here b) l')
+
+  -- nothing runs, or a download
+  hands_on : (o : Option Download) → download (session s c) ≡ o → (session w c).sent ≡ (session s c).sent
+      → download (session w c) ≡ (recovered new c o).1 → RecoveredTold new (recovered new c o).0
+      → Keeps c w d (record x { recovered = behind x.recovered (recovered_bytes new (recovered new c o).0) }) t
+  hands_on None e es ed told = quietly (inr (es, ed))
+  hands_on (Some q) e es ed told = handed_on q (handed_out q (remaining (at new q.partition) c q)) e
+      (hands c (at new q.partition) q) es ed told
+
+  pub recovers_on : (room : ℕ) (bytes : List ℕ) → new ≡ old → RecoverDoes s c room bytes (session w c)
+      → RecoverTold room c s
+      → Keeps c w d (record x { recovered = behind x.recovered bytes }) t
+  recovers_on room bytes same (inl (e, h)) told = subst (λ z. Keeps c w d (record x { recovered = behind x.recovered z }) t)
+      (sym e) (quietly (inl h))
+  recovers_on room bytes same (inr (e, es, ed, fault)) told =
+      let o = download (session s c) in
+      subst (λ z. Keeps c w d (record x { recovered = behind x.recovered z }) t)
+      (sym (e ∙ ap (λ k. recovered_bytes k (recovered k c o).0) (sym same)))
+      (hands_on o refl es (ed ∙ ap (λ k. (recovered k c o).1) (sym same))
+      (subst (λ k. RecoveredTold k (recovered k c o).0) (sym same) (told fault)))

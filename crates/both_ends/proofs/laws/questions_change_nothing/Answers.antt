@@ -1,0 +1,5 @@
+use Rattle.both_ends.proofs.Erasing.{erases}
+use Rattle.both_ends.proofs.laws.questions_change_nothing.Goals as goal
+
+pub returns : goal.returns
+returns g c = erases g.M.Matcher.Did g.Q.Question.answer

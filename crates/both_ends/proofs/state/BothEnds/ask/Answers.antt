@@ -1,0 +1,45 @@
+use Rattle.std.proofs.Common.{◌≡◌, List, [], ◌∷◌, ◌++◌, refl, subst, sym, ap, ◌∙◌}
+use Rattle.both_ends.proofs.Erasing.{one_more}
+use Rattle.both_ends.proofs.Kept.{ends, more}
+use Rattle.both_ends.specs.Both.{Ends, Ran, Steps}
+use Rattle.both_ends.specs.Runs.{Desk}
+use Rattle.both_ends.specs.declared.entry.Entry.{Entry}
+use Rattle.both_ends.specs.declared.entry.Entry.TheVariants.{Asked}
+use Rattle.both_ends.specs.declared.entry.Step.TheVariants.{Ask}
+use Rattle.both_ends.proofs.state.BothEnds.ask.Goals as goal
+use Rattle.both_ends.proofs.state.BothEnds.ask.Given.{Over}
+
+grown : (g : Over) (c : goal.After-push_reserved g) → c.push_reserved.new.self.items
+    ≡ c.self.inside.log.items ++ Asked c.args.question c.in_ok-answer.answer ∷ []
+grown g c =
+    c.push_reserved.ensures.items
+    ∙ ap (λ l. l ++ Asked c.args.question c.in_ok-answer.answer ∷ []) c.reserve.ensures.items
+
+pub invariant_of-self-2 : goal.invariant_of-self-2
+invariant_of-self-2 g c =
+    let m = g.M.Matcher.meaning in
+    let did = g.M.Matcher.Did in
+    let answer = g.Q.Question.answer in
+    let x = c.self.inside.gateway in
+    let d : Desk = record { follower = c.self.inside.follower; token = c.self.inside.token } in
+    let L : List (Entry g.row.Q.Denot g.row.A.Denot) → Type 0 = λ l. Ran m did answer (ends m did answer l x d) in
+    subst L (sym (grown g c))
+    (more m did answer _ x d (Asked c.args.question c.in_ok-answer.answer) x d c.self.invariant
+    (refl, refl, c.in_ok-answer.ensures) c.self.invariant.tied)
+
+pub returns-clause-made : goal.returns-clause-made
+returns-clause-made g c =
+    let m = g.M.Matcher.meaning in
+    let did = g.M.Matcher.Did in
+    let answer = g.Q.Question.answer in
+    let x = c.self.inside.gateway in
+    let d : Desk = record { follower = c.self.inside.follower; token = c.self.inside.token } in
+    let e : Ends g.row.M.Denot g.row.Q.Denot g.row.A.Denot = ends m did answer c.push_reserved.new.self.items x d in
+    subst (λ (b : Ends g.row.M.Denot g.row.Q.Denot g.row.A.Denot). Steps did answer (Ask c.args.question) b e)
+    c.self.view_is
+    (record {
+      entry = Asked c.args.question c.in_ok-answer.answer;
+      same = refl;
+      log = grown g c;
+      takes = (refl, refl, c.in_ok-answer.ensures);
+    })

@@ -1,0 +1,164 @@
+-- What the line of a follower's CompID allows, told by the log of a run. Assumes nothing.
+use Rattle.std.specs.Prelude.{◌≡◌, ℕ, Bool, true, false, List, [], ◌∷◌, ◌++◌, fold, take, Some, None, Ok, Err, Option, Result, ◌==◌, if◌then◌else◌}
+use Rattle.std.specs.List.{list_any}
+use Rattle.std.specs.Str.{bytes_eq}
+use Rattle.answers.specs.Bytes.{answer_bytes}
+use Rattle.answers.specs.declared.answer.Admission.TheVariants.{Accepted}
+use Rattle.answers.specs.declared.answer.Answer.TheVariants.{LogonReply}
+use Rattle.both_ends.specs.Laws.{is_full}
+use Rattle.both_ends.specs.declared.allowed.Breach.{Breach}
+use Rattle.both_ends.specs.declared.allowed.Breach.TheVariants.{StillUp, NoLogon, LiveOutOfTurn, RecoveredOutOfTurn, NotAsked}
+use Rattle.both_ends.specs.declared.call.Done.{Done}
+use Rattle.both_ends.specs.declared.call.Done.TheVariants as done
+use Rattle.follower.specs.Hearing.{heard_in}
+use Rattle.follower.specs.declared.fault.FollowerFault.{FollowerFault}
+use Rattle.follower.specs.declared.heard.Heard.{Heard}
+use Rattle.follower.specs.declared.heard.Heard.TheVariants.{Report, Ack, End, Reject, Nothing}
+use Rattle.layout.specs.declared.fault.Fault.{Fault}
+use Rattle.gateway_runs.specs.Runs.{bytes_of}
+use Rattle.gateway_runs.specs.declared.call.Done.{Done as VenueDone}
+use Rattle.gateway_runs.specs.declared.call.Done.TheVariants as venue
+
+abbrev pub Message : Type 0
+Message = List ℕ
+
+-- one line, as the calls so far left it
+pub record Line : Type 0 where
+  -- a Logon was accepted, and no up came since
+  pub ready : Bool
+  -- the follower is up
+  pub up : Bool
+  -- the reports under way to it on the real-time channel, oldest first
+  pub live : List Message
+  -- what is under way to it on the recovery channel
+  pub recovered : List Message
+  -- the reports that came of a download that has not ended: each may come again
+  pub again : List Message
+  -- the requests that it wrote, and that the gateway was not given yet
+  pub asked : List Message
+
+abbrev pub quiet : Line
+quiet = record { ready = false; up = false; live = []; recovered = []; again = []; asked = [] }
+
+-- a new connection: of the one before it nothing comes any more
+abbrev pub connected : Line
+connected = record quiet { ready = true }
+
+-- what is behind the first message, if it is this one
+abbrev pub next_of : Message → List Message → Option (List Message)
+next_of m [] = None
+next_of m (x ∷ xs) = if bytes_eq x m then Some xs else None
+
+-- ---- the gateway's calls
+
+-- an accepted Logon ends what was before, and both sides must have ended it
+abbrev pub accepted : Message
+accepted = answer_bytes (LogonReply Accepted)
+
+abbrev pub after_logon : Bool → Line → Result Line Breach
+after_logon true l = if l.up then Err StillUp else Ok connected
+after_logon false l = Ok l
+
+-- what is handed out is under way; where nothing was, nothing is
+abbrev pub behind : List Message → Message → List Message
+behind ms [] = ms
+behind ms (b ∷ bs) = ms ++ (b ∷ bs) ∷ []
+
+-- a request is one that the follower wrote, and its answer is under way
+abbrev pub answered : Message → Option (List Message) → Line → Result Line Breach
+answered reply None l = Err NotAsked
+answered reply (Some rest) l = Ok (record l { asked = rest; recovered = l.recovered ++ reply ∷ [] })
+
+-- what the recovery channel carries to the gateway: requests, told by their answers, and anything that gets no Ack and
+-- no Reject, as a Logon
+abbrev pub after_recovery : Result Heard Fault → Message → Message → Line → Result Line Breach
+after_recovery (Ok (Ack r)) reply m l = answered reply (next_of m l.asked) l
+after_recovery (Ok Reject) reply m l = answered reply (next_of m l.asked) l
+after_recovery (Ok (Report p h)) reply m l = Ok l
+after_recovery (Ok (End r)) reply m l = Ok l
+after_recovery (Ok Nothing) reply m l = Ok l
+after_recovery (Err e) reply m l = Ok l
+
+-- only what happens on the CompID's line counts
+abbrev pub after_venue : ℕ → VenueDone → Line → Result Line Breach
+after_venue c (venue.RealTime line m t r) l =
+    if line == c then after_logon (bytes_eq (bytes_of r) accepted) l else Ok l
+after_venue c (venue.Recovery line m t r) l =
+    if line == c then after_recovery (heard_in (bytes_of r)) (bytes_of r) m.items l else Ok l
+after_venue c (venue.Step t r) l = Ok l
+after_venue c (venue.CancelTrade n t r) l = Ok l
+after_venue c (venue.LineLost line t r) l = Ok l
+after_venue c (venue.Send line r) l =
+    Ok (if line == c then record l { live = behind l.live (bytes_of r) } else l)
+after_venue c (venue.SendRecovered line r) l =
+    Ok (if line == c then record l { recovered = behind l.recovered (bytes_of r) } else l)
+
+-- ---- the follower's calls
+
+abbrev pub after_up : Bool → Line → Result Line Breach
+after_up true l = Ok (record l { ready = false; up = true })
+after_up false l = Err NoLogon
+
+-- a report given live is the next under way; all else that may be given live is nothing to a follower
+abbrev pub next_live : Option (List Message) → Line → Result Line Breach
+next_live None l = Err LiveOutOfTurn
+next_live (Some rest) l = Ok (record l { live = rest })
+
+abbrev pub given_live : Message → Result Heard Fault → Line → Result Line Breach
+given_live m (Ok (Report p h)) l = next_live (next_of m l.live) l
+given_live m h l = Ok l
+
+-- a hold that is full acts as a lost line
+abbrev pub or_lost : Bool → Result Line Breach → Result Line Breach
+or_lost true (Ok l) = Ok (record l { up = false })
+or_lost true (Err b) = Err b
+or_lost false r = r
+
+-- what is given on the recovery channel is the next under way, or a report of the download that came before
+abbrev pub repeated : Bool → Line → Result Line Breach
+repeated true l = Ok l
+repeated false l = Err RecoveredOutOfTurn
+
+abbrev pub next_report : Message → Option (List Message) → Line → Result Line Breach
+next_report m (Some rest) l = Ok (record l { recovered = rest; again = m ∷ l.again })
+next_report m None l = repeated (list_any (bytes_eq m) l.again) l
+
+-- once anything else came, no report comes again
+abbrev pub next_other : Option (List Message) → Line → Result Line Breach
+next_other (Some rest) l = Ok (record l { recovered = rest; again = [] })
+next_other None l = Err RecoveredOutOfTurn
+
+abbrev pub given_recovered : Message → Result Heard Fault → Line → Result Line Breach
+given_recovered m (Ok (Report p h)) l = next_report m (next_of m l.recovered) l
+given_recovered m (Ok (Ack r)) l = next_other (next_of m l.recovered) l
+given_recovered m (Ok (End r)) l = next_other (next_of m l.recovered) l
+given_recovered m (Ok Reject) l = next_other (next_of m l.recovered) l
+given_recovered m (Ok Nothing) l = Ok l
+given_recovered m (Err e) l = Ok l
+
+abbrev pub after_ask : Result ℕ FollowerFault → Message → Line → Line
+after_ask (Ok n) buffer l = record l { asked = l.asked ++ take n buffer ∷ [] }
+after_ask (Err e) buffer l = l
+
+-- ---- any call, and any log
+
+abbrev pub after_call : ℕ → Done → Line → Result Line Breach
+after_call c (done.Venue d) l = after_venue c d l
+after_call c done.Up l = after_up l.ready l
+after_call c done.Lost l = Ok (record l { up = false })
+after_call c (done.Live m r) l = or_lost (is_full r) (given_live m.items (heard_in m.items) l)
+after_call c (done.Recovered m r) l = given_recovered m.items (heard_in m.items) l
+after_call c (done.Ask n r) l = Ok (after_ask r.answer r.after.items l)
+
+-- one call more, where all before were allowed
+abbrev pub onward : ℕ → Result Line Breach → Done → Result Line Breach
+onward c (Ok l) x = after_call c x l
+onward c (Err b) x = Err b
+
+-- the line after a log, or the first breach
+abbrev pub after_log : ℕ → List Done → Line → Result Line Breach
+after_log c xs l = fold (onward c) (Ok l) xs
+
+-- the line of a CompID allows a log
+abbrev pub Allowed : ℕ → List Done → Type 0
+Allowed c xs = (l : Line) × (after_log c xs quiet ≡ Ok l)

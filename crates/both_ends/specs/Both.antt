@@ -1,0 +1,76 @@
+-- Both ends as one value: what it shows, how it begins, and what holds of every value of it. Assumes nothing.
+use Rattle.std.specs.Prelude.{◌≡◌, ℕ, List, [], ◌∷◌, ◌++◌, Some, None, Option, map}
+use Rattle.std.specs.Borrow.{Bor}
+use Rattle.std.specs.FinMap.{len}
+use Rattle.configuration.specs.declared.instrument.Instrument.{Instrument}
+use Rattle.configuration.specs.declared.participant.Participant.{Participant}
+use Rattle.both_ends.specs.Agreement.{EndsAgree}
+use Rattle.both_ends.specs.Asking.{Answer, Goes, Takes, made, step_of}
+use Rattle.both_ends.specs.Runs.{Desk, fresh, venue_log}
+use Rattle.both_ends.specs.declared.entry.Entry.{Entry}
+use Rattle.both_ends.specs.declared.entry.Step.{Step}
+use Rattle.follower.specs.Owing.{Tied}
+use Rattle.gateway.specs.State.{State, fresh as fresh_state}
+use Rattle.gateway_runs.specs.Conservation.{Conserves}
+use Rattle.gateway_runs.specs.Runs.{Runs}
+use Rattle.matching.specs.Asked.{Asked}
+use Rattle.matching.specs.Meaning.{Meaning}
+use Rattle.venue.specs.Books.{Over, fresh as fresh_books}
+
+-- the log; the gateway, with its matcher as it is; the desk
+pub record Ends (M Q A : Type 0) : Type 0 where
+  pub log : List (Entry Q A)
+  pub gateway : Over State M
+  pub desk : Desk
+
+-- a gateway of a new day, over a matcher that holds no order
+pub record Begins {M : Type 0} (meaning : M → Meaning) (x : Over State M) : Type 0 where
+  pub participants : List Participant
+  pub instruments : List Instrument
+  pub is : x.state ≡ fresh_state participants (fresh_books instruments (meaning x.engine))
+  pub empty : len (meaning x.engine).orders ≡ 0
+
+module _ {M Q A : Type 0} (meaning : M → Meaning) (did : M → Asked → M → Type 0) (answer : Answer Q A) where
+  -- from a start the log leads to both ends as they are
+  pub record Ran (b : Ends M Q A) : Type 0 where
+    pub first : Over State M
+    pub begins : Begins meaning first
+    pub goes : Goes did answer first fresh b.log b.gateway b.desk
+    pub tied : Tied b.desk.token b.desk.follower
+
+  -- what holds of both ends, whatever they were given to do: the matcher was asked what the acts of the calls ask, in
+  -- their order, and nothing else; of every order the quantity last accepted is accounted for; and whichever line allows
+  -- the calls, the ends of that line agree
+  pub record Holds (b : Ends M Q A) : Type 0 where
+    pub first : Over State M
+    pub begins : Begins meaning first
+    pub asked : Runs did first (venue_log (made b.log)) b.gateway
+    pub conserves : Conserves first.state (venue_log (made b.log)) b.gateway.state
+    pub agrees : EndsAgree (made b.log) b.gateway.state b.desk
+
+module _ {M Q A : Type 0} (did : M → Asked → M → Type 0) (answer : Answer Q A) where
+  -- a step is taken, and kept with what came back
+  pub record Steps (step : Step Q) (b e : Ends M Q A) : Type 0 where
+    pub entry : Entry Q A
+    pub same : step_of entry ≡ step
+    pub log : e.log ≡ b.log ++ entry ∷ []
+    pub takes : Takes did answer b.gateway b.desk entry e.gateway e.desk
+
+  -- steps are taken in turn, each kept
+  pub record StepsAll (steps : List (Step Q)) (b e : Ends M Q A) : Type 0 where
+    pub entries : List (Entry Q A)
+    pub same : map step_of entries ≡ steps
+    pub log : e.log ≡ b.log ++ entries
+    pub goes : Goes did answer b.gateway b.desk entries e.gateway e.desk
+
+  -- some of the steps, from the first on
+  pub record StepsFront (steps : List (Step Q)) (b e : Ends M Q A) : Type 0 where
+    pub front : List (Step Q)
+    pub rest : List (Step Q)
+    pub is : steps ≡ front ++ rest
+    pub taken : StepsAll front b e
+
+-- the last of a log
+abbrev pub IsLast : {X : Type 0} → List X → Option (Bor X) → Type 0
+IsLast xs None = xs ≡ []
+IsLast {X} xs (Some x) = (before : List X) × (xs ≡ before ++ x.now ∷ [])

@@ -1,0 +1,21 @@
+-- What a program answers that decides whether the line allows a log. Assumes nothing.
+use Rattle.std.specs.Prelude.{ℕ, Ok, Err, Result}
+use Rattle.both_ends.specs.Allowed.{Line, after_call}
+use Rattle.both_ends.specs.declared.allowed.Breach.{Breach}
+use Rattle.both_ends.specs.declared.entry.Entry.{Entry}
+use Rattle.both_ends.specs.declared.entry.Entry.TheVariants.{Made, Asked}
+
+-- the line after a call that was allowed, or the breach
+abbrev pub onto : Result (Unit {0}) Breach → Line → Result Line Breach
+onto (Ok u) l = Ok l
+onto (Err b) l = Err b
+
+-- the line after an entry of a log: a question leaves it as it is
+abbrev pub after_entry : {Q A : Type 0} → ℕ → Entry Q A → Line → Result Line Breach
+after_entry c (Made x) l = after_call c x l
+after_entry c (Asked q a) l = Ok l
+
+-- whether a log was allowed, or the breach
+abbrev pub verdict : Result Line Breach → Result (Unit {0}) Breach
+verdict (Ok l) = Ok tt
+verdict (Err b) = Err b

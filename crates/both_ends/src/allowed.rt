@@ -1,0 +1,69 @@
+// What the line of a follower's CompID allows.
+ghost use Rattle.std.specs.Prelude.{◌≡◌, IfOk};
+ghost use Rattle.both_ends.specs.Allowed.{after_log, quiet};
+ghost use Rattle.both_ends.specs.Breaches.{breach_text};
+ghost use Rattle.both_ends.specs.Asking.{made};
+ghost use Rattle.both_ends.specs.Deciding.{after_entry, onto, verdict};
+
+use crate::entry::Entry;
+use crate::watch::Watch;
+use std::alloc::{AllocError, Global};
+
+/// Why the line does not allow a call: an accepted Logon while the follower is up, an up with no new accepted Logon, a
+/// report given live that is not the next under way, something given on the recovery channel that is neither the next
+/// under way nor a report of the download that came before, and a request that the follower did not write.
+#[derive(Clone, Copy, Debug, PartialEq)]
+pub enum Breach {
+    StillUp,
+    NoLogon,
+    LiveOutOfTurn,
+    RecoveredOutOfTurn,
+    NotAsked,
+}
+
+impl Breach {
+    /// What happened.
+    pub fn text(self) -> &'static str
+        ensures { result.now ≡ breach_text self }
+    {
+        match self {
+            Breach::StillUp => "a Logon was accepted while the follower was up",
+            Breach::NoLogon => "the follower was up with no new Logon accepted",
+            Breach::LiveOutOfTurn => "a report came live that was not the next under way",
+            Breach::RecoveredOutOfTurn =>
+                "a message of the recovery channel came that was not the next under way",
+            Breach::NotAsked =>
+                "the gateway was given a request that the follower did not write, or one twice",
+        }
+    }
+}
+
+fn after_entry<'a, Q, A>(
+    watch: &mut Watch<'a>,
+    line: usize,
+    entry: &'a Entry<Q, A>,
+) -> Result<Result<(), Breach>, AllocError>
+    ensures { IfOk result (λ r. after_entry line entry.now watch.old ≡ onto r watch.new) }
+{
+    match entry {
+        Entry::Made(done) => watch.after_call(line, done),
+        Entry::Asked(_, _) => Ok(Ok(())),
+    }
+}
+
+/// Whether the line of a CompID allows the calls of a log, or the first breach. Want of memory is its one error.
+pub fn line_allows<Q, A>(
+    alloc: Global,
+    line: usize,
+    log: &[Entry<Q, A>],
+) -> Result<Result<(), Breach>, AllocError>
+    ensures { IfOk result (λ r. r ≡ verdict (after_log line (made log.now) quiet)) }
+{
+    let mut watch = Watch::quiet(alloc);
+    for entry in log {
+        if let Err(breach) = after_entry(&mut watch, line, entry)? {
+            return Ok(Err(breach));
+        }
+    }
+    Ok(Ok(()))
+}

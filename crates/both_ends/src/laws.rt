@@ -1,0 +1,30 @@
+// What a desk asks of its follower, proved of the definitions that the calls' contracts cite.
+ghost use Rattle.both_ends.specs.Asking.{Erases};
+ghost use Rattle.both_ends.specs.Laws.{StaysBehind, StaysLevel};
+ghost use Rattle.both_ends.specs.Agreement.{DownloadsLevel};
+
+use crate::question::Question;
+use matching::matcher::Matcher;
+
+/// Leaving the questions out of a list of steps changes nothing else: no other answer, no byte that is handed out, and
+/// neither end.
+pub fn questions_change_nothing<M: Matcher, Q: Question<A>, A: Drop>()
+    ensures { Erases M.Did Q.answer }
+{}
+
+/// A partition goes from level to behind by up, by lost and by a full hold alone.
+#[tactic(auto, using(crate::proofs::Levels::stays_level))]
+pub fn levels_stay()
+    ensures { StaysLevel }
+{}
+
+/// A follower that is never given anything stays behind, whatever else happens at both ends.
+#[tactic(auto, using(crate::proofs::Levels::stays_behind))]
+pub fn nothing_given_is_behind()
+    ensures { StaysBehind }
+{}
+
+/// After any log that the line allows: a partition is level once its download has come to the end that says complete.
+pub fn downloads_make_level()
+    ensures { DownloadsLevel }
+{}

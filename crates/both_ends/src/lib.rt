@@ -1,0 +1,13 @@
+// Both ends: a gateway and a desk's follower, and any list of the twelve calls on them.
+#![tactic(auto)]
+
+pub mod allowed;
+pub mod call;
+pub mod entry;
+pub mod laws;
+mod making;
+pub mod question;
+mod replies;
+pub mod state;
+mod under_way;
+mod watch;

@@ -1,0 +1,247 @@
+// One line, watched call by call.
+ghost use Rattle.std.specs.Prelude.{◌≡◌, IfOk};
+ghost use Rattle.follower.specs.Hearing.{heard_in};
+
+use crate::allowed::Breach;
+use crate::call::{Asked, Done};
+use crate::replies::{bytes, is_accepted, is_full};
+use crate::under_way::UnderWay;
+use follower::heard::Heard;
+use follower::reading::hear;
+use gateway_runs::call::Done as VenueDone;
+use std::alloc::{AllocError, Global};
+use std::marker::Model;
+
+/// One line, as the calls so far left it.
+#[derive(Drop)]
+pub(crate) struct Watch<'a> {
+    // a Logon was accepted, and no up came since
+    ready: bool,
+    up: bool,
+    // the reports under way on the real-time channel
+    live: UnderWay<'a>,
+    // what is under way on the recovery channel
+    recovered: UnderWay<'a>,
+    // the reports of a download that has not ended
+    again: UnderWay<'a>,
+    // the requests that the gateway was not given yet
+    asked: UnderWay<'a>,
+}
+
+impl<'a> Model for Watch<'a> {
+    ghost use Rattle.both_ends.specs.Allowed.{Line};
+
+    ghost Value = { Line };
+
+    ghost view = { λ w. record {
+      ready = w.ready;
+      up = w.up;
+      live = w.live;
+      recovered = w.recovered;
+      again = w.again;
+      asked = w.asked;
+    } };
+}
+
+impl<'a> Watch<'a> {
+    ghost use Rattle.both_ends.specs.Allowed.{quiet, answered, next_of, after_logon, after_recovery, after_venue, after_up, given_live, or_lost, given_recovered, next_report, next_other, after_ask, after_call};
+    ghost use Rattle.both_ends.specs.Deciding.{onto};
+
+    /// A line on which nothing was said.
+    pub(crate) fn quiet(alloc: Global) -> Watch<'a>
+        ensures { result ≡ quiet }
+    {
+        Watch {
+            ready: false,
+            up: false,
+            live: UnderWay::new(alloc),
+            recovered: UnderWay::new(alloc),
+            again: UnderWay::new(alloc),
+            asked: UnderWay::new(alloc),
+        }
+    }
+
+    // An accepted Logon begins a new connection.
+    fn after_logon(&mut self, is_accepted: bool) -> Result<(), Breach>
+        ensures { after_logon is_accepted self.old ≡ onto result self.new }
+    {
+        if !is_accepted {
+            return Ok(());
+        }
+        if self.up {
+            return Err(Breach::StillUp);
+        }
+        self.ready = true;
+        self.live.clear();
+        self.recovered.clear();
+        self.again.clear();
+        self.asked.clear();
+        Ok(())
+    }
+
+    // A request that the gateway was given is one that the follower wrote, and its answer is under way.
+    fn answered(
+        &mut self,
+        request: &[u8],
+        reply: &'a [u8],
+    ) -> Result<Result<(), Breach>, AllocError>
+        ensures { IfOk result (λ r. answered reply.now (next_of request.now self.old.asked) self.old ≡ onto r self.new) }
+    {
+        if !self.asked.take(request) {
+            return Ok(Err(Breach::NotAsked));
+        }
+        self.recovered.push(reply)?;
+        Ok(Ok(()))
+    }
+
+    fn after_recovery(
+        &mut self,
+        request: &[u8],
+        reply: &'a [u8],
+    ) -> Result<Result<(), Breach>, AllocError>
+        ensures { IfOk result (λ r. after_recovery (heard_in reply.now) reply.now request.now self.old
+            ≡ onto r self.new) }
+    {
+        match hear(reply) {
+            Ok(Heard::Ack(_) | Heard::Reject) => self.answered(request, reply),
+            Ok(Heard::Report(..) | Heard::End(_) | Heard::Nothing) | Err(_) => Ok(Ok(())),
+        }
+    }
+
+    fn after_venue(
+        &mut self,
+        line: usize,
+        done: &'a VenueDone,
+    ) -> Result<Result<(), Breach>, AllocError>
+        ensures { IfOk result (λ r. after_venue line done.now self.old ≡ onto r self.new) }
+    {
+        match done {
+            VenueDone::RealTime(at, _, _, reply) => {
+                if *at == line {
+                    return Ok(self.after_logon(is_accepted(bytes(reply))));
+                }
+            }
+            VenueDone::Recovery(at, request, _, reply) => {
+                if *at == line {
+                    return self.after_recovery(request, bytes(reply));
+                }
+            }
+            VenueDone::Send(at, reply) => {
+                if *at == line {
+                    self.live.hand_out(bytes(reply))?;
+                }
+            }
+            VenueDone::SendRecovered(at, reply) => {
+                if *at == line {
+                    self.recovered.hand_out(bytes(reply))?;
+                }
+            }
+            VenueDone::Step(..) | VenueDone::CancelTrade(..) | VenueDone::LineLost(..) => {}
+        }
+        Ok(Ok(()))
+    }
+
+    fn after_up(&mut self) -> Result<(), Breach>
+        ensures { after_up self.old.ready self.old ≡ onto result self.new }
+    {
+        if !self.ready {
+            return Err(Breach::NoLogon);
+        }
+        self.ready = false;
+        self.up = true;
+        Ok(())
+    }
+
+    // A report that is given live is the next under way.
+    fn given_live(&mut self, message: &[u8]) -> Result<(), Breach>
+        ensures { given_live message.now (heard_in message.now) self.old ≡ onto result self.new }
+    {
+        if let Ok(Heard::Report(..)) = hear(message) {
+            if !self.live.take(message) {
+                return Err(Breach::LiveOutOfTurn);
+            }
+        }
+        Ok(())
+    }
+
+    // What is given live; a hold that is full acts as a lost line.
+    fn after_live(&mut self, message: &[u8], is_full: bool) -> Result<(), Breach>
+        ensures { or_lost is_full (given_live message.now (heard_in message.now) self.old) ≡ onto result self.new }
+    {
+        self.given_live(message)?;
+        if is_full {
+            self.up = false;
+        }
+        Ok(())
+    }
+
+    // A report on the recovery channel is the next under way, or one of the download that came before.
+    fn next_report(&mut self, message: &'a [u8]) -> Result<Result<(), Breach>, AllocError>
+        ensures { IfOk result (λ r. next_report message.now (next_of message.now self.old.recovered) self.old
+            ≡ onto r self.new) }
+    {
+        if self.recovered.take(message) {
+            self.again.push_front(message)?;
+            return Ok(Ok(()));
+        }
+        if !self.again.contains(message) {
+            return Ok(Err(Breach::RecoveredOutOfTurn));
+        }
+        Ok(Ok(()))
+    }
+
+    // Once anything else came, no report comes again.
+    fn next_other(&mut self, message: &[u8]) -> Result<(), Breach>
+        ensures { next_other (next_of message.now self.old.recovered) self.old ≡ onto result self.new }
+    {
+        if !self.recovered.take(message) {
+            return Err(Breach::RecoveredOutOfTurn);
+        }
+        self.again.clear();
+        Ok(())
+    }
+
+    fn given_recovered(&mut self, message: &'a [u8]) -> Result<Result<(), Breach>, AllocError>
+        ensures { IfOk result (λ r. given_recovered message.now (heard_in message.now) self.old ≡ onto r self.new) }
+    {
+        match hear(message) {
+            Ok(Heard::Report(..)) => self.next_report(message),
+            Ok(Heard::Ack(_) | Heard::End(_) | Heard::Reject) => Ok(self.next_other(message)),
+            Ok(Heard::Nothing) | Err(_) => Ok(Ok(())),
+        }
+    }
+
+    fn after_ask(&mut self, asked: &'a Asked) -> Result<(), AllocError>
+        ensures { IfOk result (λ _. self.new ≡ after_ask asked.now.answer asked.now.after.items self.old) }
+    {
+        if let Ok(count) = asked.answer {
+            self.asked
+                .push(&asked.after[..count.min(asked.after.len())])?;
+        }
+        Ok(())
+    }
+
+    /// One call more, if the line allows it; its second error is want of memory.
+    pub(crate) fn after_call(
+        &mut self,
+        line: usize,
+        done: &'a Done,
+    ) -> Result<Result<(), Breach>, AllocError>
+        ensures { IfOk result (λ r. after_call line done.now self.old ≡ onto r self.new) }
+    {
+        match done {
+            Done::Venue(done) => self.after_venue(line, done),
+            Done::Up => Ok(self.after_up()),
+            Done::Lost => {
+                self.up = false;
+                Ok(Ok(()))
+            }
+            Done::Live(message, answer) => Ok(self.after_live(message, is_full(answer))),
+            Done::Recovered(message, _) => self.given_recovered(message),
+            Done::Ask(_, asked) => {
+                self.after_ask(asked)?;
+                Ok(Ok(()))
+            }
+        }
+    }
+}

@@ -1,6 +1,0 @@
-use Rattle.ends.specs.Both.{StepsAll}
-use Rattle.ends.proofs.both_ends.BothEnds.run.Given as goal
-
--- the steps so far were taken
-abbrev pub invariant-loop-step : goal.invariant-loop-step
-invariant-loop-step g l = StepsAll g.M.Matcher.Did g.Q.Question.answer l.yielded l.fn.self l.self

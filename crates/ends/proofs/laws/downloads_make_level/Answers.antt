@@ -1,5 +1,0 @@
-use Rattle.ends.proofs.Levelling.{downloads_level}
-use Rattle.ends.proofs.laws.downloads_make_level.Goals as goal
-
-pub returns : goal.returns
-returns c = downloads_level

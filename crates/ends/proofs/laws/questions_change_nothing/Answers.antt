@@ -1,5 +1,0 @@
-use Rattle.ends.proofs.Erasing.{erases}
-use Rattle.ends.proofs.laws.questions_change_nothing.Goals as goal
-
-pub returns : goal.returns
-returns g c = erases g.M.Matcher.Did g.Q.Question.answer

@@ -1,5 +1,0 @@
-// The line between a gateway and its desks: any list of calls, each made in turn, with what each answered.
-#![tactic(auto)]
-
-pub mod laws;
-pub mod run;
