@@ -1,9 +1,8 @@
 -- Calls with questions among them, and the calls alone. Assumes nothing.
-use Rattle.std.proofs.Common.{◌≡◌, List, [], ◌∷◌, ◌++◌, map, refl, sym, ap, ◌∙◌, subst}
-use Rattle.both_ends.specs.declared.call.Call.{Call}
+use Rattle.std.proofs.Common.{◌≡◌, List, [], ◌∷◌, ◌++◌, map, refl, ap, ◌∙◌, subst}
 use Rattle.both_ends.specs.declared.call.Done.{Done}
 use Rattle.both_ends.specs.declared.call.Done.TheVariants as done
-use Rattle.both_ends.specs.Asking.{Answer, Goes, Moves, Takes, Erases, made, calls, step_of}
+use Rattle.both_ends.specs.Asking.{Answer, Goes, Takes, Erases, made, calls, step_of}
 use Rattle.both_ends.specs.Runs.{Desk, Runs, Sided, call_of, venue_log}
 use Rattle.both_ends.specs.declared.entry.Entry.{Entry}
 use Rattle.both_ends.specs.declared.entry.Entry.TheVariants.{Made, Asked as Answered}

@@ -10,7 +10,7 @@ use Rattle.both_ends.proofs.Given.{same_bytes, Stands, Lives, lives, Recovers, a
 use Rattle.both_ends.proofs.Keeping.{Keeps, Phase, Ready, Up, Taking, keeps_taken}
 use Rattle.both_ends.proofs.Living.{place_in, Only, or_one, flowing_popped, tallied_as}
 use Rattle.both_ends.specs.Agreement.{is_hers, is_unfit, place, Taken, HeardAs}
-use Rattle.both_ends.specs.Allowed.{Line, next_of, next_live, given_live, or_lost, repeated, next_report, next_other, given_recovered}
+use Rattle.both_ends.specs.Allowed.{Line, next_of, out_of_turn, next_live, given_live, or_lost, repeated, next_report, next_other, given_recovered}
 use Rattle.both_ends.specs.Laws.{is_full}
 use Rattle.both_ends.specs.Runs.{Desk}
 use Rattle.both_ends.specs.Tallied.{Tallied}
@@ -299,6 +299,28 @@ module _ (c : ℕ) (s : State) (d : Desk) (x : Line) (t : Taking) (sound : Sound
                   });
             }
 
+  -- what is not the next under way: up, the line does not bring it
+  not_next : {X : Type 0} (b : Breach) (l : Line) → f.up ≡ true → out_of_turn b x ≡ Ok l → X
+  not_next b l up ok = by x.up (k.up ∙ up) ok
+    where
+      by : {X : Type 0} (u : Bool) → u ≡ true → cond u (Err b) (Ok x) ≡ Ok l → X
+      by true e g = ok_err b l (Err b) refl g
+      by false e g = absurd cc
+
+  -- not up, it changes nothing
+  as_it_was : (b : Breach) (l : Line) → f.up ≡ false → out_of_turn b x ≡ Ok l → x ≡ l
+  as_it_was b l dn ok = by x.up (k.up ∙ dn) ok
+    where
+      by : (u : Bool) → u ≡ false → cond u (Err b) (Ok x) ≡ Ok l → x ≡ l
+      by false e g = same_ok x l (Ok x) refl g
+      by true e g = absurd cc
+
+  -- a hold that is full breaks nothing
+  still_ok : (z : Bool) (r : Went) (l : Line) → or_lost z r ≡ Ok l → (y : Line) × (r ≡ Ok y)
+  still_ok z (Ok y) l ok = (y, refl)
+  still_ok true (Err b) l ok = ok_err b l (Err b) refl ok
+  still_ok false (Err b) l ok = ok_err b l (Err b) refl ok
+
   -- any message that is given live
   full_not : (b : Bool) (a : Step Live) → is_full (cond b a (refused fault.NotUp f)).answer ≡ true → b ≡ true
   full_not true a e = refl
@@ -310,15 +332,15 @@ module _ (c : ℕ) (s : State) (d : Desk) (x : Line) (t : Taking) (sound : Sound
       → Goes c s (cond b (lived f (Report p h)) (refused fault.NotUp f)) x'
       (or_one c s.venue.kept (session s c) t (took (cond b (lived f (Report p h)) (refused fault.NotUp f))
       (Ok (Report p h))))
-  report_live m p h heard None e x' b q ok = by
-      (is_full (cond b (lived f (Report p h)) (refused fault.NotUp f)).answer) ok
-    where
-      by : (z : Bool) → or_lost z (Err LiveOutOfTurn) ≡ Ok x'
-          → Goes c s (cond b (lived f (Report p h)) (refused fault.NotUp f)) x'
-          (or_one c s.venue.kept (session s c) t (took (cond b (lived f (Report p h)) (refused fault.NotUp f))
-          (Ok (Report p h))))
-      by true g = ok_err LiveOutOfTurn x' (Err LiveOutOfTurn) refl g
-      by false g = ok_err LiveOutOfTurn x' (Err LiveOutOfTurn) refl g
+  report_live m p h heard None e x' true q ok =
+      let (y, g) = still_ok (is_full (lived f (Report p h)).answer) (out_of_turn LiveOutOfTurn x) x' ok in
+      not_next LiveOutOfTurn y q g
+  report_live m p h heard None e x' false q ok =
+      subst (λ y. Goes c s (refused {A = Live} fault.NotUp f) y
+      (or_one c s.venue.kept (session s c) t (took (refused {A = Live} fault.NotUp f) (Ok (Report p h)))))
+      (as_it_was LiveOutOfTurn x' q ok)
+      (nothing (refused {A = Live} fault.NotUp f) (took (refused {A = Live} fault.NotUp f) (Ok (Report p h))) refl refl
+      (λ i n z. z))
   report_live m p h heard (Some rest) e x' true q ok = is_up m p h heard rest (next_is m x.live rest e) q x' ok
   report_live m p h heard (Some rest) e x' false q ok =
       subst (λ y. Goes c s (refused {A = Live} fault.NotUp f) y
@@ -450,6 +472,13 @@ module _ (c : ℕ) (s : State) (d : Desk) (x : Line) (t : Taking) (sound : Sound
           (or_one c s.venue.kept (session s c) t none) y.ready y.up er eu (ready z)
       by r true e er eu z = absurd cc
 
+  off_same : (h : Heard) (l : Line) → f.up ≡ false → x ≡ l
+      → Goes c s (step_on h) l (or_one c s.venue.kept (session s c) t (took (step_on h) (Ok h)))
+  off_same h l dn e =
+      subst (λ z. Goes c s (step_on h) z (or_one c s.venue.kept (session s c) t (took (step_on h) (Ok h)))) e
+      (subst (λ a. Goes c s a x (or_one c s.venue.kept (session s c) t (took a (Ok h)))) (sym (is_off h dn))
+      (off_still x h dn refl refl (λ z. refl)))
+
   taken_none : {A : Type 0} (r : Result A FollowerFault) → Taken r ⊥ → ⊥
   taken_none (Ok a) h = h
   taken_none (Err e) h = h
@@ -463,7 +492,8 @@ module _ (c : ℕ) (s : State) (d : Desk) (x : Line) (t : Taking) (sound : Sound
       → (o : Option (List (List ℕ))) → next_of m x.recovered ≡ o → (x' : Line) → next_other o x ≡ Ok x' → (b : Bool)
       → f.up ≡ b
       → Goes c s (step_on h) x' (or_one c s.venue.kept (session s c) t (took (step_on h) (Ok h)))
-  other_came m h tells on None e x' ok b q = ok_err RecoveredOutOfTurn x' (Err RecoveredOutOfTurn) refl ok
+  other_came m h tells on None e x' ok true q = not_next RecoveredOutOfTurn x' q ok
+  other_came m h tells on None e x' ok false q = off_same h x' q (as_it_was RecoveredOutOfTurn x' q ok)
   other_came m h tells on (Some rest) e x' ok true q =
       subst (λ y. Goes c s (step_on h) y (or_one c s.venue.kept (session s c) t (took (step_on h) (Ok h))))
       (same_ok (record x { recovered = rest; again = [] }) x' (Ok (record x { recovered = rest; again = [] })) refl ok)
@@ -536,13 +566,12 @@ module _ (c : ℕ) (s : State) (d : Desk) (x : Line) (t : Taking) (sound : Sound
         (subst (λ a. Goes c s a x (or_one c s.venue.kept (session s c) t (took a (Ok told)))) (sym (is_on told q))
         (gone_on (recovering f told) (took (recovering f told) (Ok told)) q refl refl r.0 (quiet_on told q)
         (hers_told (recovering f told) r.1)))
-    report_came None e true i x' false q ok =
-        subst (λ z. Goes c s (step_on told) z (or_one c s.venue.kept (session s c) t (took (step_on told) (Ok told))))
-        (same_ok x x' (repeated true x) refl (subst (λ z. repeated z x ≡ Ok x') i ok))
-        (subst (λ a. Goes c s a x (or_one c s.venue.kept (session s c) t (took a (Ok told)))) (sym (is_off told q))
-        (off_still x told q refl refl (λ z. refl)))
-    report_came None e false i x' b q ok = ok_err RecoveredOutOfTurn x' (repeated false x) refl
-        (subst (λ z. repeated z x ≡ Ok x') i ok)
+    report_came None e false i x' true q ok = not_next RecoveredOutOfTurn x' q (subst (λ z. repeated z x ≡ Ok x') i ok)
+    report_came None e w i x' false q ok = off_same told x' q (by w (subst (λ z. repeated z x ≡ Ok x') i ok))
+      where
+        by : (z : Bool) → repeated z x ≡ Ok x' → x ≡ x'
+        by true g = same_ok x x' (repeated true x) refl g
+        by false g = as_it_was RecoveredOutOfTurn x' q g
 
   unheard_recovered : (h : Heard) → recovering f h ≡ answered recovered.Nothing f
       → ((p : Partition) (n : ℕ) → HeardAs p n (Ok h) ≡ ⊥) → (b : Bool) → f.up ≡ b

@@ -1,10 +1,10 @@
 -- What both ends keep as steps are taken. Assumes nothing.
 use Rattle.std.proofs.lemmas.Bool.{and_parts, eqb-true}
-use Rattle.std.proofs.Common.{◌≡◌, ℕ, true, eqb, List, [], ◌∷◌, ◌++◌, map, append_assoc, append-nil, refl, sym, ap, ◌∙◌, subst}
+use Rattle.std.proofs.Common.{◌≡◌, ℕ, true, eqb, List, [], ◌∷◌, ◌++◌, append_assoc, append-nil, refl, sym, ap, ◌∙◌, subst}
 use Rattle.std.proofs.lemmas.List.{map_push}
 use Rattle.both_ends.proofs.Agreeing.{agrees}
 use Rattle.both_ends.proofs.Erasing.{asked_of, one_more, run_of}
-use Rattle.both_ends.specs.Asking.{Answer, Goes, Takes, made, step_of}
+use Rattle.both_ends.specs.Asking.{Answer, Takes, made, step_of}
 use Rattle.both_ends.specs.Both.{Ends, Begins, Ran, Holds, Steps, StepsAll}
 use Rattle.both_ends.specs.Runs.{Desk, Runs, fresh, venue_log}
 use Rattle.both_ends.specs.declared.entry.Entry.{Entry}

@@ -6,9 +6,9 @@ use Rattle.codes.specs.declared.session.ReportResponse.TheVariants.{Complete}
 use Rattle.both_ends.proofs.Agreeing.{log_keeps, begun}
 use Rattle.both_ends.proofs.Follows.{Went, given_recovered_keeps}
 use Rattle.both_ends.proofs.Keeping.{Keeps}
-use Rattle.both_ends.specs.Agreement.{DownloadsLevel, IsComplete, Took, is_unfit}
+use Rattle.both_ends.specs.Agreement.{DownloadsLevel, Took, is_unfit}
 use Rattle.both_ends.specs.Allowed.{Line, quiet, after_call, after_log, onward}
-use Rattle.both_ends.specs.Laws.{state_of}
+use Rattle.both_ends.specs.Laws.{IsComplete, state_of}
 use Rattle.both_ends.specs.Runs.{Desk, Does}
 use Rattle.both_ends.specs.declared.call.Done.{Done}
 use Rattle.both_ends.specs.declared.call.Done.TheVariants as done

@@ -1,7 +1,7 @@
 -- When a partition is level, and when behind. Assumes nothing.
 use Rattle.std.specs.Prelude.{nat_le, nat_lt}
 use Rattle.std.specs.List.{list_any}
-use Rattle.std.proofs.Common.{◌≡◌, ℕ, Bool, true, false, cond, List, [], ◌∷◌, length, Ok, Err, Result, refl, sym, ap, ◌∙◌, subst}
+use Rattle.std.proofs.Common.{◌≡◌, ◌⊎◌, inl, inr, ℕ, Bool, true, false, cond, List, [], ◌∷◌, ◌++◌, length, Ok, Err, Result, refl, sym, ap, ◌∙◌}
 use Rattle.std.proofs.lemmas.Bool.{or_parts}
 use Rattle.codes.specs.declared.session.AckResponse.{AckResponse}
 use Rattle.codes.specs.declared.session.AckResponse.TheVariants.{Successful, LimitReached, InvalidAppId, ServiceUnavailable}
@@ -10,14 +10,16 @@ use Rattle.codes.specs.declared.session.Partition.TheVariants.{One, Two, Three}
 use Rattle.codes.specs.declared.session.ReportResponse.{ReportResponse}
 use Rattle.codes.specs.declared.session.ReportResponse.TheVariants as ending
 use Rattle.codes.specs.Session.{same_partition}
-use Rattle.both_ends.specs.Laws.{StaysLevel, StaysBehind, state_of, is_full, gives}
-use Rattle.both_ends.specs.Runs.{Desk, Does, Runs, fresh}
+use Rattle.both_ends.specs.Laws.{Completes, IsComplete, LevelByDownload, StaysLevel, StaysBehind, state_of, is_full, gives}
+use Rattle.both_ends.specs.Runs.{Desk, Does, Runs, fresh, moved}
 use Rattle.both_ends.specs.declared.call.Done.{Done}
 use Rattle.both_ends.specs.declared.call.Done.TheVariants as done
-use Rattle.follower.specs.Asking.{asks_of, asking}
+use Rattle.follower.specs.Asking.{asks, asks_of, asking}
 use Rattle.follower.specs.Folding.{Reached, reached, caught_up}
 use Rattle.follower.specs.Following.{Following, Step, turned, answered, folded, folded_to, held, overrun, live_by, lived, acked, acked_of, recovered_of, reported, levelled, ended, ended_of, rejected, recovering, live_step, recovered_step, refused}
+use Rattle.follower.specs.Hearing.{heard_in}
 use Rattle.follower.specs.Numbers.{number_of}
+use Rattle.follower.specs.declared.answer.Live.{Live}
 use Rattle.follower.specs.declared.answer.Live.TheVariants as live
 use Rattle.follower.specs.declared.answer.Recovered.{Recovered}
 use Rattle.follower.specs.declared.answer.Recovered.TheVariants as recovered
@@ -35,124 +37,150 @@ use Rattle.follower.specs.declared.stage.Stage.{Stage}
 use Rattle.follower.specs.declared.stage.Stage.TheVariants.{Idle, Asked, Running}
 use Rattle.gateway.specs.State.{State}
 use Rattle.layout.specs.declared.fault.Fault.{Fault}
-use Rattle.partitions.proofs.Written.{written}
+use Rattle.partitions.proofs.Written.{or_as_it_was, written}
 use Rattle.partitions.specs.PerPartition.{at}
 use Rattle.partitions.specs.declared.per_partition.PerPartition.{PerPartition}
 use Rattle.reports.specs.Fold.{Knowledge}
 use Rattle.reports.specs.declared.standings.FoldRefusal.{FoldRefusal}
 
-abbrev IsLevel : Side → Type 0
-IsLevel s = s.state ≡ Level
+abbrev state_in : Following → Partition → Standing
+state_in f p = (at f.sides p).state
 
-abbrev LevelAt : Following → Partition → Type 0
-LevelAt f p = IsLevel (at f.sides p)
+-- a partition is level or behind as it was
+abbrev Same : Partition → Following → Following → Type 0
+Same p f g = state_in g p ≡ state_in f p
 
 module _ {A : Type 0} (p : Partition) where
-  folded_level : (a : A) (f : Following) (q : Partition) (n : ℕ) (r : Result Knowledge FoldRefusal) → LevelAt f p
-      → LevelAt (folded_to a f q n r).after p
-  folded_level a f q n (Err e) h = h
-  folded_level a f q n (Ok k) h =
-      written (λ q y. IsLevel y) f.sides q p _ (λ e. subst (λ u. (at f.sides u).state ≡ Level) (sym e) h) h
+  folded_same : (a : A) (f : Following) (q : Partition) (n : ℕ) (r : Result Knowledge FoldRefusal)
+      → Same p f (folded_to a f q n r).after
+  folded_same a f q n (Err e) = refl
+  folded_same a f q n (Ok k) =
+      or_as_it_was (λ u (y : Side). y.state ≡ state_in f u) f.sides q (record (at f.sides q) { place = n }) refl
+      (λ u. refl) p
 
-  either : (f : Following) (b : Bool) (x y : Step A) → LevelAt x.after p → LevelAt y.after p
-      → LevelAt (cond b x y).after p
+  either : (f : Following) (b : Bool) (x y : Step A) → Same p f x.after → Same p f y.after
+      → Same p f (cond b x y).after
   either f true x y h g = h
   either f false x y h g = g
 
+-- ---- the real-time channel
+
+-- what is given live leaves the partitions, but for a hold that is full, which acts as a lost line
+abbrev Lives : Partition → Following → Step Live → Type 0
+Lives p f a = Same p f a.after ⊎ ((is_full a.answer ≡ true) × (a.after ≡ turned false f))
+
 module _ (p : Partition) where
-  held_level : (f : Following) (q : Partition) (h : NumberedReport) → LevelAt f p → LevelAt (held f q h).after p
-  held_level f q h l =
-      written (λ q y. IsLevel y) f.sides q p _ (λ e. subst (λ u. (at f.sides u).state ≡ Level) (sym e) l) l
+  held_same : (f : Following) (q : Partition) (h : NumberedReport) → Same p f (held f q h).after
+  held_same f q h =
+      or_as_it_was (λ u (y : Side). y.state ≡ state_in f u) f.sides q
+      (record (at f.sides q) { hold = (at f.sides q).hold ++ h ∷ [] }) refl (λ u. refl) p
 
-  if_room : (b : Bool) (f : Following) (q : Partition) (h : NumberedReport) → LevelAt f p
-      → is_full (cond b (held f q h) (overrun f)).answer ≡ false → LevelAt (cond b (held f q h) (overrun f)).after p
-  if_room true f q h l k = held_level f q h l
-  if_room false f q h l k = absurd (let z : true ≡ false = k in cc)
+  if_room : (b : Bool) (f : Following) (q : Partition) (h : NumberedReport) → Lives p f (cond b (held f q h) (overrun f))
+  if_room true f q h = inl (held_same f q h)
+  if_room false f q h = inr (refl, refl)
 
-  by_state : (s : Standing) (f : Following) (q : Partition) (h : NumberedReport) → LevelAt f p → is_full (live_by s f q h).answer
-      ≡ false → LevelAt (live_by s f q h).after p
-  by_state Level f q h l k = folded_level p live.Folded f q (number_of h) _ l
-  by_state Behind f q h l k = if_room (nat_lt (length (at f.sides q).hold) HOLD) f q h l k
+  by_state : (s : Standing) (f : Following) (q : Partition) (h : NumberedReport) → Lives p f (live_by s f q h)
+  by_state Level f q h = inl (folded_same p live.Folded f q (number_of h) _)
+  by_state Behind f q h = if_room (nat_lt (length (at f.sides q).hold) HOLD) f q h
 
-  if_there : (b : Bool) (f : Following) (q : Partition) (h : NumberedReport) (s : Standing) → LevelAt f p
-      → is_full (cond b (record { answer = Ok live.Already; after = f }) (live_by s f q h)).answer ≡ false
-      → LevelAt (cond b (record { answer = Ok live.Already; after = f }) (live_by s f q h)).after p
-  if_there true f q h s l k = l
-  if_there false f q h s l k = by_state s f q h l k
+  if_there : (b : Bool) (f : Following) (q : Partition) (h : NumberedReport) (s : Standing)
+      → Lives p f (cond b (answered live.Already f) (live_by s f q h))
+  if_there true f q h s = inl refl
+  if_there false f q h s = by_state s f q h
 
-  lived_level : (f : Following) (h : Heard) → LevelAt f p → is_full (lived f h).answer ≡ false
-      → LevelAt (lived f h).after p
-  lived_level f (Report q h) l k = if_there (nat_le (number_of h) (at f.sides q).place) f q h (at f.sides q).state l k
-  lived_level f (Ack r) l k = l
-  lived_level f (End r) l k = l
-  lived_level f Reject l k = l
-  lived_level f Nothing l k = l
+  lived_so : (f : Following) (h : Heard) → Lives p f (lived f h)
+  lived_so f (Report q h) = if_there (nat_le (number_of h) (at f.sides q).place) f q h (at f.sides q).state
+  lived_so f (Ack r) = inl refl
+  lived_so f (End r) = inl refl
+  lived_so f Reject = inl refl
+  lived_so f Nothing = inl refl
 
-  if_up : (b : Bool) (f : Following) (h : Heard) (e : FollowerFault) → LevelAt f p
-      → is_full (cond b (lived f h) (refused e f)).answer ≡ false → LevelAt (cond b (lived f h) (refused e f)).after p
-  if_up true f h e l k = lived_level f h l k
-  if_up false f h e l k = l
+  if_up : (b : Bool) (f : Following) (h : Heard) → Lives p f (cond b (lived f h) (refused fault.NotUp f))
+  if_up true f h = lived_so f h
+  if_up false f h = inl refl
 
-  live_level : (f : Following) (h : Result Heard Fault) → LevelAt f p → is_full (live_step f h).answer ≡ false
-      → LevelAt (live_step f h).after p
-  live_level f (Err e) l k = l
-  live_level f (Ok h) l k = if_up f.up f h _ l k
+  live_so : (f : Following) (h : Result Heard Fault) → Lives p f (live_step f h)
+  live_so f (Err e) = inl refl
+  live_so f (Ok h) = if_up f.up f h
 
-  -- ---- the recovery channel
+-- ---- the recovery channel
 
-  acked_level : (f : Following) (q : Partition) (r : AckResponse) → LevelAt f p → LevelAt (acked_of f q r).after p
-  acked_level f q Successful l = l
-  acked_level f q LimitReached l = l
-  acked_level f q InvalidAppId l = l
-  acked_level f q ServiceUnavailable l = l
+-- the complete end of its download makes a partition level
+record Levelled (p : Partition) (f : Following) (h : Heard) (a : Step Recovered) : Type 0 where
+  pub complete : h ≡ End ending.Complete
+  pub runs : f.download ≡ Running p
+  pub ends : a.answer ≡ Ok recovered.Ended
+  pub level : state_in a.after p ≡ Level
 
-  ack_level : (f : Following) (s : Stage) (r : AckResponse) → LevelAt f p → LevelAt (acked f s r).after p
-  ack_level f Idle r l = l
-  ack_level f (Asked q) r l = acked_level f q r l
-  ack_level f (Running q) r l = l
+-- and nothing else that comes there changes whether one is
+abbrev Recovers : Partition → Following → Heard → Step Recovered → Type 0
+Recovers p f h a = Same p f a.after ⊎ Levelled p f h a
 
-  reported_level : (f : Following) (s : Stage) (q : Partition) (h : NumberedReport) → LevelAt f p
-      → LevelAt (reported f s q h).after p
-  reported_level f Idle q h l = l
-  reported_level f (Asked u) q h l =
-      either {A = Recovered} p f (same_partition q u) (refused fault.OutOfTurn f) (refused fault.Partition f) l l
-  reported_level f (Running u) q h l =
+module _ (p : Partition) where
+  acked_same : (f : Following) (q : Partition) (r : AckResponse) → Same p f (acked_of f q r).after
+  acked_same f q Successful = refl
+  acked_same f q LimitReached = refl
+  acked_same f q InvalidAppId = refl
+  acked_same f q ServiceUnavailable = refl
+
+  ack_same : (f : Following) (s : Stage) (r : AckResponse) → Same p f (acked f s r).after
+  ack_same f Idle r = refl
+  ack_same f (Asked q) r = acked_same f q r
+  ack_same f (Running q) r = refl
+
+  reported_same : (f : Following) (s : Stage) (q : Partition) (h : NumberedReport) → Same p f (reported f s q h).after
+  reported_same f Idle q h = refl
+  reported_same f (Asked u) q h =
+      either {A = Recovered} p f (same_partition q u) (refused fault.OutOfTurn f) (refused fault.Partition f) refl refl
+  reported_same f (Running u) q h =
       either {A = Recovered} p f (same_partition q u) (recovered_of f q h) (refused fault.Partition f)
       (either {A = Recovered} p f (nat_le (number_of h) (at f.sides q).place) (answered recovered.Already f)
-      (folded recovered.Folded f q h) l (folded_level p recovered.Folded f q (number_of h) _ l)) l
+      (folded recovered.Folded f q h) refl (folded_same p recovered.Folded f q (number_of h) _)) refl
 
-  levelled_level : (f : Following) (q : Partition) (r : Result Reached FoldRefusal) → LevelAt f p
-      → LevelAt (levelled f q r).after p
-  levelled_level f q (Err e) l = l
-  levelled_level f q (Ok r) l = written (λ q y. IsLevel y) f.sides q p _ (λ e. refl) l
+  levelled_so : (f : Following) (q : Partition) (r : Result Reached FoldRefusal) → f.download ≡ Running q
+      → Recovers p f (End ending.Complete) (levelled f q r)
+  levelled_so f q (Err e) d = inl refl
+  levelled_so f q (Ok r) d = by (written (λ u (y : Side). (y.state ≡ state_in f u) ⊎ ((q ≡ u) × (y.state ≡ Level)))
+      f.sides q p (record { place = r.place; state = Level; hold = [] }) (λ e. inr (e, refl)) (inl refl))
+    where
+      by : Same p f (levelled f q (Ok r)).after ⊎ ((q ≡ p) × (state_in (levelled f q (Ok r)).after p ≡ Level))
+          → Recovers p f (End ending.Complete) (levelled f q (Ok r))
+      by (inl e) = inl e
+      by (inr (e, l)) = inr (record { complete = refl; runs = d ∙ ap Running e; ends = refl; level = l })
 
-  ended_level : (f : Following) (q : Partition) (r : ReportResponse) → LevelAt f p → LevelAt (ended_of f q r).after p
-  ended_level f q ending.Complete l =
-      levelled_level f q (caught_up q (reached f.standings (at f.sides q).place) (at f.sides q).hold) l
-  ended_level f q ending.MessageLimit l = l
-  ended_level f q ending.ServiceUnavailable l = l
+  ended_so : (f : Following) (q : Partition) (r : ReportResponse) → f.download ≡ Running q
+      → Recovers p f (End r) (ended_of f q r)
+  ended_so f q ending.Complete d =
+      levelled_so f q (caught_up q (reached f.standings (at f.sides q).place) (at f.sides q).hold) d
+  ended_so f q ending.MessageLimit d = inl refl
+  ended_so f q ending.ServiceUnavailable d = inl refl
 
-  end_level : (f : Following) (s : Stage) (r : ReportResponse) → LevelAt f p → LevelAt (ended f s r).after p
-  end_level f Idle r l = l
-  end_level f (Asked q) r l = l
-  end_level f (Running q) r l = ended_level f q r l
+  end_so : (f : Following) (s : Stage) (r : ReportResponse) → f.download ≡ s → Recovers p f (End r) (ended f s r)
+  end_so f Idle r d = inl refl
+  end_so f (Asked q) r d = inl refl
+  end_so f (Running q) r d = ended_so f q r d
 
-  rejected_level : (f : Following) (s : Stage) → LevelAt f p → LevelAt (rejected f s).after p
-  rejected_level f Idle l = l
-  rejected_level f (Asked q) l = l
-  rejected_level f (Running q) l = l
+  rejected_same : (f : Following) (s : Stage) → Same p f (rejected f s).after
+  rejected_same f Idle = refl
+  rejected_same f (Asked q) = refl
+  rejected_same f (Running q) = refl
 
-  recovering_level : (f : Following) (h : Heard) → LevelAt f p → LevelAt (recovering f h).after p
-  recovering_level f (Report q h) l = reported_level f f.download q h l
-  recovering_level f (Ack r) l = ack_level f f.download r l
-  recovering_level f (End r) l = end_level f f.download r l
-  recovering_level f Reject l = rejected_level f f.download l
-  recovering_level f Nothing l = l
+  recovering_so : (f : Following) (h : Heard) → Recovers p f h (recovering f h)
+  recovering_so f (Report q h) = inl (reported_same f f.download q h)
+  recovering_so f (Ack r) = inl (ack_same f f.download r)
+  recovering_so f (End r) = end_so f f.download r refl
+  recovering_so f Reject = inl (rejected_same f f.download)
+  recovering_so f Nothing = inl refl
 
-  recovered_level : (f : Following) (h : Result Heard Fault) → LevelAt f p → LevelAt (recovered_step f h).after p
-  recovered_level f (Err e) l = l
-  recovered_level f (Ok h) l =
-      either {A = Recovered} p f f.up (recovering f h) (refused fault.NotUp f) (recovering_level f h l) l
+  if_recovering : (b : Bool) (f : Following) (h : Heard)
+      → Recovers p f h (cond b (recovering f h) (refused fault.NotUp f))
+  if_recovering true f h = recovering_so f h
+  if_recovering false f h = inl refl
+
+  recovered_so : (f : Following) (r : Result Heard Fault)
+      → Same p f (recovered_step f r).after ⊎ ((h : Heard) × (r ≡ Ok h) × Levelled p f h (recovered_step f r))
+  recovered_so f (Err e) = inl refl
+  recovered_so f (Ok h) = elim (if_recovering f.up f h) [ inl e ↦ inl e | inr l ↦ inr (h, refl, l) ]
 
 -- asking leaves the partitions
 asked_sides : (f : Following) (t : Pending) (out : List ℕ) (r : Result Partition FollowerFault)
@@ -160,43 +188,93 @@ asked_sides : (f : Following) (t : Pending) (out : List ℕ) (r : Result Partiti
 asked_sides f t out (Err e) = refl
 asked_sides f t out (Ok p) = refl
 
-to_desk : (d e : Desk) (f : Following) (p : Partition) (x : Standing) → e.follower ≡ f → (at f.sides p).state ≡ x
-    → state_of e p ≡ x
-to_desk d e f p x k l = ap (λ (g : Following). (at g.sides p).state) k ∙ l
+asked_same : (d : Desk) (n : ℕ) (out : List ℕ) (p : Partition) → Same p d.follower (asks d.follower d.token n out).after
+asked_same d n out p = ap (λ (x : PerPartition Side). (at x p).state)
+    (asked_sides d.follower d.token out (asking d.follower d.token n (length out)))
 
-pub stays_level : StaysLevel
-stays_level s d (done.Venue v) w e p (m, k) b l = ap (λ (y : Desk). state_of y p) k ∙ l
-stays_level s d done.Up w e p h b l = absurd (let z : true ≡ false = b in cc)
-stays_level s d done.Lost w e p h b l = absurd (let z : true ≡ false = b in cc)
-stays_level s d (done.Live bs r) w e p (m, a, k) b l =
-    to_desk d e _ p Level (ap (λ (y : Desk). y.follower) k) (live_level p d.follower _ l (ap is_full (sym a) ∙ b))
-stays_level s d (done.Recovered bs r) w e p (m, a, k) b l =
-    to_desk d e _ p Level (ap (λ (y : Desk). y.follower) k) (recovered_level p d.follower _ l)
-stays_level s d (done.Ask n r) w e p (m, a, c, k) b l =
-    to_desk d e _ p Level (ap (λ (y : Desk). y.follower) k)
-    (ap (λ (x : PerPartition Side). (at x p).state)
-    (asked_sides d.follower d.token r.before.items (asking d.follower d.token n (length r.before.items))) ∙ l)
-
--- ---- a follower that is given nothing
+-- ---- from level to behind, and from behind to level
 
 turned_behind : (up : Bool) (f : Following) (p : Partition) → (at (turned up f).sides p).state ≡ Behind
 turned_behind up f One = refl
 turned_behind up f Two = refl
 turned_behind up f Three = refl
 
+to_desk : (d e : Desk) (f : Following) (p : Partition) (x : Standing) → e ≡ moved d f → state_in f p ≡ x
+    → state_of e p ≡ x
+to_desk d e f p x k l = ap (λ (y : Desk). state_of y p) k ∙ l
+
+from_desk : (d e : Desk) (f : Following) (p : Partition) (x : Standing) → e ≡ moved d f → state_of e p ≡ x
+    → state_in f p ≡ x
+from_desk d e f p x k l = sym (ap (λ (y : Desk). state_of y p) k) ∙ l
+
+not_both : {X : Type 0} (x : Standing) → x ≡ Behind → x ≡ Level → X
+not_both x b l = absurd (let z : Behind ≡ Level = sym b ∙ l in cc)
+
+pub stays_level : StaysLevel
+stays_level s d (done.Venue v) w e p (m, k) b l = ap (λ (y : Desk). state_of y p) k ∙ l
+stays_level s d done.Up w e p h b l = absurd (let z : true ≡ false = b in cc)
+stays_level s d done.Lost w e p h b l = absurd (let z : true ≡ false = b in cc)
+stays_level s d (done.Live m r) w e p (i, a, k) b l = by (live_so p d.follower (heard_in m.items))
+  where
+    by : Lives p d.follower (live_step d.follower (heard_in m.items)) → state_of e p ≡ Level
+    by (inl same) = to_desk d e (live_step d.follower (heard_in m.items)).after p Level k (same ∙ l)
+    by (inr (full, fell)) = absurd (let z : true ≡ false = sym full ∙ (ap is_full (sym a) ∙ b) in cc)
+stays_level s d (done.Recovered m r) w e p (i, a, k) b l = by (recovered_so p d.follower (heard_in m.items))
+  where
+    by : Same p d.follower (recovered_step d.follower (heard_in m.items)).after
+        ⊎ ((h : Heard) × (heard_in m.items ≡ Ok h) × Levelled p d.follower h (recovered_step d.follower (heard_in m.items)))
+        → state_of e p ≡ Level
+    by (inl same) = to_desk d e (recovered_step d.follower (heard_in m.items)).after p Level k (same ∙ l)
+    by (inr (h, q, now)) = to_desk d e (recovered_step d.follower (heard_in m.items)).after p Level k now.level
+stays_level s d (done.Ask n r) w e p (m, a, c, k) b l =
+    to_desk d e (asks d.follower d.token n r.before.items).after p Level k (asked_same d n r.before.items p ∙ l)
+
+pub level_by_download : LevelByDownload
+level_by_download s d (done.Venue v) w e p (m, k) b l = not_both (state_of d p) b (sym (ap (λ (y : Desk). state_of y p) k) ∙ l)
+level_by_download s d done.Up w e p (m, k) b l = not_both (state_in (turned true d.follower) p)
+    (turned_behind true d.follower p) (from_desk d e (turned true d.follower) p Level k l)
+level_by_download s d done.Lost w e p (m, k) b l = not_both (state_in (turned false d.follower) p)
+    (turned_behind false d.follower p) (from_desk d e (turned false d.follower) p Level k l)
+level_by_download s d (done.Live m r) w e p (i, a, k) b l = by (live_so p d.follower (heard_in m.items))
+  where
+    now : state_in (live_step d.follower (heard_in m.items)).after p ≡ Level
+    now = from_desk d e (live_step d.follower (heard_in m.items)).after p Level k l
+
+    by : Lives p d.follower (live_step d.follower (heard_in m.items)) → Completes d p (done.Live m r)
+    by (inl same) = not_both (state_of d p) b (sym same ∙ now)
+    by (inr (full, fell)) = not_both (state_in (turned false d.follower) p) (turned_behind false d.follower p)
+        (ap (λ (f : Following). state_in f p) (sym fell) ∙ now)
+level_by_download s d (done.Recovered m r) w e p (i, a, k) b l = by (recovered_so p d.follower (heard_in m.items))
+  where
+    now : state_in (recovered_step d.follower (heard_in m.items)).after p ≡ Level
+    now = from_desk d e (recovered_step d.follower (heard_in m.items)).after p Level k l
+
+    by : Same p d.follower (recovered_step d.follower (heard_in m.items)).after
+        ⊎ ((h : Heard) × (heard_in m.items ≡ Ok h) × Levelled p d.follower h (recovered_step d.follower (heard_in m.items)))
+        → Completes d p (done.Recovered m r)
+    by (inl same) = not_both (state_of d p) b (sym same ∙ now)
+    by (inr (h, q, z)) = record { complete = q ∙ ap Ok z.complete; ends = a ∙ z.ends; runs = z.runs }
+level_by_download s d (done.Ask n r) w e p (m, a, c, k) b l = not_both (state_of d p) b
+    (sym (asked_same d n r.before.items p) ∙ from_desk d e (asks d.follower d.token n r.before.items).after p Level k l)
+
+-- ---- a follower that is given nothing
+
+-- only what a follower is given is the end of a download
+never : (x : Done) → gives x ≡ false → IsComplete x → ⊥
+never (done.Venue v) g h = h
+never done.Up g h = h
+never done.Lost g h = h
+never (done.Live m r) g h = h
+never (done.Recovered m r) g h = absurd (let z : true ≡ false = g in cc)
+never (done.Ask n r) g h = h
+
 one_behind : (s : State) (d : Desk) (x : Done) (w : State) (e : Desk) (p : Partition) → Does s d x w e → gives x
     ≡ false → state_of d p ≡ Behind → state_of e p ≡ Behind
-one_behind s d (done.Venue v) w e p (m, k) g l = ap (λ (y : Desk). state_of y p) k ∙ l
-one_behind s d done.Up w e p (m, k) g l =
-    to_desk d e _ p Behind (ap (λ (y : Desk). y.follower) k) (turned_behind true d.follower p)
-one_behind s d done.Lost w e p (m, k) g l =
-    to_desk d e _ p Behind (ap (λ (y : Desk). y.follower) k) (turned_behind false d.follower p)
-one_behind s d (done.Live bs r) w e p h g l = absurd (let z : true ≡ false = g in cc)
-one_behind s d (done.Recovered bs r) w e p h g l = absurd (let z : true ≡ false = g in cc)
-one_behind s d (done.Ask n r) w e p (m, a, c, k) g l =
-    to_desk d e _ p Behind (ap (λ (y : Desk). y.follower) k)
-    (ap (λ (x : PerPartition Side). (at x p).state)
-    (asked_sides d.follower d.token r.before.items (asking d.follower d.token n (length r.before.items))) ∙ l)
+one_behind s d x w e p h g b = by (state_of e p) refl
+  where
+    by : (z : Standing) → state_of e p ≡ z → state_of e p ≡ Behind
+    by Behind q = q
+    by Level q = absurd (never x g (level_by_download s d x w e p h b q).complete)
 
 all_behind : (s : State) (d : Desk) (xs : List Done) (w : State) (e : Desk) (p : Partition) → Runs s d xs w e
     → list_any gives xs ≡ false → state_of d p ≡ Behind → state_of e p ≡ Behind

@@ -1,9 +1,9 @@
 -- A log is decided entry by entry: one that was not allowed is not allowed with more behind it. Assumes nothing.
-use Rattle.std.proofs.Common.{◌≡◌, ◌<◌, ◌+◌, ℕ, List, [], ◌∷◌, Ok, Err, Result, IfOk, IsOk, drop, get_or, length, refl, sym, ap, ◌∙◌, subst}
+use Rattle.std.proofs.Common.{◌≡◌, ◌<◌, ◌+◌, ℕ, List, ◌∷◌, Ok, Err, Result, IfOk, IsOk, drop, get_or, length, refl, sym, ap, ◌∙◌, subst}
 use Rattle.std.proofs.lemmas.List.{drop_more}
 use Rattle.std.proofs.lemmas.List.Folds.{fold_stays}
 use Rattle.std.specs.List.{fold}
-use Rattle.both_ends.specs.Allowed.{Allowed, Line, after_call, after_log, onward, quiet}
+use Rattle.both_ends.specs.Allowed.{Allowed, Line, after_log, onward, quiet}
 use Rattle.both_ends.specs.Asking.{made}
 use Rattle.both_ends.specs.Deciding.{after_entry, onto, verdict}
 use Rattle.both_ends.specs.declared.allowed.Breach.{Breach}

@@ -3,10 +3,9 @@ use Rattle.std.specs.Prelude.{◌≡◌, ◌⊎◌, ℕ, Bool, true, false, List
 use Rattle.std.specs.List.{Any, list_any}
 use Rattle.std.specs.FinMap.{get}
 use Rattle.codes.specs.declared.session.Partition.{Partition}
-use Rattle.codes.specs.declared.session.ReportResponse.TheVariants.{Complete}
 use Rattle.configuration.specs.declared.participant.Participant.{Participant}
 use Rattle.both_ends.specs.Allowed.{Allowed}
-use Rattle.both_ends.specs.Laws.{state_of}
+use Rattle.both_ends.specs.Laws.{IsComplete, state_of}
 use Rattle.both_ends.specs.Runs.{Desk, Does, Runs, fresh}
 use Rattle.both_ends.specs.Tallied.{there, Tallied}
 use Rattle.both_ends.specs.declared.call.Done.{Done}
@@ -16,7 +15,7 @@ use Rattle.follower.specs.Numbers.{number_of}
 use Rattle.follower.specs.declared.fault.FollowerFault.{FollowerFault}
 use Rattle.follower.specs.declared.fault.FollowerFault.TheVariants.{Fold}
 use Rattle.follower.specs.declared.heard.Heard.{Heard}
-use Rattle.follower.specs.declared.heard.Heard.TheVariants.{Report, End}
+use Rattle.follower.specs.declared.heard.Heard.TheVariants.{Report}
 use Rattle.follower.specs.declared.side.State.TheVariants.{Level}
 use Rattle.follower.specs.declared.stage.Stage.TheVariants.{Running}
 use Rattle.gateway.specs.State.{State, fresh as fresh_state}
@@ -91,11 +90,6 @@ pub record Agrees (c : ℕ) (xs : List Done) (s : State) (d : Desk) : Type 0 whe
 -- whichever CompID's line it is that the follower is on, if that line allows the log, both ends agree
 abbrev pub EndsAgree : List Done → State → Desk → Type 0
 EndsAgree xs s d = (c : ℕ) → Allowed c xs → Agrees c xs s d
-
--- the end of a download that says complete
-abbrev pub IsComplete : Done → Type 0
-IsComplete (done.Recovered m r) = heard_in m.items ≡ Ok (End Complete)
-IsComplete x = ⊥
 
 -- from every state that a log leads to: where the line allows the complete end of a partition's download, the
 -- partition is level behind it

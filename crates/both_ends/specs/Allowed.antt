@@ -99,9 +99,13 @@ abbrev pub after_up : Bool → Line → Result Line Breach
 after_up true l = Ok (record l { ready = false; up = true })
 after_up false l = Err NoLogon
 
+-- what is not the next under way is a breach of the one that is up; of one that is not it changes nothing
+abbrev pub out_of_turn : Breach → Line → Result Line Breach
+out_of_turn b l = if l.up then Err b else Ok l
+
 -- a report given live is the next under way; all else that may be given live is nothing to a follower
 abbrev pub next_live : Option (List Message) → Line → Result Line Breach
-next_live None l = Err LiveOutOfTurn
+next_live None l = out_of_turn LiveOutOfTurn l
 next_live (Some rest) l = Ok (record l { live = rest })
 
 abbrev pub given_live : Message → Result Heard Fault → Line → Result Line Breach
@@ -117,7 +121,7 @@ or_lost false r = r
 -- what is given on the recovery channel is the next under way, or a report of the download that came before
 abbrev pub repeated : Bool → Line → Result Line Breach
 repeated true l = Ok l
-repeated false l = Err RecoveredOutOfTurn
+repeated false l = out_of_turn RecoveredOutOfTurn l
 
 abbrev pub next_report : Message → Option (List Message) → Line → Result Line Breach
 next_report m (Some rest) l = Ok (record l { recovered = rest; again = m ∷ l.again })
@@ -126,7 +130,7 @@ next_report m None l = repeated (list_any (bytes_eq m) l.again) l
 -- once anything else came, no report comes again
 abbrev pub next_other : Option (List Message) → Line → Result Line Breach
 next_other (Some rest) l = Ok (record l { recovered = rest; again = [] })
-next_other None l = Err RecoveredOutOfTurn
+next_other None l = out_of_turn RecoveredOutOfTurn l
 
 abbrev pub given_recovered : Message → Result Heard Fault → Line → Result Line Breach
 given_recovered m (Ok (Report p h)) l = next_report m (next_of m l.recovered) l

@@ -1,5 +1,5 @@
 -- Both ends as one value: what it shows, how it begins, and what holds of every value of it. Assumes nothing.
-use Rattle.std.specs.Prelude.{◌≡◌, ℕ, List, [], ◌∷◌, ◌++◌, Some, None, Option, map}
+use Rattle.std.specs.Prelude.{◌≡◌, List, [], ◌∷◌, ◌++◌, Some, None, Option, map}
 use Rattle.std.specs.Borrow.{Bor}
 use Rattle.std.specs.FinMap.{len}
 use Rattle.configuration.specs.declared.instrument.Instrument.{Instrument}

@@ -1,5 +1,5 @@
 -- Runs of both ends. Assumes nothing.
-use Rattle.std.specs.Prelude.{◌≡◌, ℕ, ◌≤◌, true, false, List, [], ◌∷◌, length, Some, None, Option, IfOk}
+use Rattle.std.specs.Prelude.{◌≡◌, ◌≤◌, true, false, List, [], ◌∷◌, length, Some, None, Option, IfOk}
 use Rattle.std.specs.List.{filter_map}
 use Rattle.both_ends.specs.declared.call.Call.{Call}
 use Rattle.both_ends.specs.declared.call.Call.TheVariants as call

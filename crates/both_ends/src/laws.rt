@@ -1,6 +1,6 @@
 // What a desk asks of its follower, proved of the definitions that the calls' contracts cite.
 ghost use Rattle.both_ends.specs.Asking.{Erases};
-ghost use Rattle.both_ends.specs.Laws.{StaysBehind, StaysLevel};
+ghost use Rattle.both_ends.specs.Laws.{LevelByDownload, StaysBehind, StaysLevel};
 ghost use Rattle.both_ends.specs.Agreement.{DownloadsLevel};
 
 use crate::question::Question;
@@ -16,6 +16,12 @@ pub fn questions_change_nothing<M: Matcher, Q: Question<A>, A: Drop>()
 #[tactic(auto, using(crate::proofs::Levels::stays_level))]
 pub fn levels_stay()
     ensures { StaysLevel }
+{}
+
+/// A partition goes from behind to level only by the complete end of its download, given on the recovery channel and taken
+/// while that download runs.
+pub fn only_downloads_level()
+    ensures { LevelByDownload }
 {}
 
 /// A follower that is never given anything stays behind, whatever else happens at both ends.

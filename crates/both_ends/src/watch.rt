@@ -44,7 +44,7 @@ impl<'a> Model for Watch<'a> {
 }
 
 impl<'a> Watch<'a> {
-    ghost use Rattle.both_ends.specs.Allowed.{quiet, answered, next_of, after_logon, after_recovery, after_venue, after_up, given_live, or_lost, given_recovered, next_report, next_other, after_ask, after_call};
+    ghost use Rattle.both_ends.specs.Allowed.{quiet, answered, next_of, after_logon, after_recovery, after_venue, after_up, out_of_turn, given_live, or_lost, given_recovered, next_report, next_other, after_ask, after_call};
     ghost use Rattle.both_ends.specs.Deciding.{onto};
 
     /// A line on which nothing was said.
@@ -152,13 +152,23 @@ impl<'a> Watch<'a> {
         Ok(())
     }
 
+    // What is not the next under way changes nothing where the follower is not up, and else the line does not bring it.
+    fn out_of_turn(&self, breach: Breach) -> Result<(), Breach>
+        ensures { out_of_turn breach self.now ≡ onto result self.now }
+    {
+        if !self.up {
+            return Ok(());
+        }
+        Err(breach)
+    }
+
     // A report that is given live is the next under way.
     fn given_live(&mut self, message: &[u8]) -> Result<(), Breach>
         ensures { given_live message.now (heard_in message.now) self.old ≡ onto result self.new }
     {
         if let Ok(Heard::Report(..)) = hear(message) {
             if !self.live.take(message) {
-                return Err(Breach::LiveOutOfTurn);
+                return self.out_of_turn(Breach::LiveOutOfTurn);
             }
         }
         Ok(())
@@ -185,7 +195,7 @@ impl<'a> Watch<'a> {
             return Ok(Ok(()));
         }
         if !self.again.contains(message) {
-            return Ok(Err(Breach::RecoveredOutOfTurn));
+            return Ok(self.out_of_turn(Breach::RecoveredOutOfTurn));
         }
         Ok(Ok(()))
     }
@@ -195,7 +205,7 @@ impl<'a> Watch<'a> {
         ensures { next_other (next_of message.now self.old.recovered) self.old ≡ onto result self.new }
     {
         if !self.recovered.take(message) {
-            return Err(Breach::RecoveredOutOfTurn);
+            return self.out_of_turn(Breach::RecoveredOutOfTurn);
         }
         self.again.clear();
         Ok(())

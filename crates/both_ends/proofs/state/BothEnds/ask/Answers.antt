@@ -1,5 +1,4 @@
 use Rattle.std.proofs.Common.{◌≡◌, List, [], ◌∷◌, ◌++◌, refl, subst, sym, ap, ◌∙◌}
-use Rattle.both_ends.proofs.Erasing.{one_more}
 use Rattle.both_ends.proofs.Kept.{ends, more}
 use Rattle.both_ends.specs.Both.{Ends, Ran, Steps}
 use Rattle.both_ends.specs.Runs.{Desk}

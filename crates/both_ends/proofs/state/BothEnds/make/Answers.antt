@@ -1,4 +1,4 @@
-use Rattle.std.proofs.Common.{◌≡◌, ◌≤◌, List, [], ◌∷◌, ◌++◌, IfOk, length, refl, subst, sym, ap, ◌∙◌}
+use Rattle.std.proofs.Common.{◌≡◌, ◌≤◌, List, [], ◌∷◌, ◌++◌, IfOk, length, subst, sym, ap, ◌∙◌}
 use Rattle.both_ends.proofs.Kept.{ends, more}
 use Rattle.both_ends.specs.Asking.{Moves}
 use Rattle.both_ends.specs.Both.{Ends, Ran, Steps}

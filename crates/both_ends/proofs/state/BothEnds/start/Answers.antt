@@ -1,7 +1,6 @@
-use Rattle.std.proofs.Common.{List, [], ap, sym, subst}
+use Rattle.std.proofs.Common.{List, [], sym, subst}
 use Rattle.both_ends.proofs.Kept.{begins, begun, ends}
 use Rattle.both_ends.specs.Both.{Ran}
-use Rattle.both_ends.specs.Runs.{Desk}
 use Rattle.both_ends.specs.declared.entry.Entry.{Entry}
 use Rattle.follower.specs.Following.{Following}
 use Rattle.follower.specs.declared.pending.Pending.TheVariants.{Idle}
