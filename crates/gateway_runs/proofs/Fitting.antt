@@ -1,13 +1,13 @@
 -- What a call on a line decides to do: which acts, of whose orders and reports. Assumes nothing.
 use Rattle.std.specs.Prelude.{find, reverse, filter, map, slice_get, nat_lt, not}
 use Rattle.std.specs.List.{AllByRecursion}
-use Rattle.std.specs.Option.{option_map, option_map_or, ok_or}
+use Rattle.std.specs.Option.{option_map_or, ok_or}
 use Rattle.std.specs.Ordering.{int_eq}
 use Rattle.std.proofs.lemmas.Bool.{and_parts, eqb-true}
 use Rattle.std.proofs.Common.{◌≡◌, ℕ, zero, suc, ℤ, pos, negsuc, Bool, true, false, cond, eqb, List, [], ◌∷◌, Some, None, Option, Ok, Err, Result, refl, sym, ap, ◌∙◌, subst}
 use Rattle.changes.specs.Changes.{after}
 use Rattle.changes.specs.declared.change.Change.{Change}
-use Rattle.changes.specs.declared.change.Change.TheVariants.{Accept, Withdraw}
+use Rattle.changes.specs.declared.change.Change.TheVariants.{Accept, Replace, Withdraw}
 use Rattle.codes.specs.declared.order.Book.{Book}
 use Rattle.codes.specs.declared.session.AckResponse.{AckResponse}
 use Rattle.configuration.specs.declared.participant.Participant.{Participant}
@@ -18,7 +18,6 @@ use Rattle.gateway.specs.State.{State, session}
 use Rattle.answers.specs.declared.answer.Reason.TheVariants as reason
 use Rattle.keyed.proofs.Under.{none-some}
 use Rattle.keyed.specs.Numbers.{under}
-use Rattle.gateway_runs.specs.Conservation.{MayBy}
 use Rattle.gateway_runs.specs.Laws.{FirmOf}
 use Rattle.matching.specs.Meaning.{serves}
 use Rattle.session_messages.specs.declared.missed_message_request.MissedMessageRequest.{MissedMessageRequest}
@@ -73,6 +72,15 @@ use Rattle.venue.specs.Books.{Books, Sound}
 use Rattle.wire.specs.declared.message.Message.{Message}
 use Rattle.wire.specs.declared.message.Message.TheVariants as message
 
+-- the changes that a message may make
+abbrev pub MayBy : Message → Change → Type 0
+MayBy (message.NewOrder m) (Accept t a) = Unit {0}
+MayBy (message.OrderCancelReplaceRequest m) (Replace a) = Unit {0}
+MayBy (message.OrderCancelRequest m) (Withdraw e c) = Unit {0}
+MayBy (message.OrderMassCancelRequest m) (Withdraw e c) = Unit {0}
+MayBy (message.Logout m) (Withdraw e c) = Unit {0}
+MayBy m c = ⊥
+
 -- a change that makes no order of nothing
 abbrev pub Alters : Change → Type 0
 Alters c = (n : ℕ) → after n c None ≡ None
@@ -88,47 +96,40 @@ Fits may s line (Void n) = ⊥
 
 -- ---- shares that can be ordered
 
-if_orderable : (k n : ℕ) (b : Bool) → orderable k ≡ b → cond b (Some k) None ≡ Some n → (orderable n ≡ true)
-    × (pos k ≡ pos n)
-if_orderable k n true o h = let is : k ≡ n = cc in (ap orderable (sym is) ∙ o, ap pos is)
+if_orderable : (k n : ℕ) (b : Bool) → orderable k ≡ b → cond b (Some k) None ≡ Some n → orderable n ≡ true
+if_orderable k n true o h = let is : k ≡ n = cc in ap orderable (sym is) ∙ o
 if_orderable k n false o h = none-some n h
 
-shares_are : (q : ℤ) (n : ℕ) → shares q ≡ Some n → (orderable n ≡ true) × (q ≡ pos n)
+shares_are : (q : ℤ) (n : ℕ) → shares q ≡ Some n → orderable n ≡ true
 shares_are (pos k) n h = if_orderable k n (orderable k) refl h
 shares_are (negsuc k) n h = none-some n h
 
-if_shown : (q : ℤ) (n : ℕ) (b : Bool) → cond b (shares q) None ≡ Some n → (orderable n ≡ true) × (q ≡ pos n)
+if_shown : (q : ℤ) (n : ℕ) (b : Bool) → cond b (shares q) None ≡ Some n → orderable n ≡ true
 if_shown q n true h = shares_are q n h
 if_shown q n false h = none-some n h
 
-shown_are : (q d : ℤ) (n : ℕ) → shown q d ≡ Some n → (orderable n ≡ true) × (q ≡ pos n)
-shown_are q d n h = if_shown q n (int_eq d q) h
-
--- what is asked for are the shares of the request
-abbrev Asks : ℤ → Ask → Type 0
-Asks q a = (orderable a.quantity ≡ true) × (q ≡ pos a.quantity)
+-- what is asked for
+abbrev Asks : Placement → Type 0
+Asks p = orderable p.ask.quantity ≡ true
 
 new_asks : (m : NewOrder) (x : Option Lifetime) (o : Option ℕ) (p : Placement) → shown m.quantity m.display_quantity
-    ≡ o → new.placed m x o ≡ Some p → Asks m.quantity p.ask
+    ≡ o → new.placed m x o ≡ Some p → Asks p
 new_asks m None o p e h = absurd (cc)
 new_asks m (Some l) None p e h = absurd (cc)
 new_asks m (Some l) (Some n) p e h =
     let one : Placement = record { lifetime = l; ask = new.asks m n } in
     let same : one ≡ p = cc in
-    let is : new.asks m n ≡ p.ask = ap (λ (q : Placement). q.ask) same in
-    subst (Asks m.quantity) is (shown_are m.quantity m.display_quantity n e)
+    subst Asks same (if_shown m.quantity n (int_eq m.display_quantity m.quantity) e)
 
 new_if : (m : NewOrder) (b : Bool) (p : Placement) → cond b
-    (new.placed m (lifetime_of m.time_in_force) (shown m.quantity m.display_quantity)) None ≡ Some p
-    → Asks m.quantity p.ask
+    (new.placed m (lifetime_of m.time_in_force) (shown m.quantity m.display_quantity)) None ≡ Some p → Asks p
 new_if m true p h = new_asks m (lifetime_of m.time_in_force) (shown m.quantity m.display_quantity) p refl h
 new_if m false p h = absurd (cc)
 
 new_or_bad : (m : NewOrder) (o : Option Placement) (p : Placement) → new.placement_of m ≡ o → ok_or o BadTerms ≡ Ok p
-    → Asks m.quantity p.ask
+    → Asks p
 new_or_bad m None p e h = absurd (cc)
-new_or_bad m (Some b) p e h =
-    let is : b ≡ p = cc in subst (λ (q : Placement). Asks m.quantity q.ask) is (new_if m _ b e)
+new_or_bad m (Some b) p e h = let is : b ≡ p = cc in subst Asks is (new_if m _ b e)
 
 unrefused : {A : Type 0} (o : Option Refusal) (p q : A)
     → ◌≡◌ {A = Result A Refusal} (option_map_or Err o (Ok p)) (Ok q) → ◌≡◌ {A = Result A Refusal} (Ok p) (Ok q)
@@ -136,52 +137,32 @@ unrefused None p q h = h
 unrefused (Some e) p q h = absurd (cc)
 
 with_room_asks : (m : NewOrder) (b : Books) (r : Result Placement Refusal) (p : Placement)
-    → ok_or (new.placement_of m) BadTerms ≡ r → new.with_room b r ≡ Ok p → Asks m.quantity p.ask
+    → ok_or (new.placement_of m) BadTerms ≡ r → new.with_room b r ≡ Ok p → Asks p
 with_room_asks m b (Err e) p k h = absurd (cc)
 with_room_asks m b (Ok q) p k h = new_or_bad m (new.placement_of m) p refl (k ∙ unrefused (new.room_fault b) q p h)
 
 new_judged : (m : NewOrder) (b : Books) (served : Bool) (p : Placement)
-    → cond served (new.with_room b (ok_or (new.placement_of m) BadTerms)) (Err BookNotServed) ≡ Ok p
-    → Asks m.quantity p.ask
+    → cond served (new.with_room b (ok_or (new.placement_of m) BadTerms)) (Err BookNotServed) ≡ Ok p → Asks p
 new_judged m b true p h = with_room_asks m b (ok_or (new.placement_of m) BadTerms) p refl h
 new_judged m b false p h = absurd (cc)
 
--- ---- a Replace's shares, and its order
+-- ---- a Replace's order
 
-again_asks : (m : OrderCancelReplaceRequest) (o : Option ℕ) (a : Ask) → shown m.quantity m.display_quantity ≡ o
-    → option_map (replaces.asks m) o ≡ Some a → Asks m.quantity a
-again_asks m None a e h = none-some a h
-again_asks m (Some n) a e h =
-    let is : replaces.asks m n ≡ a = cc in subst (Asks m.quantity) is (shown_are m.quantity m.display_quantity n e)
-
-again_if : (m : OrderCancelReplaceRequest) (b : Bool) (a : Ask)
-    → cond b (option_map (replaces.asks m) (shown m.quantity m.display_quantity)) None ≡ Some a → Asks m.quantity a
-again_if m true a h = again_asks m (shown m.quantity m.display_quantity) a refl h
-again_if m false a h = none-some a h
-
--- it is of this order, and asks for the message's shares
-abbrev Of : OrderCancelReplaceRequest → Row → Replacement → Type 0
-Of m b r = (m.quantity ≡ pos r.ask.quantity) × (b ≡ r.order)
-
-taken_of : (m : OrderCancelReplaceRequest) (b : Row) (o : Option Ask) (r : Replacement) → replaces.ask_of m b ≡ o
-    → replaces.taken b o ≡ Ok r → Of m b r
-taken_of m b None r e h = absurd (cc)
-taken_of m b (Some a) r e h =
+taken_of : (b : Row) (o : Option Ask) (r : Replacement) → replaces.taken b o ≡ Ok r → b ≡ r.order
+taken_of b None r h = absurd (cc)
+taken_of b (Some a) r h =
     let made : Replacement = record { order = b; ask = a } in
-    let same = unrefused (replace_fault a.quantity b) made r h in
-    let is : a ≡ r.ask = cc in let whose : b ≡ r.order = cc in
-    ((again_if m _ a e).1 ∙ ap (λ (x : Ask). pos x.quantity) is, whose)
+    let same = unrefused (replace_fault a.quantity b) made r h in cc
 
 timed : (m : OrderCancelReplaceRequest) (b : Row) (c : Bool) (e : Refusal) (r : Replacement)
-    → cond c (replaces.taken b (replaces.ask_of m b)) (Err e) ≡ Ok r → Of m b r
-timed m b true e r h = taken_of m b (replaces.ask_of m b) r refl h
+    → cond c (replaces.taken b (replaces.ask_of m b)) (Err e) ≡ Ok r → b ≡ r.order
+timed m b true e r h = taken_of b (replaces.ask_of m b) r h
 timed m b false e r h = absurd (cc)
 
 of_row : (m : OrderCancelReplaceRequest) (x : Result Row Refusal) (r : Replacement) → replaces.of_row m x ≡ Ok r
-    → (m.quantity ≡ pos r.ask.quantity) × (x ≡ Ok r.order)
+    → x ≡ Ok r.order
 of_row m (Err e) r h = absurd (cc)
-of_row m (Ok b) r h =
-    let (q, is) = timed m b (is_asked m.time_in_force b.terms.lifetime) _ r h in (q, ap Ok is)
+of_row m (Ok b) r h = ap Ok (timed m b (is_asked m.time_in_force b.terms.lifetime) _ r h)
 
 -- ---- the order that is named is the line's
 
@@ -325,7 +306,7 @@ module _ (s : State) (line : ℕ) where
       ordered : (l : Listing) (r : Result Placement Refusal) → new.judged m s.venue ≡ r
           → Decided (MayBy (message.NewOrder m)) (new.ordered line m t l r)
       ordered l (Err e) h = (refl, tt)
-      ordered l (Ok p) h = let f = new_judged m s.venue _ p h in ((refl, f.0, f.1), tt)
+      ordered l (Ok p) h = ((refl, new_judged m s.venue _ p h, tt), tt)
 
   cancel_fits : (m : OrderCancelRequest) (t : Time) (spare : ℕ)
       → Decided (MayBy (message.OrderCancelRequest m)) (cancels.cancel line m t s.venue spare)
@@ -350,8 +331,7 @@ module _ (s : State) (line : ℕ) where
           → Decided (MayBy (message.OrderCancelReplaceRequest m)) (replaces.replaced line m t l r)
       replaced l (Err e) h = (refl, tt)
       replaced l (Ok r) h =
-          let (q, is) = of_row m _ r h in
-          ((λ n. refl, q, own_served _ (replaces.named_by line l m) r.order refl is), tt)
+          ((λ n. refl, tt, own_served _ (replaces.named_by line l m) r.order refl (of_row m _ r h)), tt)
 
   module _ (m : OrderMassCancelRequest) (t : Time) (spare : ℕ) where
     abbrev Massed : Decision → Type 0

@@ -1,6 +1,6 @@
 -- The ways that a call can end: what holds of the state before it, and of what it made of it. Assumes nothing.
 use Rattle.std.specs.Prelude.{nat_lt}
-use Rattle.std.proofs.Common.{◌≡◌, ℕ, ◌<◌, Bool, true, false, cond, List, Some, None, Option, Result, length, refl, sym, subst, ltb-true}
+use Rattle.std.proofs.Common.{◌≡◌, ℕ, ◌<◌, Bool, true, false, cond, List, [], Some, None, Option, Result, length, refl, sym, subst, ltb-true}
 use Rattle.std.specs.Option.{option_or}
 use Rattle.gateway.specs.Calls.{Hands, Handed}
 use Rattle.gateway.specs.Doing.{acted}
@@ -10,6 +10,7 @@ use Rattle.gateway.specs.declared.fault.GatewayFault.{GatewayFault}
 use Rattle.gateway.specs.declared.fault.GatewayFault.TheVariants.{ShortBuffer, NoSuchLine}
 use Rattle.keyed.proofs.Under.{none-some}
 use Rattle.layout.specs.declared.fault.Fault.{Fault}
+use Rattle.venue.specs.Acts.{Act}
 use Rattle.wire.specs.Messages.{Reads, verdict}
 use Rattle.wire.specs.declared.message.TheConstants.{BUFFER}
 use Rattle.wire.specs.declared.message.Message.{Message}
@@ -38,30 +39,40 @@ first_none (Some x) g e = e
 
 -- ---- the ways to end
 
-module _ (P : State → Type 0) (s : State) (same : P s) where
-  unchanged : (w : State) → w ≡ s → P w
-  unchanged w e = subst P (sym e) same
-
+-- what follows of each way to end follows of the call
+module _ (G : State → List Act → Type 0) (P : Type 0) (s : State) (idle : G s [] → P) where
   -- a message is refused, or was read and did what it does
+  module _ (g : Given) (r : Result ℕ GatewayFault) (out : List ℕ)
+      (does : (m : Message) → call_fault (length g.buffer) g.line s ≡ None → Reads (reader_of g.channel) g.bytes m
+      → Settled G (outcome_of g.channel g.line m g.time g.spare s) g.buffer r out → P) where
+    read_ends : (o : Option Fault) → call_fault (length g.buffer) g.line s ≡ None → Read G o g s r out → P
+    read_ends (Some f) k (x, e, y) = idle e
+    read_ends None k (m, reads, h) = does m k reads h
+
+    checked_ends : (o : Option GatewayFault) → call_fault (length g.buffer) g.line s ≡ o → Checked G o g s r out → P
+    checked_ends (Some f) k (x, e, y) = idle e
+    checked_ends None k h = read_ends (verdict (reader_of g.channel) g.bytes) k h
+
+    pub hears_ends : Hears G g s r out → P
+    hears_ends h = checked_ends (call_fault (length g.buffer) g.line s) refl h
+
+  -- nothing is handed out, or what is
+  pub hands_ends : (o : Option GatewayFault) (p : Handed) (buffer : List ℕ) (r : Result ℕ GatewayFault) (out : List ℕ)
+      → (G p.after [] → P) → Hands G o p s buffer r out → P
+  hands_ends (Some f) p buffer r out after (x, e, y) = idle e
+  hands_ends None p buffer r out after (x, e, y) = after e
+
+-- so what holds of the state before the call and of what it made of it holds of the state after it
+module _ (P : State → Type 0) (s : State) (same : P s) where
   module _ (g : Given) (r : Result ℕ GatewayFault) (w : State) (out : List ℕ)
       (does : (m : Message) → call_fault (length g.buffer) g.line s ≡ None → Reads (reader_of g.channel) g.bytes m
       → Settled (λ u acts. w ≡ acted g.time acts u) (outcome_of g.channel g.line m g.time g.spare s) g.buffer r out
       → P w) where
-    read_by : (o : Option Fault) → call_fault (length g.buffer) g.line s ≡ None
-        → Read (λ u acts. w ≡ acted g.time acts u) o g s r out → P w
-    read_by (Some f) k (x, e, y) = unchanged w e
-    read_by None k (m, reads, h) = does m k reads h
-
-    checked_by : (o : Option GatewayFault) → call_fault (length g.buffer) g.line s ≡ o
-        → Checked (λ u acts. w ≡ acted g.time acts u) o g s r out → P w
-    checked_by (Some f) k (x, e, y) = unchanged w e
-    checked_by None k h = read_by (verdict (reader_of g.channel) g.bytes) k h
-
     pub hears_by : Hears (λ u acts. w ≡ acted g.time acts u) g s r out → P w
-    hears_by h = checked_by (call_fault (length g.buffer) g.line s) refl h
+    hears_by h =
+        hears_ends (λ u acts. w ≡ acted g.time acts u) (P w) s (λ e. subst P (sym e) same) g r out does h
 
-  -- nothing is handed out, or what is
   pub hands_by : (o : Option GatewayFault) (p : Handed) (buffer : List ℕ) (r : Result ℕ GatewayFault) (w : State)
       (out : List ℕ) → P p.after → Hands (λ u acts. w ≡ u) o p s buffer r out → P w
-  hands_by (Some f) p buffer r w out after (x, e, y) = unchanged w e
-  hands_by None p buffer r w out after (x, e, y) = subst P (sym e) after
+  hands_by o p buffer r w out after h =
+      hands_ends (λ u acts. w ≡ u) (P w) s (λ e. subst P (sym e) same) o p buffer r out (λ e. subst P (sym e) after) h

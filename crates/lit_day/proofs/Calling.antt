@@ -1,7 +1,7 @@
 -- Each call on a gateway over the lit book: the book follows it, and a trade that it reports is fair. Assumes nothing.
 use Rattle.std.specs.FinMap.{len}
 use Rattle.std.specs.List.{AllByRecursion}
-use Rattle.std.proofs.Common.{◌≡◌, ℕ, zero, suc, true, eqb, arith, List, [], ◌∷◌, ◌++◌, Some, None, Option, Ok, Err, Result, length, refl, sym, ap, ◌∙◌, subst}
+use Rattle.std.proofs.Common.{◌≡◌, ℕ, zero, suc, arith, List, [], ◌∷◌, Some, None, Option, Ok, Err, Result, length, refl, sym, ap, ◌∙◌, subst}
 use Rattle.gateway_runs.specs.declared.call.Done.{Done}
 use Rattle.gateway_runs.specs.declared.call.Done.TheVariants as done
 use Rattle.both_ends.specs.Both.{Begins}
@@ -17,7 +17,7 @@ use Rattle.gateway_runs.specs.Runs.{Does, Runs, giving}
 use Rattle.lit_book.proofs.Fairs.{served}
 use Rattle.lit_book.proofs.Tables.{count}
 use Rattle.lit_book.specs.Books.{LitDid, lit, lit_meaning, table}
-use Rattle.lit_book.specs.Lists.{order_in, orders_of}
+use Rattle.lit_book.specs.Lists.{order_in}
 use Rattle.lit_book.specs.declared.book.LitBook.{LitBook}
 use Rattle.lit_book.specs.declared.order.Order.{Order}
 use Rattle.lit_day.proofs.Acting.{MayDo, acts_follow, all_of, apart_in}

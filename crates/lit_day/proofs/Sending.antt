@@ -10,8 +10,7 @@ use Rattle.gateway.specs.Hearing.{answered, outcome_of, rejection, requested_as}
 use Rattle.gateway.specs.Lines.{ends_of}
 use Rattle.gateway.specs.State.{State, session}
 use Rattle.answers.specs.declared.answer.Reason.TheVariants as reason
-use Rattle.gateway_runs.proofs.Fitting.{Fits, ends_fit, outcome_fits}
-use Rattle.gateway_runs.specs.Conservation.{MayBy, MayLose}
+use Rattle.gateway_runs.proofs.Fitting.{Fits, MayBy, ends_fit, outcome_fits}
 use Rattle.lit_day.proofs.Acting.{MayAlter, MayDo}
 use Rattle.order_messages.specs.declared.order_cancel_replace_request.OrderCancelReplaceRequest.{OrderCancelReplaceRequest}
 use Rattle.orders.specs.Orders.{replace_fault}
@@ -120,15 +119,8 @@ each_may : (may : Change → Type 0) (s : State) (line : ℕ) → ((c : Change) 
 each_may may s line k [] f = tt
 each_may may s line k (a ∷ acts) (x, f) = (fit_may may s line k a x, each_may may s line k acts f)
 
-lost_may : (c : Change) → MayLose c → MayAlter c
-lost_may (Accept s a) f = tt
-lost_may (Replace a) f = absurd f
-lost_may (Withdraw e c) f = tt
-lost_may (Fill x) f = absurd f
-lost_may (Undo u) f = tt
-
 pub ends_may : (s : State) (line : ℕ) → AllByRecursion MayDo (ends_of line s)
-ends_may s line = each_may MayLose s line lost_may (ends_of line s) (ends_fit s line MayLose (λ e i. tt))
+ends_may s line = each_may MayAlter s line (λ c f. f) (ends_of line s) (ends_fit s line MayAlter (λ e i. tt))
 
 -- a message that is no Replace
 abbrev Plain : Message → Type 0
