@@ -7,7 +7,6 @@ ghost use Rattle.both_ends.specs.Asking.{made};
 ghost use Rattle.both_ends.specs.Both.{IsLast};
 ghost use Rattle.both_ends.specs.Deciding.{verdict};
 ghost use Rattle.both_ends.specs.declared.entry.Step.TheVariants.{Ask, Make};
-ghost use Rattle.keyed.specs.Numbers.{under};
 
 use crate::opening::{Engine, Opening, Shelf};
 use crate::show;
