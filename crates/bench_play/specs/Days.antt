@@ -3,7 +3,9 @@ use Rattle.std.specs.Prelude.{◌≡◌, List, [], ◌∷◌, ◌++◌}
 use Rattle.both_ends.specs.Asking.{made, step_of}
 use Rattle.both_ends.specs.Runs.{Desk}
 use Rattle.both_ends.specs.declared.entry.Entry.{Entry}
+use Rattle.both_ends.specs.declared.entry.Entry.TheVariants.{Asked}
 use Rattle.both_ends.specs.declared.entry.Step.{Step}
+use Rattle.bench_play.specs.Tables.{answer}
 use Rattle.bench_play.specs.declared.day.Day.{Day}
 use Rattle.bench_play.specs.declared.day.Day.TheVariants.{LitRecords, LitWire, TapeRecords, TapeWire}
 use Rattle.bench_play.specs.declared.tables.Look.{Look}
@@ -27,6 +29,13 @@ desk_of (LitRecords b) = b.desk
 desk_of (LitWire b) = b.desk
 desk_of (TapeRecords b) = b.desk
 desk_of (TapeWire b) = b.desk
+
+-- a question was kept with its answer, as both ends show it, and they stay
+pub record Answers (q : Look) (a : Shown) (b e : Day) : Type 0 where
+  pub answer_is : a ≡ answer q (state_of b) (desk_of b).follower
+  pub log : log_of e ≡ log_of b ++ Asked q a ∷ []
+  pub gateway : state_of e ≡ state_of b
+  pub desk : desk_of e ≡ desk_of b
 
 -- a step was taken, and kept with what came back
 pub record Keeps (step : Step Look) (b e : Day) : Type 0 where

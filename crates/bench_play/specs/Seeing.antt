@@ -1,12 +1,18 @@
 -- What a desk says of its follower. Assumes nothing.
-use Rattle.std.specs.Prelude.{Bool, true, false, length}
+use Rattle.std.specs.Prelude.{ℕ, Bool, true, false, Some, None, Option, length, ◌==◌, if◌then◌else◌}
+use Rattle.std.specs.Option.{option_map}
 use Rattle.codes.specs.Report.{status_code}
 use Rattle.codes.specs.Session.{partition_code}
 use Rattle.codes.specs.declared.session.Partition.{Partition}
 use Rattle.reports.specs.declared.standing.Standing.{Standing}
+use Rattle.bench_play.specs.declared.tables.Shown.{Shown}
+use Rattle.bench_play.specs.declared.tables.Shown.TheVariants as shown
 use Rattle.follower.specs.declared.side.Side.{Side}
 use Rattle.follower.specs.declared.side.State.{State}
 use Rattle.follower.specs.declared.side.State.TheVariants.{Level, Behind}
+use Rattle.orders.specs.Rows.{status_of}
+use Rattle.orders.specs.declared.row.Row.{Row}
+use Rattle.bench_account.specs.declared.compared.Compared.{Compared}
 use Rattle.bench_account.specs.declared.compared.Seen.{Seen}
 use Rattle.bench_account.specs.declared.listing.Place.{Place}
 
@@ -18,6 +24,19 @@ is_level Behind = false
 abbrev pub seen_as : Standing → Seen
 seen_as s = record { status = status_code s.status; executed = s.executed; leaves = s.leaves }
 
+-- an order on both sides
+abbrev pub compared_of : Row → Option Standing → Compared
+compared_of r o = record {
+  number = r.number;
+  gateway = record { status = status_code (status_of r); executed = r.executed; leaves = r.leaves };
+  follower = option_map seen_as o;
+}
+
+-- where it is one of the line's CompID
+abbrev pub hers_of : ℕ → Option Row → Option Standing → Option (Row × Compared)
+hers_of line None o = None
+hers_of line (Some r) o = if r.terms.owner == line then Some (r, compared_of r o) else None
+
 -- how far it is in a partition
 abbrev pub place_of : Partition → Side → Place
 place_of p s = record {
@@ -26,3 +45,9 @@ place_of p s = record {
   level = is_level s.state;
   held = length s.hold;
 }
+
+-- by what both ends show of it; of an order they show no place
+abbrev pub place_shown : Partition → Shown → Place
+place_shown p (shown.Partition n s held) =
+    record { partition = partition_code p; number = n; level = is_level s; held = held }
+place_shown p (shown.Order r o) = record { partition = partition_code p; number = 0; level = false; held = 0 }

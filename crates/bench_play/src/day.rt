@@ -1,12 +1,12 @@
 // A day of both ends, over either engine and either store.
 ghost use Rattle.std.specs.Prelude.{◌≡◌, IfOk, IsOk, OnOk, OnErr};
-ghost use Rattle.bench_play.specs.Days.{Keeps, desk_of, log_of, state_of};
+ghost use Rattle.bench_play.specs.Days.{Answers, Keeps, desk_of, log_of, state_of};
 ghost use Rattle.both_ends.specs.Agreement.{Agrees};
 ghost use Rattle.both_ends.specs.Allowed.{after_log, quiet};
 ghost use Rattle.both_ends.specs.Asking.{made};
 ghost use Rattle.both_ends.specs.Both.{IsLast};
 ghost use Rattle.both_ends.specs.Deciding.{verdict};
-ghost use Rattle.both_ends.specs.declared.entry.Step.TheVariants.{Ask, Make};
+ghost use Rattle.both_ends.specs.declared.entry.Step.TheVariants.{Make};
 
 use crate::opening::{Engine, Opening, Shelf};
 use crate::show;
@@ -101,9 +101,10 @@ impl Day {
         of_day!(self, both => both.make(call))
     }
 
-    /// Asks both ends for a part of their tables, and keeps the answer.
-    pub fn ask(&mut self, question: Look) -> Result<(), AllocError>
-        ensures made { OnOk result (Keeps (Ask question) self.old self.new) }
+    /// Asks both ends for a part of their tables, keeps the answer and hands it out. Its one error is want of memory; then
+    /// nothing is kept.
+    pub fn ask(&mut self, question: Look) -> Result<Shown, AllocError>
+        ensures answered { IfOk result (λ a. Answers question a self.old self.new) }
         ensures error { OnErr result (self.new ≡ self.old) }
     {
         of_day!(self, both => both.ask(question))

@@ -1,13 +1,16 @@
 // Both ends of the line that is followed, side by side.
-ghost use Rattle.std.specs.Prelude.{◌≡◌};
-ghost use Rattle.bench_play.specs.Seeing.{is_level, seen_as};
+ghost use Rattle.std.specs.Prelude.{◌≡◌, IfOk};
+ghost use Rattle.std.specs.FinMap.{get};
+ghost use Rattle.bench_play.specs.Days.{desk_of, state_of};
+ghost use Rattle.bench_play.specs.Seeing.{compared_of, hers_of, is_level, place_of, place_shown, seen_as};
+ghost use Rattle.keyed.specs.Numbers.{under};
+ghost use Rattle.partitions.specs.PerPartition.{at};
 
 use crate::day::Day;
 use crate::tables::{Look, Shown};
 use bench_account::compared::{Compared, Seen};
 use bench_account::listing::{Followed, Place};
 use bench_account::verdict::{Part, Verdict};
-use both_ends::entry::Entry;
 use codes::code::Code;
 use codes::session::Partition;
 use follower::side::State;
@@ -35,51 +38,68 @@ fn seen(standing: Standing) -> Seen
     }
 }
 
-fn compared(order: Order, standing: Option<Standing>) -> Compared {
+fn compared(order: Order, standing: Option<Standing>) -> Compared
+    ensures { result ≡ compared_of order standing }
+{
     let row = order.row();
     let gateway = Seen {
         status: order.status().byte(),
         executed: row.executed,
         leaves: row.leaves,
     };
-    let follower = match standing {
-        Some(standing) => Some(seen(standing)),
-        None => None,
-    };
     Compared {
         number: row.number,
         gateway,
-        follower,
+        follower: standing.map(seen),
     }
 }
 
-// An order of the line's CompID on both sides; none where there is no such order.
-fn look(day: &mut Day, line: usize, number: u64) -> Result<Option<(Order, Compared)>, AllocError> {
-    day.ask(Look::Order(number))?;
-    match day.last() {
-        Some(Entry::Asked(_, Shown::Order(Some(order), standing)))
-            if order.row().terms.owner == line => {
-            Ok(Some((*order, compared(*order, *standing))))
+// An order of the line's CompID on both sides; none where there is no such order. Both ends stay.
+fn look(day: &mut Day, line: usize, number: u64) -> Result<Option<(Order, Compared)>, AllocError>
+    ensures seen { IfOk result (λ o. o ≡ hers_of line
+        (under (state_of day.old).venue.rows number) (get (desk_of day.old).follower.standings number)) }
+    ensures gateway { IfOk result (λ _. state_of day.new ≡ state_of day.old) }
+    ensures desk { IfOk result (λ _. desk_of day.new ≡ desk_of day.old) }
+{
+    match day.ask(Look::Order(number))? {
+        Shown::Order(Some(order), standing) if order.row().terms.owner == line => {
+            Ok(Some((order, compared(order, standing))))
         }
         _ => Ok(None),
     }
 }
 
-// How far the follower is in a partition.
-fn place_in(day: &mut Day, partition: Partition) -> Result<Place, AllocError> {
-    day.ask(Look::Partition(partition))?;
-    let (number, level, held) = match day.last() {
-        Some(Entry::Asked(_, Shown::Partition { place, state, held })) => {
-            (*place, is_level(*state), *held)
-        }
-        _ => (0, false, 0),
-    };
-    Ok(Place {
-        partition: partition.byte(),
-        number,
-        level,
-        held,
-    })
+// How far the follower is in a partition, by what it shows of it.
+fn place_shown(partition: Partition, shown: Shown) -> Place
+    ensures { result ≡ place_shown partition shown }
+{
+    let partition = partition.byte();
+    match shown {
+        Shown::Partition { place, state, held } => Place {
+            partition,
+            number: place,
+            level: is_level(state),
+            held,
+        },
+        Shown::Order(..) => Place {
+            partition,
+            number: 0,
+            level: false,
+            held: 0,
+        },
+    }
+}
+
+// The same, asked of both ends, which stay.
+fn place_in(day: &mut Day, partition: Partition) -> Result<Place, AllocError>
+    ensures place { IfOk result (λ p. p ≡ place_of partition (at (desk_of day.old).follower.sides partition)) }
+    ensures gateway { IfOk result (λ _. state_of day.new ≡ state_of day.old) }
+    ensures desk { IfOk result (λ _. desk_of day.new ≡ desk_of day.old) }
+{
+    match day.ask(Look::Partition(partition)) {
+        Ok(shown) => Ok(place_shown(partition, shown)),
+        Err(error) => Err(error),
+    }
 }
 
 /// How far the follower is in each partition.

@@ -8,6 +8,7 @@ use Rattle.both_ends.specs.Agreement.{EndsAgree}
 use Rattle.both_ends.specs.Asking.{Answer, Goes, Takes, made, step_of}
 use Rattle.both_ends.specs.Runs.{Desk, fresh, venue_log}
 use Rattle.both_ends.specs.declared.entry.Entry.{Entry}
+use Rattle.both_ends.specs.declared.entry.Entry.TheVariants.{Asked as Kept}
 use Rattle.both_ends.specs.declared.entry.Step.{Step}
 use Rattle.follower.specs.Owing.{Tied}
 use Rattle.gateway.specs.State.{State, fresh as fresh_state}
@@ -47,6 +48,13 @@ module _ {M Q A : Type 0} (meaning : M → Meaning) (did : M → Asked → M →
     pub asked : Runs did first (venue_log (made b.log)) b.gateway
     pub conserves : Conserves first.state (venue_log (made b.log)) b.gateway.state
     pub agrees : EndsAgree (made b.log) b.gateway.state b.desk
+
+-- a question is kept with its answer, which is its definition's, and both ends stay
+pub record Answers {M Q A : Type 0} (answer : Answer Q A) (q : Q) (a : A) (b e : Ends M Q A) : Type 0 where
+  pub answer_is : a ≡ answer q b.gateway.state b.desk.follower
+  pub log : e.log ≡ b.log ++ Kept q a ∷ []
+  pub gateway : e.gateway ≡ b.gateway
+  pub desk : e.desk ≡ b.desk
 
 module _ {M Q A : Type 0} (did : M → Asked → M → Type 0) (answer : Answer Q A) where
   -- a step is taken, and kept with what came back

@@ -10,7 +10,7 @@ use std::alloc::{AllocError, Global};
 use store::Store;
 
 /// A question, whose answer is a function of what both ends show.
-pub trait Question<A>: Drop {
+pub trait Question<A: Copy>: Drop {
     /// The answer.
     ghost answer: { Self → State → Following → A };
 

@@ -3,7 +3,7 @@ ghost use Rattle.std.specs.Prelude.{◌≡◌, [], IfOk, IsOk, OnOk, OnErr};
 ghost use Rattle.both_ends.specs.Agreement.{Agrees};
 ghost use Rattle.both_ends.specs.Allowed.{after_log, quiet};
 ghost use Rattle.both_ends.specs.Asking.{made};
-ghost use Rattle.both_ends.specs.Both.{Holds, IsLast, Steps, StepsAll, StepsFront};
+ghost use Rattle.both_ends.specs.Both.{Answers, Holds, IsLast, Steps, StepsAll, StepsFront};
 ghost use Rattle.both_ends.specs.Deciding.{verdict};
 ghost use Rattle.both_ends.specs.Runs.{fresh};
 ghost use Rattle.gateway.specs.Starting.{Starts, is_new, opened};
@@ -28,7 +28,7 @@ use store::Store;
 /// A gateway and a desk's follower, the token of a download that is owed, and the log: what both were given to do, in
 /// order, with what came back. In a contract these values; its type says that the log leads from a start to what it
 /// holds. Where it is let go the line is lost for good, so that nothing stays owed.
-pub struct BothEnds<M: Matcher, S: Store, Q: Question<A>, A: Drop> {
+pub struct BothEnds<M: Matcher, S: Store, Q: Question<A>, A: Copy> {
     gateway: Gateway<M, S>,
     follower: Follower,
     token: Pending,
@@ -36,7 +36,7 @@ pub struct BothEnds<M: Matcher, S: Store, Q: Question<A>, A: Drop> {
     heap: Global,
 }
 
-impl<M: Matcher, S: Store, Q: Question<A>, A: Drop> Model for BothEnds<M, S, Q, A> {
+impl<M: Matcher, S: Store, Q: Question<A>, A: Copy> Model for BothEnds<M, S, Q, A> {
     ghost use Rattle.std.specs.Coded.{codes};
     ghost use Rattle.std.specs.FinMap as map;
     ghost use Rattle.both_ends.specs.Both.{Ends, Ran};
@@ -58,7 +58,7 @@ impl<M: Matcher, S: Store, Q: Question<A>, A: Drop> Model for BothEnds<M, S, Q, 
     }) };
 }
 
-impl<M: Matcher, S: Store, Q: Question<A>, A: Drop> BothEnds<M, S, Q, A> {
+impl<M: Matcher, S: Store, Q: Question<A>, A: Copy> BothEnds<M, S, Q, A> {
     /// Starts both ends, with nothing in the log. Refused exactly as a gateway's start is: with 61 where the matcher holds
     /// an order or the store a report, and without a number where memory is short. Matcher and store are then given back.
     pub fn start(
@@ -119,16 +119,17 @@ impl<M: Matcher, S: Store, Q: Question<A>, A: Drop> BothEnds<M, S, Q, A> {
         Ok(())
     }
 
-    /// Asks a question, and keeps it in the log with its answer; both ends stay as they are. Its one error is want of
-    /// memory; then nothing is kept.
-    pub fn ask(&mut self, question: Q) -> Result<(), AllocError>
-        ensures made { OnOk result (Steps M.Did Q.answer (Ask question) self.old self.new) }
+    /// Asks a question, keeps it in the log with its answer, and hands the answer out; both ends stay as they are. Its one
+    /// error is want of memory; then nothing is kept.
+    pub fn ask(&mut self, question: Q) -> Result<A, AllocError>
+        ensures answered { IfOk result (λ a. Answers Q.answer question a self.old self.new) }
+        ensures made { IfOk result (λ _. Steps M.Did Q.answer (Ask question) self.old self.new) }
         ensures error { OnErr result (self.new ≡ self.old) }
     {
         self.log.reserve(1)?;
         let answer = question.ask(self.heap, &self.gateway, &self.follower)?;
         self.log.push_reserved(Entry::Asked(question, answer));
-        Ok(())
+        Ok(answer)
     }
 
     /// Takes one step: makes a call, or asks a question, with the same error.
@@ -138,7 +139,10 @@ impl<M: Matcher, S: Store, Q: Question<A>, A: Drop> BothEnds<M, S, Q, A> {
     {
         match step {
             Step::Make(call) => self.make(call),
-            Step::Ask(question) => self.ask(question),
+            Step::Ask(question) => {
+                let _answer = self.ask(question)?;
+                Ok(())
+            }
         }
     }
 
@@ -209,7 +213,7 @@ impl<M: Matcher, S: Store, Q: Question<A>, A: Drop> BothEnds<M, S, Q, A> {
     }
 }
 
-impl<M: Matcher + Drop, S: Store + Drop, Q: Question<A>, A: Drop> BothEnds<M, S, Q, A> {
+impl<M: Matcher + Drop, S: Store + Drop, Q: Question<A>, A: Copy> BothEnds<M, S, Q, A> {
     fn close(self) {
         let BothEnds {
             gateway,
@@ -225,7 +229,7 @@ impl<M: Matcher + Drop, S: Store + Drop, Q: Question<A>, A: Drop> BothEnds<M, S,
     }
 }
 
-impl<M: Matcher + Drop, S: Store + Drop, Q: Question<A>, A: Drop> Drop for BothEnds<M, S, Q, A> {
+impl<M: Matcher + Drop, S: Store + Drop, Q: Question<A>, A: Copy> Drop for BothEnds<M, S, Q, A> {
     /// What is owed ends: the line is lost for good.
     fn drop(self) {
         self.close();

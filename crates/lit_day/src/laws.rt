@@ -12,7 +12,7 @@ use store::Store;
 /// each trade that was reported is between two of the gateway's own orders, of opposite sides and one instrument, with as
 /// much open and at a price within both limits, and passed over no order at rest that was better priced, or as good and
 /// earlier.
-pub fn trades_are_fair<S: Store, Q: Question<A>, A: Drop>(both: &BothEnds<LitBook, S, Q, A>)
+pub fn trades_are_fair<S: Store, Q: Question<A>, A: Copy>(both: &BothEnds<LitBook, S, Q, A>)
     ensures { TradesFairly (venue_log (made both.now.log)) both.now.gateway }
 {
     both.law();
