@@ -12,16 +12,18 @@ use Rattle.both_ends.proofs.Carrying.{Flows}
 use Rattle.both_ends.proofs.Caught.{begins, shown}
 use Rattle.both_ends.proofs.Flights.{Passed}
 use Rattle.both_ends.proofs.Follows.{up_of, to_up, to_ready, to_away, Went, same_ok, ok_err, given_live_keeps, given_recovered_keeps}
-use Rattle.both_ends.proofs.Keeping.{Keeps, Phase, Ready, Up, Still, Staged, Sided, SidedBy, Taking, Flowing, keeps_taken}
+use Rattle.both_ends.proofs.Keeping.{Keeps, Phase, Ready, Up, Still, Staged, Channelled, Sided, SidedBy, Taking, Flowing, channelled_on, keeps_taken}
 use Rattle.both_ends.proofs.Living.{place_in, tallied_as}
 use Rattle.both_ends.proofs.Refusals.{refused_stays}
 use Rattle.both_ends.proofs.Requested.{request_long}
-use Rattle.both_ends.proofs.Serves.{quietly, real_time, recovery, sends_on, recovers_on}
+use Rattle.both_ends.proofs.Serves.{quietly, real_time, recovery_given, sends_on, recovers_on}
 use Rattle.both_ends.specs.Agreement.{Agrees, AllTaken, SameOrders, Taken, Takes, HeardAs, Took, is_hers, is_unfit, place, refuses_report}
-use Rattle.both_ends.specs.Allowed.{Allowed, Line, accepted, quiet, behind, after_logon, after_recovery, after_venue, after_up, after_ask, given_live, or_lost, after_call, after_log, onward}
+use Rattle.both_ends.specs.Allowed.{Allowed, Line, accepted, quiet, behind, after_logon, given_recovery, after_venue, after_up, after_ask, given_live, or_lost, after_call, after_log, onward}
 use Rattle.both_ends.specs.Laws.{is_full, state_of}
 use Rattle.both_ends.specs.Runs.{Desk, Does, Runs, Tells, moved, fresh}
 use Rattle.both_ends.specs.declared.allowed.Breach.TheVariants.{NoLogon}
+use Rattle.both_ends.specs.declared.opening.Opening.{Opening}
+use Rattle.both_ends.specs.declared.opening.Opening.TheVariants.{Awaited, Open, Failed}
 use Rattle.both_ends.specs.declared.call.Asked.{Asked}
 use Rattle.both_ends.specs.declared.call.Done.{Done}
 use Rattle.both_ends.specs.declared.call.Done.TheVariants as done
@@ -108,13 +110,12 @@ module _ (c : ℕ) (s : State) (d : Desk) (x : Line) (t : Taking) (k : Keeps c s
       by false q g = elsewhere (call.RealTime line m tm r) h (another line q) x' g
   venue_keeps (call.Recovery line m tm r) h told x' ok = by (eqb line c) refl ok
     where
-      by : (b : Bool) → eqb line c ≡ b → cond b (after_recovery (heard_in (bytes_of r)) (bytes_of r) m.items x) (Ok x)
-          ≡ Ok x' → Keeps c w d x' t
+      by : (b : Bool) → eqb line c ≡ b → cond b (given_recovery x.opening m.items r x) (Ok x) ≡ Ok x' → Keeps c w d x' t
       by true q g =
           let h' : venue.Turns s (call.Recovery c m tm r) w = subst (λ i. venue.Turns s (call.Recovery i m tm r) w)
           (eqb-true line c q) h in
-          recovery c s d x t k w (grown (call.Recovery c m tm r) h') sound few (bytes_of r) m.items
-          (effect_recovery c s m tm r w h') x' g
+          recovery_given c s d x t k w (grown (call.Recovery c m tm r) h') sound few m.items r
+          (effect_recovery c s m tm r w h') x.opening refl x' g
       by false q g = elsewhere (call.Recovery line m tm r) h (another line q) x' g
   venue_keeps (call.Step tm r) h told x' ok = elsewhere (call.Step tm r) h (λ e. cc) x' ok
   venue_keeps (call.CancelTrade n tm r) h told x' ok = elsewhere (call.CancelTrade n tm r) h (λ e. cc) x' ok
@@ -177,6 +178,14 @@ module _ (c : ℕ) (s : State) (d : Desk) (x : Line) (t : Taking) (k : Keeps c s
         ≡ place d p = turned_place up d.follower p in omega (arith, a, z);
   }
 
+  turned_still : (up : Bool) (y : PerPartition ℕ) (r u : Bool)
+      → Channelled x.opening stage.Idle c s.venue.kept (place d) y (download (session s c)) x
+      → Channelled x.opening stage.Idle c s.venue.kept (place_in (turned up d.follower)) y (download (session s c))
+      (record x { ready = r; up = u })
+  turned_still up y r u st =
+      channelled_on x.opening stage.Idle c s.venue.kept s.venue.kept (place d) (place_in (turned up d.follower)) y y
+      (download (session s c)) (download (session s c)) x (record x { ready = r; up = u }) refl refl (λ e. e) (λ z. z) st
+
   turned_keeps : (up : Bool) (x' : Line) → x'.up ≡ up
       → Phase x'.ready x'.up c s.venue.kept (session s c) (turned up d.follower) (place_in (turned up d.follower)) x' t
       → Keeps c s (turned_desk up) x' t
@@ -210,7 +219,7 @@ module _ (c : ℕ) (s : State) (d : Desk) (x : Line) (t : Taking) (k : Keeps c s
         flowing = turned_flowing true z.y (record x { ready = false; up = true }) refl z.flowing;
         bases = z.flowing.within;
         sides = sides z.y;
-        staged = z.still;
+        staged = turned_still true z.y false true z.still;
       }
 
       by : (r u : Bool) → x.ready ≡ r → Phase r u c s.venue.kept (session s c) d.follower (place d) x t → after_up r x
@@ -242,7 +251,7 @@ module _ (c : ℕ) (s : State) (d : Desk) (x : Line) (t : Taking) (k : Keeps c s
             y = ph.y;
             flowing = turned_flowing false ph.y
                 (record x { up = false }) refl ph.flowing;
-            still = ph.still;
+            still = turned_still false ph.y x.ready false ph.still;
           })
 
   -- ---- a request
@@ -289,8 +298,8 @@ module _ (c : ℕ) (s : State) (d : Desk) (x : Line) (t : Taking) (k : Keeps c s
   asked_for b n p e back token m is =
       let fr = free_of b n p e in
       let (r, u) = up_of c s.venue.kept (session s c) d.follower (place d) x t x.ready x.up (k.up ∙ fr.up) k.phase in
-      let st : Still (download (session s c)) x = subst
-      (λ g. Staged g c s.venue.kept (place d) u.b (download (session s c)) x) fr.idle u.staged in
+      let st = subst
+      (λ g. Channelled x.opening g c s.venue.kept (place d) u.b (download (session s c)) x) fr.idle u.staged in
       record {
         up = k.up;
         quiet = quiet fr.up;
@@ -306,21 +315,24 @@ module _ (c : ℕ) (s : State) (d : Desk) (x : Line) (t : Taking) (k : Keeps c s
               flowing = record { within = u.flowing.within; flows = u.flowing.flows; taken = u.flowing.taken };
               bases = u.bases;
               sides = u.sides;
-              staged = (
-                st.2,
-                inl (
-                  place d p,
-                  ap (λ ms. ms ++ m ∷ []) st.0 ∙ ap
-                      (λ y. y ∷ []) is,
-                  back,
-                  omega arith,
-                  st.1,
-                  st.3,
-                ),
-              );
+              staged = asks x.opening u.b st;
             });
       }
     where
+      waits : (b : PerPartition ℕ) → Still (download (session s c)) x
+          → Staged (stage.Asked p) c s.venue.kept (place d) b (download (session s c))
+          (record x { asked = x.asked ++ m ∷ [] })
+      waits b (a, r, ag, e) =
+          (ag, inl (place d p, ap (λ ms. ms ++ m ∷ []) a ∙ ap (λ y. y ∷ []) is, back, omega arith, r, e))
+
+      asks : (o : Opening) (b : PerPartition ℕ)
+          → Channelled o stage.Idle c s.venue.kept (place d) b (download (session s c)) x
+          → Channelled o (stage.Asked p) c s.venue.kept (place d) b (download (session s c))
+          (record x { asked = x.asked ++ m ∷ [] })
+      asks Awaited b (n, un, st) = (tt, un, waits b st)
+      asks Open b st = waits b st
+      asks Failed b (n, r, ag, e) = (tt, r, ag, e)
+
       quiet : d.follower.up ≡ true → Quiet (asked_desk p token).follower
       quiet up = record {
         level = k.quiet.level;

@@ -6,8 +6,8 @@ use Rattle.codes.specs.declared.session.Partition.{Partition}
 use Rattle.codes.specs.declared.session.Partition.TheVariants.{One, Two, Three}
 use Rattle.both_ends.proofs.Carrying.{held, Brings, Flows}
 use Rattle.both_ends.proofs.Flights.{Next}
-use Rattle.both_ends.proofs.Given.{same_bytes, Stands, Lives, lives, Recovers, acks, rejects, ends, reports, repeats}
-use Rattle.both_ends.proofs.Keeping.{Keeps, Phase, Ready, Up, Taking, keeps_taken}
+use Rattle.both_ends.proofs.Given.{same_bytes, Stands, Lives, lives, Recovers, acks, failed_acks, rejects, failed_rejects, ends, reports, repeats}
+use Rattle.both_ends.proofs.Keeping.{Keeps, Phase, Ready, Up, Taking, Channelled, Refuses, Refusing, channelled_on, keeps_taken}
 use Rattle.both_ends.proofs.Living.{place_in, Only, or_one, flowing_popped, tallied_as}
 use Rattle.both_ends.specs.Agreement.{is_hers, is_unfit, place, Taken, HeardAs}
 use Rattle.both_ends.specs.Allowed.{Line, next_of, out_of_turn, next_live, given_live, or_lost, repeated, next_report, next_other, given_recovered}
@@ -15,6 +15,8 @@ use Rattle.both_ends.specs.Laws.{is_full}
 use Rattle.both_ends.specs.Runs.{Desk}
 use Rattle.both_ends.specs.Tallied.{Tallied}
 use Rattle.both_ends.specs.declared.allowed.Breach.{Breach}
+use Rattle.both_ends.specs.declared.opening.Opening.{Opening}
+use Rattle.both_ends.specs.declared.opening.Opening.TheVariants.{Awaited, Open, Failed}
 use Rattle.both_ends.specs.declared.allowed.Breach.TheVariants.{LiveOutOfTurn, RecoveredOutOfTurn}
 use Rattle.follower.proofs.Quiets.{stays_quiet}
 use Rattle.follower.specs.Following.{Following, Step, turned, answered, refused, lived, recovering, live_step, recovered_step}
@@ -31,11 +33,13 @@ use Rattle.follower.specs.declared.heard.Heard.{Heard}
 use Rattle.follower.specs.declared.heard.Heard.TheVariants.{Report, Ack, End, Reject, Nothing}
 use Rattle.follower.specs.declared.heard.NumberedReport.{NumberedReport}
 use Rattle.follower.specs.declared.pending.Pending.{Pending}
+use Rattle.follower.specs.declared.stage.Stage.TheVariants.{Idle}
 use Rattle.gateway.specs.State.{State, session}
 use Rattle.layout.specs.declared.fault.Fault.{Fault}
 use Rattle.limits.specs.declared.TheConstants.{ORDERS}
 use Rattle.partitions.specs.PerPartition.{at, with_at}
 use Rattle.partitions.specs.declared.per_partition.PerPartition.{PerPartition}
+use Rattle.sessions.specs.Sessions.{download}
 use Rattle.sessions.specs.declared.session.Session.{Session}
 use Rattle.store.specs.Kept.{Kept}
 use Rattle.venue.specs.Books.{Sound}
@@ -213,7 +217,8 @@ module _ (c : ℕ) (s : State) (d : Desk) (x : Line) (t : Taking) (sound : Sound
               y = with_at z.y p w.n;
               flowing = flowing_popped c s.venue.kept (session s c) (place d) x m rest t none z.y p w.n w.next w.flows
                   (λ q i a. absurd a) z.flowing;
-              still = z.still;
+              still = channelled_on x.opening Idle c s.venue.kept s.venue.kept (place d) (place d) z.y (with_at z.y p w.n)
+                  (download (session s c)) (download (session s c)) x rest_line refl refl (λ g. g) (λ st. st) z.still;
             }
         by r true e z = absurd cc
 
@@ -421,11 +426,22 @@ module _ (c : ℕ) (s : State) (d : Desk) (x : Line) (t : Taking) (sound : Sound
   quiet_on : (h : Heard) → f.up ≡ true → Quiet (recovering f h).after
   quiet_on h up = subst (λ (a : Step Recovered). Quiet a.after) (is_on h up) (stays_quiet.recovers f (Ok h) k.quiet)
 
+  abbrev StillAt : PerPartition ℕ → Line → Type 0
+  StillAt b y = Channelled y.opening Idle c s.venue.kept (place d) b (download (session s c)) y
+
+  empty_front : {X : Type 0} (m : List ℕ) (rest : List (List ℕ)) → x.recovered ≡ m ∷ rest → x.recovered ≡ [] → X
+  empty_front m rest e z = absurd (let y : m ∷ rest ≡ [] = sym e ∙ z in cc)
+
+  refusing_front : (m : List ℕ) (rest : List (List ℕ)) → x.recovered ≡ m ∷ rest → Refusing x.recovered
+      → Refuses (heard_in m) × Refusing rest
+  refusing_front m rest e h = subst Refusing e h
+
   -- a follower that is not up takes nothing, and has nothing under way on the recovery channel; or no connection counts
-  off_still : (y : Line) (h : Heard) → f.up ≡ false → y.ready ≡ x.ready → y.up ≡ x.up → (x.recovered ≡ [] → y ≡ x)
+  off_still : (y : Line) (h : Heard) → f.up ≡ false → y.ready ≡ x.ready → y.up ≡ x.up → y.live ≡ x.live
+      → ((b : PerPartition ℕ) → StillAt b x → StillAt b y)
       → Goes c s (refused {A = Recovered} fault.NotUp f) y
       (or_one c s.venue.kept (session s c) t (took (refused {A = Recovered} fault.NotUp f) (Ok h)))
-  off_still y h dn er eu same = record {
+  off_still y h dn er eu el same = record {
     fits = refl;
     keeps = λ token. record {
       up = eu ∙ k.up;
@@ -452,17 +468,15 @@ module _ (c : ℕ) (s : State) (d : Desk) (x : Line) (t : Taking) (sound : Sound
       ready : Ready c s.venue.kept (session s c) (place d) x t
           → Ready c s.venue.kept (session s c) (place d) y (or_one c s.venue.kept (session s c) t none)
       ready z =
-          subst (λ l. Ready c s.venue.kept (session s c) (place d) l (or_one c s.venue.kept (session s c) t none))
-          (sym (same z.still.1))
-          (record {
+          record {
             y = z.y;
             flowing = record {
               within = z.flowing.within;
-              flows = z.flowing.flows;
+              flows = subst (λ ms. Flows c s.venue.kept (session s c).sent z.y ms) (sym el) z.flowing.flows;
               taken = λ p n i. z.flowing.taken p n (old p n i);
             };
-            still = z.still;
-          })
+            still = same z.y z.still;
+          }
 
       by : (r b : Bool) → b ≡ false → y.ready ≡ r → y.up ≡ b → Phase r b c s.venue.kept (session s c) f (place d) x t
           → Phase y.ready y.up c s.venue.kept (session s c) f (place d) y (or_one c s.venue.kept (session s c) t none)
@@ -477,11 +491,19 @@ module _ (c : ℕ) (s : State) (d : Desk) (x : Line) (t : Taking) (sound : Sound
   off_same h l dn e =
       subst (λ z. Goes c s (step_on h) z (or_one c s.venue.kept (session s c) t (took (step_on h) (Ok h)))) e
       (subst (λ a. Goes c s a x (or_one c s.venue.kept (session s c) t (took a (Ok h)))) (sym (is_off h dn))
-      (off_still x h dn refl refl (λ z. refl)))
+      (off_still x h dn refl refl refl (λ b z. z)))
 
   taken_none : {A : Type 0} (r : Result A FollowerFault) → Taken r ⊥ → ⊥
   taken_none (Ok a) h = h
   taken_none (Err e) h = h
+
+  abbrev ChannelledUp : Opening → UpNow → Type 0
+  ChannelledUp o u = Channelled o f.download c s.venue.kept (place_in f) u.b (download (session s c)) x
+
+  -- what comes of something that is no report and the next under way
+  abbrev Others : Heard → List (List ℕ) → Taking → Type 0
+  Others h rest w = Recovers c s.venue (session s c) sound few f (recovering f h)
+      (record x { recovered = rest; again = [] }) (or_one c s.venue.kept (session s c) t w)
 
   -- what is no report comes next
   other_came : (m : List ℕ) (h : Heard) → ((p : Partition) (n : ℕ) → HeardAs p n (Ok h) ≡ ⊥)
@@ -510,11 +532,21 @@ module _ (c : ℕ) (s : State) (d : Desk) (x : Line) (t : Taking) (sound : Sound
       (same_ok (record x { recovered = rest; again = [] }) x' (Ok (record x { recovered = rest; again = [] })) refl ok)
       (subst (λ a. Goes c s a (record x { recovered = rest; again = [] })
       (or_one c s.venue.kept (session s c) t (took a (Ok h)))) (sym (is_off h q))
-      (off_still (record x { recovered = rest; again = [] }) h q refl refl
-      (λ z. absurd (empty (sym (next_is m x.recovered rest e) ∙ z)))))
+      (off_still (record x { recovered = rest; again = [] }) h q refl refl refl
+      (λ b z. popped b x.opening refl z)))
     where
-      empty : m ∷ rest ≡ [] → ⊥
-      empty z = cc
+      front : x.recovered ≡ m ∷ rest
+      front = next_is m x.recovered rest e
+
+      popped : (b : PerPartition ℕ) (o : Opening) → x.opening ≡ o
+          → Channelled o Idle c s.venue.kept (place d) b (download (session s c)) x
+          → Channelled x.opening Idle c s.venue.kept (place d) b (download (session s c))
+          (record x { recovered = rest; again = [] })
+      popped b Awaited i (n, (r, a, z), st) = empty_front m rest front r
+      popped b Open i (a, r, g, z) = empty_front m rest front r
+      popped b Failed i (n, r, a, z) =
+          subst (λ o. Channelled o Idle c s.venue.kept (place d) b (download (session s c))
+          (record x { recovered = rest; again = [] })) (sym i) (n, (refusing_front m rest front r).1, refl, z)
 
   -- a report comes next, or again
   module _ (m : List ℕ) (p : Partition) (h : NumberedReport) (heard : heard_in m ≡ Ok (Report p h)) where
@@ -534,15 +566,45 @@ module _ (c : ℕ) (s : State) (d : Desk) (x : Line) (t : Taking) (sound : Sound
         let (e, g) = only_told a q i z in
         subst (λ r. is_hers c s r i ≡ true) e (subst (λ r. is_hers c s p r ≡ true) g w)
 
+    abbrev Told : Line → Type 0
+    Told y = Recovers c s.venue (session s c) sound few f (recovering f told) y
+        (or_one c s.venue.kept (session s c) t (took (recovering f told) (Ok told)))
+        × (is_hers c s p (number_of h) ≡ true)
+
+    -- where a Logon was no message only refusals are under way
+    comes_next : (u : UpNow) (rest : List (List ℕ)) → x.recovered ≡ m ∷ rest → (o : Opening) → x.opening ≡ o
+        → Channelled o f.download c s.venue.kept (place_in f) u.b (download (session s c)) x
+        → Told (record x { recovered = rest; again = m ∷ x.again })
+    comes_next u rest front Awaited i (n, (r, a, z), st) = empty_front m rest front r
+    comes_next u rest front Open i st = reports c s.venue (session s c) sound few f x m t
+        (took (recovering f told) (Ok told)) (stands u) p h heard (only_told (recovering f told)) i rest front f.download
+        refl st
+    comes_next u rest front Failed i (n, r, a, z) = absurd (subst Refuses heard (refusing_front m rest front r).0)
+
+    none_next : {X : Type 0} (b : PerPartition ℕ) (rest : List (List ℕ)) → x.recovered ≡ m ∷ rest → (o : Opening)
+        → Channelled o Idle c s.venue.kept (place d) b (download (session s c)) x → X
+    none_next b rest front Awaited (n, (r, a, z), st) = empty_front m rest front r
+    none_next b rest front Open (a, r, g, z) = empty_front m rest front r
+    none_next b rest front Failed (n, r, a, z) = absurd (subst Refuses heard (refusing_front m rest front r).0)
+
+    none_again : {X : Type 0} → list_any (bytes_eq m) x.again ≡ true → x.again ≡ [] → X
+    none_again w a = absurd (let z : list_any (bytes_eq m) [] ≡ true
+        = subst (λ y. list_any (bytes_eq m) y ≡ true) a w in cc)
+
+    comes_again : (u : UpNow) → list_any (bytes_eq m) x.again ≡ true → (o : Opening) → x.opening ≡ o
+        → Channelled o f.download c s.venue.kept (place_in f) u.b (download (session s c)) x → Told x
+    comes_again u w Awaited i (n, (r, a, z), st) = none_again w a
+    comes_again u w Open i st = repeats c s.venue (session s c) sound few f x m t (took (recovering f told) (Ok told))
+        (stands u) p h heard (only_told (recovering f told)) i w f.download refl st
+    comes_again u w Failed i (n, r, a, z) = none_again w a
+
     report_came : (o : Option (List (List ℕ))) → next_of m x.recovered ≡ o → (w : Bool) → list_any (bytes_eq m) x.again
         ≡ w → (x' : Line) → (b : Bool) → f.up ≡ b → next_report m o x ≡ Ok x'
         → Goes c s (step_on told) x' (or_one c s.venue.kept (session s c) t (took (step_on told) (Ok told)))
     report_came (Some rest) e w i x' true q ok =
         let y : Line = record x { recovered = rest; again = m ∷ x.again } in
         let u = now_up q in
-        let r = reports c s.venue (session s c) sound few f x m t (took (recovering f told) (Ok told))
-        (stands u) p h heard (only_told (recovering f told)) rest
-        (next_is m x.recovered rest e) f.download refl u.staged in
+        let r = comes_next u rest (next_is m x.recovered rest e) x.opening refl u.staged in
         subst (λ z. Goes c s (step_on told) z (or_one c s.venue.kept (session s c) t (took (step_on told) (Ok told))))
         (same_ok y x' (Ok y) refl ok)
         (subst (λ a. Goes c s a y (or_one c s.venue.kept (session s c) t (took a (Ok told)))) (sym (is_on told q))
@@ -553,14 +615,10 @@ module _ (c : ℕ) (s : State) (d : Desk) (x : Line) (t : Taking) (sound : Sound
         subst (λ z. Goes c s (step_on told) z (or_one c s.venue.kept (session s c) t (took (step_on told) (Ok told))))
         (same_ok y x' (Ok y) refl ok)
         (subst (λ a. Goes c s a y (or_one c s.venue.kept (session s c) t (took a (Ok told)))) (sym (is_off told q))
-        (off_still y told q refl refl (λ z. absurd (empty (sym (next_is m x.recovered rest e) ∙ z)))))
-      where
-        empty : m ∷ rest ≡ [] → ⊥
-        empty z = cc
+        (off_still y told q refl refl refl (λ b z. none_next b rest (next_is m x.recovered rest e) x.opening z)))
     report_came None e true i x' true q ok =
         let u = now_up q in
-        let r = repeats c s.venue (session s c) sound few f x m t (took (recovering f told) (Ok told))
-        (stands u) p h heard (only_told (recovering f told)) i f.download refl u.staged in
+        let r = comes_again u i x.opening refl u.staged in
         subst (λ z. Goes c s (step_on told) z (or_one c s.venue.kept (session s c) t (took (step_on told) (Ok told))))
         (same_ok x x' (repeated true x) refl (subst (λ z. repeated z x ≡ Ok x') i ok))
         (subst (λ a. Goes c s a x (or_one c s.venue.kept (session s c) t (took a (Ok told)))) (sym (is_on told q))
@@ -597,15 +655,40 @@ module _ (c : ℕ) (s : State) (d : Desk) (x : Line) (t : Taking) (sound : Sound
   given_recovered_keeps m (Ok (Report p h)) heard x' ok = report_came m p h heard (next_of m x.recovered) refl
       (list_any (bytes_eq m) x.again) refl x' f.up refl ok
   given_recovered_keeps m (Ok (Ack r)) heard x' ok =
-      other_came m (Ack r) (λ p n. refl) (λ u rest w front none. acks c s.venue (session s c) sound few f x m rest t w
-      (stands u) front none f.download u.staged r heard) (next_of m x.recovered) refl x' ok f.up refl
-  given_recovered_keeps m (Ok (End r)) heard x' ok =
-      other_came m (End r) (λ p n. refl) (λ u rest w front none. ends c s.venue (session s c) sound few f x m rest t w
-      (stands u) front none f.download u.staged r heard) (next_of m x.recovered) refl x' ok f.up refl
-  given_recovered_keeps m (Ok Reject) heard x' ok =
-      other_came m Reject (λ p n. refl) (λ u rest w front none. rejects c s.venue
-      (session s c) sound few f x m rest t w (stands u) front none f.download u.staged heard)
+      other_came m (Ack r) (λ p n. refl) (λ u rest w front none. by u rest w front none x.opening refl u.staged)
       (next_of m x.recovered) refl x' ok f.up refl
+    where
+      by : (u : UpNow) (rest : List (List ℕ)) (w : Taking) → x.recovered ≡ m ∷ rest
+          → ((p : Partition) (n : ℕ) → w p n → ⊥) → (o : Opening) → x.opening ≡ o → ChannelledUp o u
+          → Others (Ack r) rest w
+      by u rest w front none Awaited i (n, (e, a, z), st) = empty_front m rest front e
+      by u rest w front none Open i st = acks c s.venue (session s c) sound few f x m rest t w (stands u) front none i
+          f.download st r heard
+      by u rest w front none Failed i (n, e, a, z) = failed_acks c s.venue (session s c) sound few f x m rest t w
+          (stands u) front none i a e z f.download refl n r (subst Refuses heard (refusing_front m rest front e).0)
+  given_recovered_keeps m (Ok (End r)) heard x' ok =
+      other_came m (End r) (λ p n. refl) (λ u rest w front none. by u rest w front none x.opening refl u.staged)
+      (next_of m x.recovered) refl x' ok f.up refl
+    where
+      by : (u : UpNow) (rest : List (List ℕ)) (w : Taking) → x.recovered ≡ m ∷ rest
+          → ((p : Partition) (n : ℕ) → w p n → ⊥) → (o : Opening) → x.opening ≡ o → ChannelledUp o u
+          → Others (End r) rest w
+      by u rest w front none Awaited i (n, (e, a, z), st) = empty_front m rest front e
+      by u rest w front none Open i st = ends c s.venue (session s c) sound few f x m rest t w (stands u) front none i
+          f.download st r heard
+      by u rest w front none Failed i (n, e, a, z) = absurd (subst Refuses heard (refusing_front m rest front e).0)
+  given_recovered_keeps m (Ok Reject) heard x' ok =
+      other_came m Reject (λ p n. refl) (λ u rest w front none. by u rest w front none x.opening refl u.staged)
+      (next_of m x.recovered) refl x' ok f.up refl
+    where
+      by : (u : UpNow) (rest : List (List ℕ)) (w : Taking) → x.recovered ≡ m ∷ rest
+          → ((p : Partition) (n : ℕ) → w p n → ⊥) → (o : Opening) → x.opening ≡ o → ChannelledUp o u
+          → Others Reject rest w
+      by u rest w front none Awaited i (n, (e, a, z), st) = empty_front m rest front e
+      by u rest w front none Open i st = rejects c s.venue (session s c) sound few f x m rest t w (stands u) front none i
+          f.download st heard
+      by u rest w front none Failed i (n, e, a, z) = failed_rejects c s.venue (session s c) sound few f x m rest t w
+          (stands u) front none i a e z f.download refl n
   given_recovered_keeps m (Ok Nothing) heard x' ok =
       subst (λ y. Goes c s (step_on Nothing) y
       (or_one c s.venue.kept (session s c) t (took (step_on Nothing) (Ok Nothing)))) (same_ok x x' (Ok x) refl ok)

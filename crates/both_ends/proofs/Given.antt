@@ -12,10 +12,11 @@ use Rattle.codes.specs.declared.session.ReportResponse.{ReportResponse}
 use Rattle.codes.specs.declared.session.ReportResponse.TheVariants as ending
 use Rattle.both_ends.proofs.Carrying.{held, Brings, Flows, Holding, Loads, Over, holding_down}
 use Rattle.both_ends.proofs.Flights.{Passed, Next, next_above, next_either}
-use Rattle.both_ends.proofs.Keeping.{repeats_up, Sided, SidedBy, Staged, Repeats, Refuses, Taking, Up}
+use Rattle.both_ends.proofs.Keeping.{repeats_up, Sided, SidedBy, Staged, Channelled, NoneRuns, Refusing, Repeats, Refuses, Taking, Up, opened}
 use Rattle.both_ends.proofs.Living.{place_in, Placed, after_fold, moves, up_folded, Only, or_one, up_popped, with_hold, hold_places, up_held, tallied_as, reaches}
 use Rattle.both_ends.specs.Agreement.{is_unfit}
 use Rattle.both_ends.specs.Allowed.{Line}
+use Rattle.both_ends.specs.declared.opening.Opening.TheVariants.{Open, Failed}
 use Rattle.both_ends.specs.Laws.{is_full}
 use Rattle.both_ends.specs.Tallied.{Tallied}
 use Rattle.follower.specs.Following.{Following, Step, turned, answered, refused, folded, folded_to, held as held_step, overrun, live_by, lived, no_download, acked, acked_of, recovered_of, reported, levelled, completed, ended, ended_of, rejected}
@@ -150,7 +151,7 @@ module _ (c : ℕ) (v : Books) (s : Session) (sound : Sound v) (few : length v.r
   -- all stands but for the download, what is asked, under way, and may come again
   with_stage : (f : Following) (x x' : Line) (t u : Taking) (g : Stage) (a : Stands c v s f x t) → x'.live ≡ x.live
       → ((q : Partition) (i : ℕ) → u q i → i ≤ max (place_in f q) (at a.up.y q))
-      → Staged g c v.kept (place_in f) a.up.b (download s) x'
+      → Channelled x'.opening g c v.kept (place_in f) a.up.b (download s) x'
       → Stands c v s (record f { download = g }) x' (or_one c v.kept s t u)
   with_stage f x x' t u g a l took st =
       let fl = a.up.flowing in
@@ -178,14 +179,16 @@ module _ (c : ℕ) (v : Books) (s : Session) (sound : Sound v) (few : length v.r
   -- a report of the download comes, which the place has reached
   loaded_of : (f : Following) (x : Line) (m : List ℕ) (rest : List (List ℕ)) (t u : Taking) (p : Partition) (n : ℕ)
       (b : Brings c (at v.kept p) p n m) (only : Only c v.kept s p n u)
-      (a : Stands c v s f x t) → f.download ≡ Running p → x.asked ≡ []
+      (a : Stands c v s f x t) → x.opening ≡ Open → f.download ≡ Running p → x.asked ≡ []
       → Repeats c (at v.kept p) p (place_in f p) x.again → is_of c (under (at v.kept p) n) ≡ true
       → Loads c (at v.kept p) p (at a.up.b p) (download s) n rest → n ≤ place_in f p
       → Stands c v s f (record x { recovered = rest; again = m ∷ x.again }) (or_one c v.kept s t u)
-  loaded_of f x m rest t u p n b only a st k r is l le =
+  loaded_of f x m rest t u p n b only a began st k r is l le =
       with_stage f x (record x { recovered = rest; again = m ∷ x.again }) t u f.download a refl taken_at
-      (subst (λ g. Staged g c v.kept (place_in f) a.up.b (download s)
-      (record x { recovered = rest; again = m ∷ x.again })) (sym st) (k, ((n, b, is, le), r), n, le, l))
+      (opened x.opening f.download c v.kept (place_in f) a.up.b (download s)
+      (record x { recovered = rest; again = m ∷ x.again }) began (subst
+      (λ g. Staged g c v.kept (place_in f) a.up.b (download s)
+      (record x { recovered = rest; again = m ∷ x.again })) (sym st) (k, ((n, b, is, le), r), n, le, l)))
     where
       taken_at : (q : Partition) (i : ℕ) → u q i → i ≤ max (place_in f q) (at a.up.y q)
       taken_at q i h =
@@ -193,7 +196,7 @@ module _ (c : ℕ) (v : Books) (s : Session) (sound : Sound v) (few : length v.r
           subst (λ r. i ≤ max (place_in f r) (at a.up.y r)) e (omega (arith, le, z))
 
   module _ (f : Following) (x : Line) (m : List ℕ) (rest : List (List ℕ)) (t u : Taking) (p : Partition) (n : ℕ)
-      (b : Brings c (at v.kept p) p n m) (only : Only c v.kept s p n u) where
+      (b : Brings c (at v.kept p) p n m) (only : Only c v.kept s p n u) (began : x.opening ≡ Open) where
     abbrev pub taken_line : Line
     taken_line = record x { recovered = rest; again = m ∷ x.again }
 
@@ -205,7 +208,7 @@ module _ (c : ℕ) (v : Books) (s : Session) (sound : Sound v) (few : length v.r
         → Recovers f (cond w (answered recovered.Already f) (folded recovered.Folded f p (held n b.entry))) taken_line
         (or_one c v.kept s t u)
     recovered_there a z st k r zl x' l true q =
-        (refl, refl, loaded_of f x m rest t u p n b only a st k r x'.hers l (leb-true n (place_in f p) q))
+        (refl, refl, loaded_of f x m rest t u p n b only a began st k r x'.hers l (leb-true n (place_in f p) q))
     recovered_there a z st k r zl x' l false q =
         let lt : place_in f p < n = leb-false n (place_in f p) q in
         let mv = moves c v sound few f p n b.entry a.known a.placed
@@ -222,7 +225,7 @@ module _ (c : ℕ) (v : Books) (s : Session) (sound : Sound v) (few : length v.r
         subst (λ y. Recovers f (folded_to recovered.Folded f p n y) taken_line (or_one c v.kept s t u)) (sym mv.taken) (
           refl,
           refl,
-          loaded_of g x m rest t u p n b only moved st k (repeats_there g r lt here) x'.hers l
+          loaded_of g x m rest t u p n b only moved began st k (repeats_there g r lt here) x'.hers l
               (omega (arith, here)),
         )
       where
@@ -242,9 +245,9 @@ module _ (c : ℕ) (v : Books) (s : Session) (sound : Sound v) (few : length v.r
   no_front : {X : Type 0} (x : Line) (m : List ℕ) (rest : List (List ℕ)) → x.recovered ≡ m ∷ rest → x.recovered ≡ [] → X
   no_front x m rest e f = absurd (let z : m ∷ rest ≡ [] = sym e ∙ f in cc)
 
-  -- an Ack, at the front of what is under way
+  -- what is no report, at the front of what is under way
   module _ (f : Following) (x : Line) (m : List ℕ) (rest : List (List ℕ)) (t u : Taking) (a : Stands c v s f x t)
-      (front : x.recovered ≡ m ∷ rest) (none : (q : Partition) (i : ℕ) → u q i → ⊥) where
+      (front : x.recovered ≡ m ∷ rest) (none : (q : Partition) (i : ℕ) → u q i → ⊥) (began : x.opening ≡ Open) where
     abbrev pub other_line : Line
     other_line = record x { recovered = rest; again = [] }
 
@@ -254,7 +257,8 @@ module _ (c : ℕ) (v : Books) (s : Session) (sound : Sound v) (few : length v.r
     -- the download is over, with nothing behind its end
     over : x.asked ≡ [] → rest ≡ [] → download s ≡ None
         → Stands c v s (no_download f) other_line (or_one c v.kept s t u)
-    over k e o = with_stage f x other_line t u Idle a refl nothing_taken (k, e, refl, o)
+    over k e o = with_stage f x other_line t u Idle a refl nothing_taken
+        (opened x.opening Idle c v.kept (place_in f) a.up.b (download s) other_line began (k, e, refl, o))
 
     tail_is : (m' : List ℕ) (ms : List (List ℕ)) → x.recovered ≡ m' ∷ ms → ms ≡ rest
     tail_is m' ms e = by (sym e ∙ front)
@@ -283,7 +287,7 @@ module _ (c : ℕ) (v : Books) (s : Session) (sound : Sound v) (few : length v.r
       refl,
       refl,
       with_stage f x other_line t u (Running p) a refl nothing_taken
-          (k, tt, z, le, l),
+          (opened x.opening (Running p) c v.kept (place_in f) a.up.b (download s) other_line began (k, tt, z, le, l)),
     )
     ack_granted p LimitReached e k z le l = absurd cc
     ack_granted p InvalidAppId e k z le l = absurd cc
@@ -380,7 +384,7 @@ module _ (c : ℕ) (v : Books) (s : Session) (sound : Sound v) (few : length v.r
               bases = a.up.bases;
               sides = or_as_it_was (λ q y. Sided c (at v.kept q) y (at a.up.y q) (at a.up.b q)) f.sides p
                   (completed_side n) (refl, r.passed) a.up.sides;
-              staged = (k, e, refl, o);
+              staged = opened x.opening Idle c v.kept (place_in g) a.up.b (download s) other_line began (k, e, refl, o);
             };
           },
         )
@@ -418,6 +422,40 @@ module _ (c : ℕ) (v : Books) (s : Session) (sound : Sound v) (few : length v.r
         (ap heard_in (sym (head_is m' ms e)) ∙ h') (λ q. cc)
     ends (Running p) (k, r', z, le, l) r h = ends_at p z r h k le (front_of p z l)
 
+  -- ---- on a channel whose first Logon was no message
+
+  module _ (f : Following) (x : Line) (m : List ℕ) (rest : List (List ℕ)) (t u : Taking) (a : Stands c v s f x t)
+      (front : x.recovered ≡ m ∷ rest) (none : (q : Partition) (i : ℕ) → u q i → ⊥) (fails : x.opening ≡ Failed)
+      (again : x.again ≡ []) (refuses : Refusing x.recovered) (runs : download s ≡ None) where
+    abbrev failed_line : Line
+    failed_line = record x { recovered = rest; again = [] }
+
+    parts : (ms : List (List ℕ)) → ms ≡ m ∷ rest → Refusing ms → Refuses (heard_in m) × Refusing rest
+    parts ms e h = subst Refusing e h
+
+    pub refused_front : Refuses (heard_in m)
+    refused_front = (parts x.recovered front refuses).0
+
+    with_failed : (g : Stage) → NoneRuns g → Stands c v s (record f { download = g }) failed_line (or_one c v.kept s t u)
+    with_failed g n = with_stage f x failed_line t u g a refl (λ q i h. absurd (none q i h))
+        (subst (λ h. Channelled h g c v.kept (place_in f) a.up.b (download s) failed_line) (sym fails)
+        (n, (parts x.recovered front refuses).1, refl, runs))
+
+    pub failed_acks : (g : Stage) → f.download ≡ g → NoneRuns g → (r : AckResponse) → Refuses (Ok (Ack r))
+        → Recovers f (acked f g r) failed_line (or_one c v.kept s t u)
+    failed_acks Idle e n r w = (refl, refl, with_failed f.download (subst NoneRuns (sym e) n))
+    failed_acks (Asked p) e n Successful w = absurd w
+    failed_acks (Asked p) e n LimitReached w = (refl, refl, with_failed Idle tt)
+    failed_acks (Asked p) e n InvalidAppId w = (refl, refl, with_failed Idle tt)
+    failed_acks (Asked p) e n ServiceUnavailable w = (refl, refl, with_failed Idle tt)
+    failed_acks (Running p) e n r w = absurd n
+
+    pub failed_rejects : (g : Stage) → f.download ≡ g → NoneRuns g
+        → Recovers f (rejected f g) failed_line (or_one c v.kept s t u)
+    failed_rejects Idle e n = (refl, refl, with_failed f.download (subst NoneRuns (sym e) n))
+    failed_rejects (Asked p) e n = (refl, refl, with_failed Idle tt)
+    failed_rejects (Running p) e n = absurd n
+
   -- ---- a report of a download
 
   abbrev Before : List Entry → Partition → ℕ → List ℕ → Type 0
@@ -434,7 +472,7 @@ module _ (c : ℕ) (v : Books) (s : Session) (sound : Sound v) (few : length v.r
       by rest false q g = rest g
 
   module _ (f : Following) (x : Line) (m : List ℕ) (t u : Taking) (a : Stands c v s f x t) (q : Partition) (h : NumberedReport)
-      (hd : heard_in m ≡ Ok (Report q h)) (only : Only c v.kept s q (number_of h) u) where
+      (hd : heard_in m ≡ Ok (Report q h)) (only : Only c v.kept s q (number_of h) u) (began : x.opening ≡ Open) where
     -- it is the report of the download's partition under its number
     abbrev IsIt : Partition → ℕ → Type 0
     IsIt p n = (b : Brings c (at v.kept p) p n m) × (q ≡ p) × (h ≡ held n b.entry)
@@ -499,7 +537,7 @@ module _ (c : ℕ) (v : Books) (s : Session) (sound : Sound v) (few : length v.r
         by (inr (n, b, nx, l')) =
             let i = is_it p n b in (
               as_it_is p n i (record x { recovered = rest; again = m ∷ x.again }) (or_one c v.kept s t u)
-                  (recovered_there f x m rest t u p n i.0 (only_it p n i) a z st k r zk nx l'
+                  (recovered_there f x m rest t u p n i.0 (only_it p n i) began a z st k r zk nx l'
                   (leb n (place_in f p)) refl),
               hers_it p n i nx.hers,
             )
@@ -523,7 +561,8 @@ module _ (c : ℕ) (v : Books) (s : Session) (sound : Sound v) (few : length v.r
                 refl,
                 refl,
                 with_stage f x x t u f.download a refl (taken n p o le)
-                    (subst (λ g. Staged g c v.kept (place_in f) a.up.b (download s) x) (sym st) (k, r, z, zk, l)),
+                    (opened x.opening f.download c v.kept (place_in f) a.up.b (download s) x began
+                    (subst (λ g. Staged g c v.kept (place_in f) a.up.b (download s) x) (sym st) (k, r, z, zk, l))),
               )),
           hers_it p n i is,
         )

@@ -1,11 +1,13 @@
 -- What holds of both ends and of the line between them after every call that the line allows. Assumes nothing.
-use Rattle.std.proofs.Common.{◌≡◌, ◌⊎◌, inl, inr, ℕ, ◌≤◌, max, Bool, true, false, List, [], ◌∷◌, None, Ok, Err, Option, Result, length, refl, arith}
+use Rattle.std.proofs.Common.{◌≡◌, ◌⊎◌, inl, inr, ℕ, ◌≤◌, max, Bool, true, false, List, [], ◌∷◌, ◌++◌, None, Ok, Err, Option, Result, length, refl, sym, ◌∙◌, subst, arith}
 use Rattle.codes.specs.declared.session.AckResponse.TheVariants.{Successful, LimitReached, InvalidAppId, ServiceUnavailable}
 use Rattle.codes.specs.declared.session.Partition.{Partition}
 use Rattle.both_ends.proofs.Carrying.{Brings, Flows, Holding, Loads, brings_grown, holding_grown, loads_grown, loads_cut}
 use Rattle.both_ends.proofs.Flights.{Passed, there_within, hers_grown, passed_grown}
 use Rattle.both_ends.specs.Agreement.{place, is_hers}
 use Rattle.both_ends.specs.Allowed.{Line}
+use Rattle.both_ends.specs.declared.opening.Opening.{Opening}
+use Rattle.both_ends.specs.declared.opening.Opening.TheVariants.{Awaited, Open, Failed}
 use Rattle.both_ends.specs.Runs.{Desk}
 use Rattle.both_ends.specs.Tallied.{Tallied}
 use Rattle.follower.specs.Asking.{request, ReadBack}
@@ -180,6 +182,56 @@ staged_live Idle c k place b o x ms h = h
 staged_live (Asked p) c k place b o x ms h = h
 staged_live (Running p) c k place b o x ms h = h
 
+-- ---- the recovery channel, by how it began
+
+abbrev pub NoneRuns : Stage → Type 0
+NoneRuns Idle = Unit {0}
+NoneRuns (Asked p) = Unit {0}
+NoneRuns (Running p) = ⊥
+
+-- the gateway was given nothing there
+abbrev pub Unused : Option Download → Line → Type 0
+Unused o x = (x.recovered ≡ []) × (x.again ≡ []) × (o ≡ None)
+
+-- all that is under way there grants nothing
+abbrev pub Refusing : List (List ℕ) → Type 0
+Refusing [] = Unit {0}
+Refusing (m ∷ ms) = Refuses (heard_in m) × Refusing ms
+
+pub refusing_more : (ms : List (List ℕ)) (m : List ℕ) → Refuses (heard_in m) → Refusing ms → Refusing (ms ++ m ∷ [])
+refusing_more [] m r h = (r, tt)
+refusing_more (i ∷ ms) m r (a, h) = (a, refusing_more ms m r h)
+
+-- before anything was given there; then; and where the first was a Logon that is no message
+abbrev pub Channelled : Opening → Stage → ℕ → Kept → (Partition → ℕ) → PerPartition ℕ → Option Download → Line → Type 0
+Channelled Awaited g c k place b o x = NoneRuns g × Unused o x × Staged g c k place b o x
+Channelled Open g c k place b o x = Staged g c k place b o x
+Channelled Failed g c k place b o x = NoneRuns g × Refusing x.recovered × (x.again ≡ []) × (o ≡ None)
+
+-- whatever moves, but for what is under way there
+pub channelled_on : (h : Opening) (g : Stage) (c : ℕ) (k k' : Kept) (place place' : Partition → ℕ)
+    (b b' : PerPartition ℕ) (o o' : Option Download) (x x' : Line) → x'.recovered ≡ x.recovered → x'.again ≡ x.again
+    → (o ≡ None → o' ≡ None) → (Staged g c k place b o x → Staged g c k' place' b' o' x')
+    → Channelled h g c k place b o x → Channelled h g c k' place' b' o' x'
+channelled_on Awaited g c k k' place place' b b' o o' x x' er ea eo on (n, (r, a, e), st) =
+    (n, (er ∙ r, ea ∙ a, eo e), on st)
+channelled_on Open g c k k' place place' b b' o o' x x' er ea eo on st = on st
+channelled_on Failed g c k k' place place' b b' o o' x x' er ea eo on (n, r, a, e) =
+    (n, subst Refusing (sym er) r, ea ∙ a, eo e)
+
+-- a channel that began as it should
+pub opened : (h : Opening) (g : Stage) (c : ℕ) (k : Kept) (place : Partition → ℕ) (b : PerPartition ℕ)
+    (o : Option Download) (x : Line) → h ≡ Open → Staged g c k place b o x → Channelled h g c k place b o x
+opened Awaited g c k place b o x e st = absurd cc
+opened Open g c k place b o x e st = st
+opened Failed g c k place b o x e st = absurd cc
+
+pub staged_in : (h : Opening) (g : Stage) (c : ℕ) (k : Kept) (place : Partition → ℕ) (b : PerPartition ℕ)
+    (o : Option Download) (x : Line) → h ≡ Open → Channelled h g c k place b o x → Staged g c k place b o x
+staged_in Awaited g c k place b o x e st = absurd cc
+staged_in Open g c k place b o x e st = st
+staged_in Failed g c k place b o x e st = absurd cc
+
 -- ---- both ends
 
 -- a number that the follower took in a partition
@@ -197,7 +249,7 @@ pub record Flowing (c : ℕ) (k : Kept) (sent : PerPartition ℕ) (place : Parti
 pub record Ready (c : ℕ) (k : Kept) (s : Session) (place : Partition → ℕ) (x : Line) (t : Taking) : Type 0 where
   pub y : PerPartition ℕ
   pub flowing : Flowing c k s.sent place x t y
-  pub still : Still (download s) x
+  pub still : Channelled x.opening Idle c k place y (download s) x
 
 -- one that it is up on
 pub record Up (c : ℕ) (k : Kept) (s : Session) (f : Following) (place : Partition → ℕ) (x : Line)
@@ -208,7 +260,7 @@ pub record Up (c : ℕ) (k : Kept) (s : Session) (f : Following) (place : Partit
   pub flowing : Flowing c k s.sent place x t y
   pub bases : (p : Partition) → at b p ≤ length (at k p)
   pub sides : (p : Partition) → Sided c (at k p) (at f.sides p) (at y p) (at b p)
-  pub staged : Staged f.download c k place b (download s) x
+  pub staged : Channelled x.opening f.download c k place b (download s) x
 
 -- by whether a connection is ready, and whether the follower is up
 abbrev pub Phase : Bool → Bool → ℕ → Kept → Session → Following → (Partition → ℕ) → Line → Taking → Type 0

@@ -8,7 +8,7 @@ use Rattle.codes.specs.Session.{same_partition}
 use Rattle.both_ends.proofs.Carrying.{held, Flows, Holding, holding_up, holding_more, holding_on}
 use Rattle.both_ends.proofs.Caught.{Folded, folds}
 use Rattle.both_ends.proofs.Flights.{Passed, Next, next_within, passed_less}
-use Rattle.both_ends.proofs.Keeping.{Sided, SidedBy, Taking, Flowing, Up, staged_up, staged_live}
+use Rattle.both_ends.proofs.Keeping.{Sided, SidedBy, Taking, Flowing, Up, channelled_on, staged_up, staged_live}
 use Rattle.both_ends.specs.Allowed.{Line}
 use Rattle.both_ends.specs.Tallied.{there, Tallied}
 use Rattle.follower.specs.Folding.{Reached, reached, moved, caught_one, caught_next}
@@ -130,7 +130,10 @@ module _ (c : ℕ) (k : Kept) (s : Session) where
             or_as_it_was (λ q z. Sided c (at k q) z (at u.y q) (at u.b q)) f.sides p (to_place f p n)
             (sided_moved (at f.sides p).state (at k p) (at f.sides p) n (at u.y p) (at u.b p) le (u.sides p))
             u.sides;
-        staged = staged_up f.download c k (place_in f) (place_in (after_fold f p n w)) u.b (download s) x up u.staged;
+        staged = channelled_on x.opening f.download c k k (place_in f) (place_in (after_fold f p n w)) u.b u.b (download s)
+            (download s) x x refl refl (λ e. e)
+            (λ st. staged_up f.download c k (place_in f) (place_in (after_fold f p n w)) u.b (download s) x up st)
+            u.staged;
       }
 
   -- ---- the next report under way comes
@@ -186,7 +189,9 @@ module _ (c : ℕ) (k : Kept) (s : Session) where
         or_as_it_was (λ q z. Sided c (at k q) (at f.sides q) z (at a.b q)) a.y p n
         (sided_popped (at f.sides p).state (at k p) (at f.sides p) (at a.y p) (at a.b p) n le (a.sides p))
         a.sides;
-    staged = staged_live f.download c k (place_in f) a.b (download s) x rest a.staged;
+    staged = channelled_on x.opening f.download c k k (place_in f) (place_in f) a.b a.b (download s) (download s) x
+        (record x { live = rest }) refl refl (λ e. e)
+        (λ st. staged_live f.download c k (place_in f) a.b (download s) x rest st) a.staged;
   }
 
   other_mark : (y : PerPartition ℕ) (p : Partition) (n : ℕ) (q : Partition) → p ≢ q → at (with_at y p n) q ≡ at y q
@@ -239,9 +244,11 @@ module _ (c : ℕ) (k : Kept) (s : Session) where
             (λ q ne. subst (λ z. Sided c (at k q) (at f.sides q) z (at a.b q)) (sym (other_mark a.y p n q ne))
             (a.sides q));
         staged =
-            staged_live f.download c k (place_in g) a.b (download s) x rest
+            channelled_on x.opening f.download c k k (place_in f) (place_in g) a.b a.b (download s) (download s) x
+            (record x { live = rest }) refl refl (λ e. e)
+            (λ st. staged_live f.download c k (place_in g) a.b (download s) x rest
             (staged_up f.download c k (place_in f) (place_in g) a.b (download s) x
-            (λ q. let z : place_in g q ≡ place_in f q = same q in omega (arith, z)) a.staged);
+            (λ q. let z : place_in g q ≡ place_in f q = same q in omega (arith, z)) st)) a.staged;
       }
 
 -- ---- the hold is folded

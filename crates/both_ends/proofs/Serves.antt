@@ -1,7 +1,7 @@
 -- That each call of the gateway keeps what holds of both ends. Assumes nothing.
 use Rattle.std.specs.Str.{bytes_eq}
 use Rattle.std.proofs.Common.{◌≡◌, ◌≢◌, ◌⊎◌, inl, inr, ℕ, ◌≤◌, Bool, true, false, cond, List, [], ◌∷◌, ◌++◌, Some, None, Ok, Err, Option, Result, length, pos, refl, sym, ap, ◌∙◌, subst, arith}
-use Rattle.std.proofs.lemmas.Bool.{eqb-true}
+use Rattle.std.proofs.lemmas.Bool.{eqb-true, true≢false}
 use Rattle.std.proofs.lemmas.Slice.Eq.{bytes_eq-Decides}
 use Rattle.answers.specs.Bytes.{answer_bytes, end_bytes}
 use Rattle.answers.specs.declared.answer.Answer.{Answer}
@@ -16,12 +16,17 @@ use Rattle.both_ends.proofs.Caught.{grows}
 use Rattle.both_ends.proofs.Flights.{Passed, Next, there_within, hers_grown, longer, hers_is}
 use Rattle.both_ends.proofs.Follows.{to_up, to_ready, to_away, next_is, same_ok, ok_err}
 use Rattle.both_ends.proofs.Heard.{report_heard, end_heard, ack_heard, reject_heard, logon_heard, nothing_heard}
-use Rattle.both_ends.proofs.Keeping.{Keeps, Phase, Ready, Up, Still, Staged, AskedAs, Waits, Refuses, Taking, Flowing, sided_grown, staged_grown, staged_cut, staged_live}
+use Rattle.both_ends.proofs.Keeping.{Keeps, Phase, Ready, Up, Staged, Channelled, AskedAs, Waits, Refuses, Taking, Flowing, channelled_on, Refusing, opened, refusing_more, sided_grown, staged_grown, staged_cut, staged_live}
 use Rattle.both_ends.proofs.Sendings.{SentBy, sends, HandedBy, hands}
 use Rattle.both_ends.specs.Agreement.{is_hers, place}
-use Rattle.both_ends.specs.Allowed.{Line, connected, accepted, next_of, after_logon, behind, answered, after_recovery}
+use Rattle.both_ends.specs.Allowed.{Line, connected, accepted, next_of, after_logon, behind, answered, after_recovery, after_failure, given_recovery, is_failed_logon, is_grant, is_reject, left_reject}
 use Rattle.both_ends.specs.Runs.{Desk}
-use Rattle.both_ends.specs.declared.allowed.Breach.TheVariants.{StillUp, NotAsked}
+use Rattle.both_ends.specs.declared.allowed.Breach.TheVariants.{StillUp, NotAsked, GrantedOverFailure}
+use Rattle.both_ends.specs.declared.opening.Opening.{Opening}
+use Rattle.both_ends.specs.declared.opening.Opening.TheVariants.{Awaited, Open, Failed}
+use Rattle.gateway_runs.specs.declared.call.Reply.{Reply}
+use Rattle.gateway.specs.declared.fault.GatewayFault.{GatewayFault}
+use Rattle.gateway_runs.specs.Runs.{bytes_of, left}
 use Rattle.follower.specs.Asking.{request, IsRequest}
 use Rattle.follower.specs.Following.{Following}
 use Rattle.follower.specs.Hearing.{heard_in}
@@ -120,12 +125,23 @@ module _ (c : ℕ) (s : State) (d : Desk) (x : Line) (t : Taking) (k : Keeps c s
     taken = h.taken;
   }
 
+  abbrev Now : Stage → PerPartition ℕ → Type 0
+  Now a b = Channelled x.opening a c new (place d) b (download (session s c)) x
+
+  -- what the call makes of the recovery channel
+  abbrev Carries : Line → Type 0
+  Carries x' =
+      (a : Stage) (b : PerPartition ℕ) → ((p : Partition) → at b p ≤ length (at old p)) → Now a b
+      → Channelled x'.opening a c new (place d) b (download (session w c)) x'
+
+  grown : (a : Stage) (b : PerPartition ℕ) → Channelled x.opening a c old (place d) b (download (session s c)) x
+      → Now a b
+  grown a b st = channelled_on x.opening a c old new (place d) (place d) b b (download (session s c))
+      (download (session s c)) x x refl refl (λ e. e)
+      (λ z. staged_grown a c old new (place d) b (download (session s c)) x g z) st
+
   -- so does the rest, but for the recovery channel
-  up_on : (x' : Line) → (session w c).sent ≡ (session s c).sent → x'.live ≡ x.live
-      → ((b : PerPartition ℕ) → ((p : Partition) → at b p ≤ length (at old p))
-      → Staged f.download c new (place d) b (download (session s c)) x
-      → Staged f.download c new (place d) b (download (session w c)) x')
-      → Up c old (session s c) f (place d) x t → Up c new (session w c) f (place d) x' t
+  up_on : (x' : Line) → (session w c).sent ≡ (session s c).sent → x'.live ≡ x.live → Carries x' → Up c old (session s c) f (place d) x t → Up c new (session w c) f (place d) x' t
   up_on x' e l st u = record {
     y = u.y;
     b = u.b;
@@ -133,17 +149,16 @@ module _ (c : ℕ) (s : State) (d : Desk) (x : Line) (t : Taking) (k : Keeps c s
     bases = λ p. let a = u.bases p in let b = longer (at old p) (at new p) (g p) in omega (arith, a, b);
     sides = λ p. sided_grown c (at old p) (at new p) (at f.sides p) (at u.y p) (at u.b p) (g p) (u.flowing.within p)
         (u.sides p);
-    staged = st u.b u.bases (staged_grown f.download c old new (place d) u.b (download (session s c)) x g u.staged);
+    staged = st f.download u.b u.bases (grown f.download u.b u.staged);
   }
 
-  ready_on : (x' : Line) → (session w c).sent ≡ (session s c).sent → x'.live ≡ x.live
-      → (Still (download (session s c)) x → Still (download (session w c)) x') → Ready c old (session s c) (place d) x t
+  ready_on : (x' : Line) → (session w c).sent ≡ (session s c).sent → x'.live ≡ x.live → Carries x' → Ready c old (session s c) (place d) x t
       → Ready c new (session w c) (place d) x' t
   ready_on x' e l st r = record {
     y = r.y;
     flowing = flowing_on
         (session w c).sent r.y x' e l r.flowing;
-    still = st r.still;
+    still = st Idle r.y r.flowing.within (grown Idle r.y r.still);
   }
 
   -- by the phase, where the line goes on
@@ -162,18 +177,17 @@ module _ (c : ℕ) (s : State) (d : Desk) (x : Line) (t : Taking) (k : Keeps c s
 
   -- the session stays, or its channels are closed
   pub quietly : Stays (session s c) (session w c) ⊎ Closes (session s c) (session w c) → Keeps c w d x t
-  quietly (inl (es, ed)) =
-      goes_on x refl refl
-      (ready_on x es refl (λ st. subst (λ o. Still o x) (sym ed) st))
-      (up_on x es refl (λ b bases st. subst (λ o. Staged f.download c new (place d) b o x) (sym ed) st))
-  quietly (inr (es, ed)) =
-      goes_on x refl refl
-      (ready_on x es refl (λ st. still_none st))
-      (up_on x es refl (λ b bases st. subst (λ o. Staged f.download c new (place d) b o x) (sym ed)
-      (staged_cut f.download c new (place d) b (download (session s c)) x st)))
+  quietly (inl (es, ed)) = goes_on x refl refl (ready_on x es refl on) (up_on x es refl on)
     where
-      still_none : Still (download (session s c)) x → Still (download (session w c)) x
-      still_none (a, r, ag, e) = (a, r, ag, ed)
+      on : Carries x
+      on a b bases st = subst (λ o. Channelled x.opening a c new (place d) b o x) (sym ed) st
+  quietly (inr (es, ed)) = goes_on x refl refl (ready_on x es refl on) (up_on x es refl on)
+    where
+      on : Carries x
+      on a b bases st =
+          subst (λ o. Channelled x.opening a c new (place d) b o x) (sym ed)
+          (channelled_on x.opening a c new new (place d) (place d) b b (download (session s c)) None x x refl refl
+          (λ e. refl) (λ z. staged_cut a c new (place d) b (download (session s c)) x z) st)
 
   -- ---- a Logon is accepted
 
@@ -203,7 +217,7 @@ module _ (c : ℕ) (s : State) (d : Desk) (x : Line) (t : Taking) (k : Keeps c s
           taken = λ p n h. let a = there_within c (at old p) n (k.hers p n h) in let z : at (lasts old) p
               ≡ length (at old p) = last p in omega (arith, a, z);
         };
-        still = (refl, refl, refl, ed);
+        still = (tt, (refl, refl, ed), (refl, refl, refl, ed));
       }
 
   pub real_time : (bytes : List ℕ) → RealTimeDoes old bytes (session s c) (session w c) → (b : Bool)
@@ -257,10 +271,21 @@ module _ (c : ℕ) (s : State) (d : Desk) (x : Line) (t : Taking) (k : Keeps c s
       → Keeps c w d (record x { live = ms }) t
   goes_live ms ed on = goes_on (record x { live = ms }) refl refl on_ready on_up
     where
+      carry : Carries (record x { live = ms })
+      carry a b bases st =
+          subst (λ o. Channelled x.opening a c new (place d) b o (record x { live = ms })) (sym ed)
+          (channelled_on x.opening a c new new (place d) (place d) b b (download (session s c))
+          (download (session s c)) x (record x { live = ms }) refl refl (λ e. e)
+          (λ z. staged_live a c new (place d) b (download (session s c)) x ms z) st)
+
       on_ready : Ready c old (session s c) (place d) x t
           → Ready c new (session w c) (place d) (record x { live = ms }) t
       on_ready r =
-          record { y = r.y; flowing = on r.y r.flowing; still = (let (a, b, e, o) = r.still in (a, b, e, ed ∙ o)) }
+          record {
+            y = r.y;
+            flowing = on r.y r.flowing;
+            still = carry Idle r.y r.flowing.within (grown Idle r.y r.still);
+          }
 
       on_up : Up c old (session s c) f (place d) x t → Up c new (session w c) f (place d) (record x { live = ms }) t
       on_up u = record {
@@ -270,9 +295,7 @@ module _ (c : ℕ) (s : State) (d : Desk) (x : Line) (t : Taking) (k : Keeps c s
         bases = λ p. let a = u.bases p in let b = longer (at old p) (at new p) (g p) in omega (arith, a, b);
         sides = λ p. sided_grown c (at old p) (at new p) (at f.sides p) (at u.y p) (at u.b p) (g p)
             (u.flowing.within p) (u.sides p);
-        staged = staged_live f.download c new (place d) u.b (download (session w c)) x ms
-            (subst (λ o. Staged f.download c new (place d) u.b o x) (sym ed)
-            (staged_grown f.download c old new (place d) u.b (download (session s c)) x g u.staged));
+        staged = carry f.download u.b u.bases (grown f.download u.b u.staged);
       }
 
   sends_by : (o : Option (Partition × ℕ)) (sent' : PerPartition ℕ) (bytes : List ℕ)
@@ -324,15 +347,11 @@ module _ (c : ℕ) (s : State) (d : Desk) (x : Line) (t : Taking) (k : Keeps c s
 
   -- what is under way there and asked changes alone
   goes_recovered : (rec ask : List (List ℕ)) → (session w c).sent ≡ (session s c).sent
-      → (Still (download (session s c)) x → Still (download (session w c)) (record x { recovered = rec; asked = ask }))
-      → ((b : PerPartition ℕ) → ((p : Partition) → at b p ≤ length (at old p))
-      → Staged f.download c new (place d) b (download (session s c)) x
-      → Staged f.download c new (place d) b (download (session w c)) (record x { recovered = rec; asked = ask }))
-      → Keeps c w d (record x { recovered = rec; asked = ask }) t
-  goes_recovered rec ask es still staged =
+      → Carries (record x { recovered = rec; asked = ask }) → Keeps c w d (record x { recovered = rec; asked = ask }) t
+  goes_recovered rec ask es on =
       goes_on (record x { recovered = rec; asked = ask }) refl refl
-      (ready_on (record x { recovered = rec; asked = ask }) es refl still)
-      (up_on (record x { recovered = rec; asked = ask }) es refl staged)
+      (ready_on (record x { recovered = rec; asked = ask }) es refl on)
+      (up_on (record x { recovered = rec; asked = ask }) es refl on)
 
   no_asked : {X : Type 0} (m : List ℕ) (rest : List (List ℕ)) → x.asked ≡ m ∷ rest → x.asked ≡ [] → X
   no_asked m rest e h = absurd (let z : m ∷ rest ≡ [] = sym e ∙ h in cc)
@@ -351,9 +370,15 @@ module _ (c : ℕ) (s : State) (d : Desk) (x : Line) (t : Taking) (k : Keeps c s
         (p : Partition) (b : ℕ) → b ≤ length (at old p) → Waits p (place d p) (download (session s c)) x
         → AskedAs c (at new p) p b (place d p) (download (session w c)) answer_line
 
-    request_answered : (session w c).sent ≡ (session s c).sent → Answers → Keeps c w d answer_line t
-    request_answered es ans = goes_recovered (x.recovered ++ reply ∷ []) rest es
-        (λ st. no_asked m rest front st.0) staged
+    -- and of a channel whose first Logon was no message
+    abbrev Fails : Type 0
+    Fails = x.opening ≡ Failed
+        → Refuses (heard_in reply) × (download (session s c) ≡ None → download (session w c) ≡ None)
+
+    request_answered : (session w c).sent ≡ (session s c).sent → Answers → x.opening ≢ Awaited → Fails
+        → Keeps c w d answer_line t
+    request_answered es ans began fails = goes_recovered (x.recovered ++ reply ∷ []) rest es
+        (λ a b bases st. channelled a b bases x.opening refl st)
       where
         by : (g : Stage) (b : PerPartition ℕ) → ((p : Partition) → at b p ≤ length (at old p))
             → Staged g c new (place d) b (download (session s c)) x
@@ -364,20 +389,26 @@ module _ (c : ℕ) (s : State) (d : Desk) (x : Line) (t : Taking) (k : Keeps c s
         by (Asked p) b bases (ag, inr (inr (k', m', ms, e, h, z, le, l))) = no_asked m rest front k'
         by (Running p) b bases (k', r, z, zk, l) = no_asked m rest front k'
 
-        staged : (b : PerPartition ℕ) → ((p : Partition) → at b p ≤ length (at old p))
-            → Staged f.download c new (place d) b (download (session s c)) x
-            → Staged f.download c new (place d) b (download (session w c)) answer_line
-        staged b bases st = by f.download b bases st
+        channelled : (a : Stage) (b : PerPartition ℕ) → ((p : Partition) → at b p ≤ length (at old p))
+            → (o : Opening) → x.opening ≡ o → Channelled o a c new (place d) b (download (session s c)) x
+            → Channelled x.opening a c new (place d) b (download (session w c)) answer_line
+        channelled a b bases Awaited i st = absurd (began i)
+        channelled a b bases Open i st =
+            opened x.opening a c new (place d) b (download (session w c)) answer_line i (by a b bases st)
+        channelled a b bases Failed i (n, r, ag, e) =
+            subst (λ o. Channelled o a c new (place d) b (download (session w c)) answer_line) (sym i)
+            (n, refusing_more x.recovered reply (fails i).0 r, ag, (fails i).1 e)
 
     reply_alone : x.recovered ≡ [] → x.recovered ++ reply ∷ [] ≡ reply ∷ []
     reply_alone e = ap (λ ms. ms ++ reply ∷ []) e
 
     -- no download is granted
     refuses : Refuses (heard_in reply) → Stays (session s c) (session w c) ⊎ Closes (session s c) (session w c)
-        → Keeps c w d answer_line t
-    refuses r h = request_answered (sent_same h)
+        → x.opening ≢ Awaited → Keeps c w d answer_line t
+    refuses r h began = request_answered (sent_same h)
         (λ p b bases (z, e, back, le, ra, o). inr
         (inl ((one_asked m (request p z) rest front e).1, none_after h o, inr (reply, reply_alone ra, r))))
+        began (λ i. (r, none_after h))
       where
         sent_same : Stays (session s c) (session w c) ⊎ Closes (session s c) (session w c) → (session w c).sent
             ≡ (session s c).sent
@@ -398,8 +429,9 @@ module _ (c : ℕ) (s : State) (d : Desk) (x : Line) (t : Taking) (k : Keeps c s
     granted : (b' : MissedMessageRequest) (q : Partition) → Reads reader.Recovery m (message.MissedMessageRequest b')
         → partition_of b'.partition ≡ Some q → heard_in reply ≡ Ok (Ack Successful) → (session w c).sent
         ≡ (session s c).sent
-        → download (session w c) ≡ Some (begun q b'.last.value (length (at old q))) → Keeps c w d answer_line t
-    granted i q reads is hd es ed = request_answered es ans
+        → download (session w c) ≡ Some (begun q b'.last.value (length (at old q))) → x.opening ≢ Awaited
+        → x.opening ≢ Failed → Keeps c w d answer_line t
+    granted i q reads is hd es ed began whole = request_answered es ans began (λ e. absurd (whole e))
       where
         ans : Answers
         ans p b bases (z, e, back, le, ra, o) =
@@ -451,21 +483,21 @@ module _ (c : ℕ) (s : State) (d : Desk) (x : Line) (t : Taking) (k : Keeps c s
 
   -- it grants nothing
   answered_no : (a : Answer) (reply m : List ℕ) → reply ≡ answer_bytes a → Grants a ≡ false
-      → Stays (session s c) (session w c) ⊎ Closes (session s c) (session w c) → (x' : Line)
+      → Stays (session s c) (session w c) ⊎ Closes (session s c) (session w c) → x.opening ≢ Awaited → (x' : Line)
       → after_recovery (heard_in reply) reply m x ≡ Ok x' → Keeps c w d x' t
-  answered_no answer.Silent reply m e nn h x' ok =
+  answered_no answer.Silent reply m e nn h began x' ok =
       let (i, q) = nothing_heard in
       unanswered h (Err i) reply m refl x' (heard_in reply) (ap heard_in e ∙ q) ok
-  answered_no (answer.LogonReply z) reply m e nn h x' ok = by (logon_heard z)
+  answered_no (answer.LogonReply z) reply m e nn h began x' ok = by (logon_heard z)
     where
       by : (heard_in (answer_bytes (answer.LogonReply z)) ≡ Ok Nothing)
           ⊎ ((i : Fault) × (heard_in (answer_bytes (answer.LogonReply z)) ≡ Err i)) → Keeps c w d x' t
       by (inl q) = unanswered h (Ok Nothing) reply m refl x' (heard_in reply) (ap heard_in e ∙ q) ok
       by (inr (i, q)) = unanswered h (Err i) reply m refl x' (heard_in reply) (ap heard_in e ∙ q) ok
-  answered_no (answer.Ack r) reply m e nn h x' ok =
+  answered_no (answer.Ack r) reply m e nn h began x' ok =
       let hd : heard_in reply ≡ Ok (Ack r) = ap heard_in e ∙ ack_heard r in
       answers_as reply m (next_of m x.asked) refl
-      (λ rest front. refuses reply m rest front (subst Refuses (sym hd) (refusal r nn)) h) x'
+      (λ rest front. refuses reply m rest front (subst Refuses (sym hd) (refusal r nn)) h began) x'
       (subst (λ z. after_recovery z reply m x ≡ Ok x') hd ok)
     where
       refusal : (r : AckResponse) → Grants (answer.Ack r) ≡ false → Refuses (Ok (Ack r))
@@ -473,23 +505,25 @@ module _ (c : ℕ) (s : State) (d : Desk) (x : Line) (t : Taking) (k : Keeps c s
       refusal LimitReached n = tt
       refusal InvalidAppId n = tt
       refusal ServiceUnavailable n = tt
-  answered_no (answer.Reject r) reply m e nn h x' ok = by (reject_heard r)
+  answered_no (answer.Reject r) reply m e nn h began x' ok = by (reject_heard r)
     where
       by : (heard_in (answer_bytes (answer.Reject r)) ≡ Ok Reject)
           ⊎ ((i : Fault) × (heard_in (answer_bytes (answer.Reject r)) ≡ Err i)) → Keeps c w d x' t
       by (inl q) =
           let hd : heard_in reply ≡ Ok Reject = ap heard_in e ∙ q in
           answers_as reply m (next_of m x.asked) refl
-          (λ rest front. refuses reply m rest front (subst Refuses (sym hd) tt) h) x'
+          (λ rest front. refuses reply m rest front (subst Refuses (sym hd) tt) h began) x'
           (subst (λ z. after_recovery z reply m x ≡ Ok x') hd ok)
       by (inr (i, q)) = unanswered h (Err i) reply m refl x' (heard_in reply) (ap heard_in e ∙ q) ok
 
-  pub recovery : (reply m : List ℕ) → RecoveryDoes old m reply (session s c) (session w c) → (x' : Line)
+  pub recovery : (reply m : List ℕ) → RecoveryDoes old m reply (session s c) (session w c) → x.opening ≢ Awaited
+      → (x.opening ≡ Failed → is_grant (heard_in reply) ≡ false) → (x' : Line)
       → after_recovery (heard_in reply) reply m x ≡ Ok x' → Keeps c w d x' t
-  recovery reply m (inr (a, e, nn, h)) x' ok = answered_no a reply m e nn h x' ok
-  recovery reply m (inl (i, q, reads, is, e, o, es, ed)) x' ok =
+  recovery reply m (inr (a, e, nn, h)) began none x' ok = answered_no a reply m e nn h began x' ok
+  recovery reply m (inl (i, q, reads, is, e, o, es, ed)) began none x' ok =
       let hd : heard_in reply ≡ Ok (Ack Successful) = ap heard_in e ∙ ack_heard Successful in
-      answers_as reply m (next_of m x.asked) refl (λ rest front. granted reply m rest front i q reads is hd es ed) x'
+      answers_as reply m (next_of m x.asked) refl (λ rest front. granted reply m rest front i q reads is hd es ed began
+      (λ z. absurd (true≢false (ap is_grant (sym hd) ∙ none z)))) x'
       (subst (λ z. after_recovery z reply m x ≡ Ok x') hd ok)
 
   -- ---- what a download hands out
@@ -508,8 +542,7 @@ module _ (c : ℕ) (s : State) (d : Desk) (x : Line) (t : Taking) (k : Keeps c s
 
   loads_live : (rec ms : List (List ℕ)) → download (session s c) ≢ None → (session w c).sent ≡ (session s c).sent
       → Loading ms → x.recovered ≡ rec → Keeps c w d (record x { recovered = rec ++ ms; asked = x.asked }) t
-  loads_live rec ms some es ld er = goes_recovered (rec ++ ms) x.asked es (λ st. absurd (some st.3))
-      (λ b bases st. by f.download b st)
+  loads_live rec ms some es ld er = goes_recovered (rec ++ ms) x.asked es (λ a b bases st. channelled a b x.opening refl st)
     where
       by : (g : Stage) (b : PerPartition ℕ) → Staged g c new (place d) b (download (session s c)) x
           → Staged g c new (place d) b (download (session w c)) (record x { recovered = rec ++ ms; asked = x.asked })
@@ -529,6 +562,15 @@ module _ (c : ℕ) (s : State) (d : Desk) (x : Line) (t : Taking) (k : Keeps c s
         ld p (at b p) z rec
             (subst (λ y. Loads c (at new p) p (at b p) (download (session s c)) z y) er l),
       )
+
+      channelled : (a : Stage) (b : PerPartition ℕ) → (o : Opening) → x.opening ≡ o
+          → Channelled o a c new (place d) b (download (session s c)) x
+          → Channelled x.opening a c new (place d) b (download (session w c))
+          (record x { recovered = rec ++ ms; asked = x.asked })
+      channelled a b Awaited i (n, (r, ag, e), st) = absurd (some e)
+      channelled a b Open i st = opened x.opening a c new (place d) b (download (session w c))
+          (record x { recovered = rec ++ ms; asked = x.asked }) i (by a b st)
+      channelled a b Failed i (n, r, ag, e) = absurd (some e)
 
   -- by what it hands out, from a store that stays
   handed_on : (q : Download) (r : HandedOut × Option Download) → download (session s c) ≡ Some q
@@ -592,3 +634,131 @@ module _ (c : ℕ) (s : State) (d : Desk) (x : Line) (t : Taking) (k : Keeps c s
       (sym (e ∙ ap (λ k. recovered_bytes k (recovered k c o).0) (sym same)))
       (hands_on o refl es (ed ∙ ap (λ k. (recovered k c o).1) (sym same))
       (subst (λ k. RecoveredTold k (recovered k c o).0) (sym same) (told fault)))
+
+-- ---- a message on the recovery channel, by how the channel began
+
+staged_opened : (a : Stage) (c : ℕ) (k : Kept) (place : Partition → ℕ) (b : PerPartition ℕ) (o : Option Download)
+    (x : Line) → Staged a c k place b o x → Staged a c k place b o (record x { opening = Open })
+staged_opened Idle c k place b o x h = h
+staged_opened (Asked p) c k place b o x h = h
+staged_opened (Running p) c k place b o x h = h
+
+-- what is no message leaves no answer
+failed_silent : (a : Result ℕ GatewayFault) (m buffer : List ℕ) → is_failed_logon a m ≡ true → left a buffer ≡ []
+failed_silent (Ok n) m buffer h = absurd cc
+failed_silent (Err e) m buffer h = refl
+
+refuses_reject : (r : Result Heard Fault) → is_reject r ≡ true → Refuses r
+refuses_reject (Ok Reject) h = tt
+refuses_reject (Ok (Report p i)) h = absurd cc
+refuses_reject (Ok (Ack r)) h = absurd cc
+refuses_reject (Ok (End r)) h = absurd cc
+refuses_reject (Ok Nothing) h = absurd cc
+refuses_reject (Err e) h = absurd cc
+
+module _ (c : ℕ) (s : State) (d : Desk) (x : Line) (t : Taking) (k : Keeps c s d x t) where
+  -- the channel alone is another
+  reopened : (o : Opening) (rec : List (List ℕ))
+      → ((a : Stage) (b : PerPartition ℕ)
+      → Channelled x.opening a c s.venue.kept (place d) b (download (session s c)) x
+      → Channelled o a c s.venue.kept (place d) b (download (session s c)) (record x { opening = o; recovered = rec }))
+      → Keeps c s d (record x { opening = o; recovered = rec }) t
+  reopened o rec on = record {
+    up = k.up;
+    quiet = k.quiet;
+    placed = k.placed;
+    known = k.known;
+    hers = k.hers;
+    sound = k.sound;
+    few = k.few;
+    phase = by x.ready x.up k.phase;
+  }
+    where
+      flowing : (z : PerPartition ℕ) → Flowing c s.venue.kept (session s c).sent (place d) x t z
+          → Flowing c s.venue.kept (session s c).sent (place d) (record x { opening = o; recovered = rec }) t z
+      flowing z h = record { within = h.within; flows = h.flows; taken = h.taken }
+
+      by : (r u : Bool) → Phase r u c s.venue.kept (session s c) d.follower (place d) x t
+          → Phase r u c s.venue.kept (session s c) d.follower (place d) (record x { opening = o; recovered = rec }) t
+      by false false z = tt
+      by true false z = record { y = z.y; flowing = flowing z.y z.flowing; still = on Idle z.y z.still }
+      by false true z = record {
+        y = z.y;
+        b = z.b;
+        flowing = flowing z.y z.flowing;
+        bases = z.bases;
+        sides = z.sides;
+        staged = on d.follower.download z.b z.staged;
+      }
+      by true true z = absurd z
+
+  opens_channel : x.opening ≡ Awaited → Keeps c s d (record x { opening = Open }) t
+  opens_channel i = reopened Open x.recovered (λ a b st. by a b x.opening i st)
+    where
+      by : (a : Stage) (b : PerPartition ℕ) (o : Opening) → o ≡ Awaited
+          → Channelled o a c s.venue.kept (place d) b (download (session s c)) x
+          → Staged a c s.venue.kept (place d) b (download (session s c)) (record x { opening = Open })
+      by a b Awaited e (n, u, st) = staged_opened a c s.venue.kept (place d) b (download (session s c)) x st
+      by a b Open e st = absurd cc
+      by a b Failed e st = absurd cc
+
+  fails_channel : (m : List ℕ) → Refuses (heard_in m) → x.opening ≡ Awaited
+      → Keeps c s d (record x { opening = Failed; recovered = x.recovered ++ m ∷ [] }) t
+  fails_channel m r i = reopened Failed (x.recovered ++ m ∷ []) (λ a b st. by a b x.opening i st)
+    where
+      by : (a : Stage) (b : PerPartition ℕ) (o : Opening) → o ≡ Awaited
+          → Channelled o a c s.venue.kept (place d) b (download (session s c)) x
+          → Channelled Failed a c s.venue.kept (place d) b (download (session s c))
+          (record x { opening = Failed; recovered = x.recovered ++ m ∷ [] })
+      by a b Awaited e (n, (rec, ag, z), st) =
+          (n, subst (λ ms. Refusing (ms ++ m ∷ [])) (sym rec) (r, tt), ag, z)
+      by a b Open e st = absurd cc
+      by a b Failed e st = absurd cc
+
+  module _ (w : State) (g : Grows s.venue.kept w.venue.kept) (sound : Sound w.venue) (few : length w.venue.rows ≤ ORDERS)
+      (m : List ℕ) (r : Reply)
+      (does : RecoveryDoes s.venue.kept m (bytes_of r) (session s c) (session w c)) where
+    -- of what is no message the session stays
+    stays : is_failed_logon r.answer m ≡ true
+        → Stays (session s c) (session w c) ⊎ Closes (session s c) (session w c)
+    stays h = by does
+      where
+        by : RecoveryDoes s.venue.kept m (bytes_of r) (session s c) (session w c)
+            → Stays (session s c) (session w c) ⊎ Closes (session s c) (session w c)
+        by (inr (a, e, nn, h')) = h'
+        by (inl (i, q, reads, is, e, o, es, ed)) =
+            let (f, z) = nothing_heard in
+            absurd (let y : Ok (Ack Successful) ≡ Err f = sym (ack_heard Successful)
+            ∙ (ap heard_in (sym e ∙ failed_silent r.answer m r.after.items h) ∙ z) in cc)
+
+    failed_first : is_failed_logon r.answer m ≡ true → x.opening ≡ Awaited → (b : Bool)
+        → is_reject (heard_in (left_reject r)) ≡ b
+        → Keeps c w d (cond b (record x { opening = Failed; recovered = x.recovered ++ left_reject r ∷ [] })
+        (record x { opening = Open })) t
+    failed_first h i true q =
+        quietly c s d (record x { opening = Failed; recovered = x.recovered ++ left_reject r ∷ [] }) t
+        (fails_channel (left_reject r) (refuses_reject (heard_in (left_reject r)) q) i) w g sound few (stays h)
+    failed_first h i false q = quietly c s d (record x { opening = Open }) t (opens_channel i) w g sound few (stays h)
+
+    pub recovery_given : (o : Opening) → x.opening ≡ o → (x' : Line) → given_recovery o m r x ≡ Ok x' → Keeps c w d x' t
+    recovery_given Awaited i x' ok = by (is_failed_logon r.answer m) refl ok
+      where
+        by : (b : Bool) → is_failed_logon r.answer m ≡ b
+            → cond b (Ok (after_failure (left_reject r) x))
+            (after_recovery (heard_in (bytes_of r)) (bytes_of r) m (record x { opening = Open })) ≡ Ok x'
+            → Keeps c w d x' t
+        by true q z = subst (λ y. Keeps c w d y t)
+            (same_ok (after_failure (left_reject r) x) x' (Ok (after_failure (left_reject r) x)) refl z)
+            (failed_first q i (is_reject (heard_in (left_reject r))) refl)
+        by false q z = recovery c s d (record x { opening = Open }) t (opens_channel i) w g sound few (bytes_of r) m does
+            (λ e. cc) (λ e. absurd cc) x' z
+    recovery_given Open i x' ok = recovery c s d x t k w g sound few (bytes_of r) m does
+        (λ e. let z : Open ≡ Awaited = sym i ∙ e in cc) (λ e. absurd (let z : Open ≡ Failed = sym i ∙ e in cc)) x' ok
+    recovery_given Failed i x' ok = by (is_grant (heard_in (bytes_of r))) refl ok
+      where
+        by : (b : Bool) → is_grant (heard_in (bytes_of r)) ≡ b
+            → cond b (Err GrantedOverFailure) (after_recovery (heard_in (bytes_of r)) (bytes_of r) m x) ≡ Ok x'
+            → Keeps c w d x' t
+        by true q z = ok_err GrantedOverFailure x' (Err GrantedOverFailure) refl z
+        by false q z = recovery c s d x t k w g sound few (bytes_of r) m does
+            (λ e. let y : Failed ≡ Awaited = sym i ∙ e in cc) (λ e. q) x' z

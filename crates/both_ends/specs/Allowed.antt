@@ -1,5 +1,5 @@
 -- What the line of a follower's CompID allows, told by the log of a run. Assumes nothing.
-use Rattle.std.specs.Prelude.{◌≡◌, ℕ, Bool, true, false, List, [], ◌∷◌, ◌++◌, fold, take, Some, None, Ok, Err, Option, Result, ◌==◌, if◌then◌else◌}
+use Rattle.std.specs.Prelude.{◌≡◌, ℕ, Bool, true, false, ◌&&◌, List, [], ◌∷◌, ◌++◌, fold, take, slice_index_or, Some, None, Ok, Err, Option, Result, ◌==◌, if◌then◌else◌}
 use Rattle.std.specs.List.{list_any}
 use Rattle.std.specs.Str.{bytes_eq}
 use Rattle.answers.specs.Bytes.{answer_bytes}
@@ -7,7 +7,9 @@ use Rattle.answers.specs.declared.answer.Admission.TheVariants.{Accepted}
 use Rattle.answers.specs.declared.answer.Answer.TheVariants.{LogonReply}
 use Rattle.both_ends.specs.Laws.{is_full}
 use Rattle.both_ends.specs.declared.allowed.Breach.{Breach}
-use Rattle.both_ends.specs.declared.allowed.Breach.TheVariants.{StillUp, NoLogon, LiveOutOfTurn, RecoveredOutOfTurn, NotAsked}
+use Rattle.both_ends.specs.declared.allowed.Breach.TheVariants.{StillUp, NoLogon, LiveOutOfTurn, RecoveredOutOfTurn, NotAsked, GrantedOverFailure}
+use Rattle.both_ends.specs.declared.opening.Opening.{Opening}
+use Rattle.both_ends.specs.declared.opening.Opening.TheVariants.{Awaited, Open, Failed}
 use Rattle.both_ends.specs.declared.call.Done.{Done}
 use Rattle.both_ends.specs.declared.call.Done.TheVariants as done
 use Rattle.follower.specs.Hearing.{heard_in}
@@ -18,6 +20,13 @@ use Rattle.layout.specs.declared.fault.Fault.{Fault}
 use Rattle.gateway_runs.specs.Runs.{bytes_of}
 use Rattle.gateway_runs.specs.declared.call.Done.{Done as VenueDone}
 use Rattle.gateway_runs.specs.declared.call.Done.TheVariants as venue
+use Rattle.gateway_runs.specs.declared.call.Reply.{Reply}
+use Rattle.codes.specs.declared.session.AckResponse.TheVariants.{Successful}
+use Rattle.gateway.specs.declared.fault.GatewayFault.{GatewayFault}
+use Rattle.gateway.specs.declared.fault.GatewayFault.TheVariants.{Session}
+use Rattle.gateway.specs.declared.fault.SessionFault.TheVariants.{Wire}
+use Rattle.wire.specs.Kinds.{letter_of, total_of}
+use Rattle.wire.specs.declared.kinds.Kind.TheVariants as kind
 
 abbrev pub Message : Type 0
 Message = List ℕ
@@ -28,6 +37,8 @@ pub record Line : Type 0 where
   pub ready : Bool
   -- the follower is up
   pub up : Bool
+  -- how the recovery channel of the connection began
+  pub opening : Opening
   -- the reports under way to it on the real-time channel, oldest first
   pub live : List Message
   -- what is under way to it on the recovery channel
@@ -38,7 +49,7 @@ pub record Line : Type 0 where
   pub asked : List Message
 
 abbrev pub quiet : Line
-quiet = record { ready = false; up = false; live = []; recovered = []; again = []; asked = [] }
+quiet = record { ready = false; up = false; opening = Awaited; live = []; recovered = []; again = []; asked = [] }
 
 -- a new connection: of the one before it nothing comes any more
 abbrev pub connected : Line
@@ -79,12 +90,50 @@ after_recovery (Ok (End r)) reply m l = Ok l
 after_recovery (Ok Nothing) reply m l = Ok l
 after_recovery (Err e) reply m l = Ok l
 
+-- the gateway found that what it was given is no message
+abbrev pub is_no_message : Result ℕ GatewayFault → Bool
+is_no_message (Err (Session (Wire f))) = true
+is_no_message r = false
+
+-- and that was a Logon by its type
+abbrev pub is_failed_logon : Result ℕ GatewayFault → Message → Bool
+is_failed_logon r m = is_no_message r && slice_index_or m 3 0 == letter_of kind.Logon
+
+-- the Reject that then stands at the front of the buffer
+abbrev pub left_reject : Reply → Message
+left_reject r = take (total_of kind.Reject) r.after.items
+
+abbrev pub is_reject : Result Heard Fault → Bool
+is_reject (Ok Reject) = true
+is_reject h = false
+
+-- it is under way, as an answer is
+abbrev pub after_failure : Message → Line → Line
+after_failure m l =
+    if is_reject (heard_in m) then record l { opening = Failed; recovered = l.recovered ++ m ∷ [] }
+    else record l { opening = Open }
+
+abbrev pub is_grant : Result Heard Fault → Bool
+is_grant (Ok (Ack Successful)) = true
+is_grant h = false
+
+-- a message on the recovery channel, by how the channel began: where that was a Logon that is no message, a Reject is
+-- under way that answers no request, so none may be granted
+abbrev pub given_recovery : Opening → Message → Reply → Line → Result Line Breach
+given_recovery Awaited m r l =
+    if is_failed_logon r.answer m then Ok (after_failure (left_reject r) l)
+    else after_recovery (heard_in (bytes_of r)) (bytes_of r) m (record l { opening = Open })
+given_recovery Open m r l = after_recovery (heard_in (bytes_of r)) (bytes_of r) m l
+given_recovery Failed m r l =
+    if is_grant (heard_in (bytes_of r)) then Err GrantedOverFailure
+    else after_recovery (heard_in (bytes_of r)) (bytes_of r) m l
+
 -- only what happens on the CompID's line counts
 abbrev pub after_venue : ℕ → VenueDone → Line → Result Line Breach
 after_venue c (venue.RealTime line m t r) l =
     if line == c then after_logon (bytes_eq (bytes_of r) accepted) l else Ok l
 after_venue c (venue.Recovery line m t r) l =
-    if line == c then after_recovery (heard_in (bytes_of r)) (bytes_of r) m.items l else Ok l
+    if line == c then given_recovery l.opening m.items r l else Ok l
 after_venue c (venue.Step t r) l = Ok l
 after_venue c (venue.CancelTrade n t r) l = Ok l
 after_venue c (venue.LineLost line t r) l = Ok l

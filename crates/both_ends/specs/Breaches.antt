@@ -9,3 +9,4 @@ breach_text breach.NoLogon = codes "the follower was up with no new Logon accept
 breach_text breach.LiveOutOfTurn = codes "a report came live that was not the next under way"
 breach_text breach.RecoveredOutOfTurn = codes "a message of the recovery channel came that was not the next under way"
 breach_text breach.NotAsked = codes "the gateway was given a request that the follower did not write, or one twice"
+breach_text breach.GrantedOverFailure = codes "a request was granted though the first Logon of its channel was no message"

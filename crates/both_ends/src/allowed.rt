@@ -11,7 +11,8 @@ use std::alloc::{AllocError, Global};
 
 /// Why the line does not allow a call: an accepted Logon while the follower is up, an up with no new accepted Logon, a
 /// report given live that is not the next under way, something given on the recovery channel that is neither the next
-/// under way nor a report of the download that came before, and a request that the follower did not write.
+/// under way nor a report of the download that came before, a request that the follower did not write, and a request
+/// that is granted on a recovery channel whose first Logon was no message.
 #[derive(Clone, Copy, Debug, PartialEq)]
 pub enum Breach {
     StillUp,
@@ -19,6 +20,7 @@ pub enum Breach {
     LiveOutOfTurn,
     RecoveredOutOfTurn,
     NotAsked,
+    GrantedOverFailure,
 }
 
 impl Breach {
@@ -34,6 +36,8 @@ impl Breach {
                 "a message of the recovery channel came that was not the next under way",
             Breach::NotAsked =>
                 "the gateway was given a request that the follower did not write, or one twice",
+            Breach::GrantedOverFailure =>
+                "a request was granted though the first Logon of its channel was no message",
         }
     }
 }

@@ -6,6 +6,7 @@ pub mod call;
 pub mod entry;
 pub mod laws;
 mod making;
+pub mod opening;
 pub mod question;
 mod replies;
 pub mod state;

@@ -4,11 +4,14 @@ ghost use Rattle.follower.specs.Hearing.{heard_in};
 
 use crate::allowed::Breach;
 use crate::call::{Asked, Done};
-use crate::replies::{bytes, is_accepted, is_full};
+use crate::opening::Opening;
+use crate::replies::{
+    bytes, is_accepted, is_failed_logon, is_full, is_grant, is_reject, left_reject,
+};
 use crate::under_way::UnderWay;
 use follower::heard::Heard;
 use follower::reading::hear;
-use gateway_runs::call::Done as VenueDone;
+use gateway_runs::call::{Done as VenueDone, Reply};
 use std::alloc::{AllocError, Global};
 use std::marker::Model;
 
@@ -18,6 +21,8 @@ pub(crate) struct Watch<'a> {
     // a Logon was accepted, and no up came since
     ready: bool,
     up: bool,
+    // how the recovery channel of the connection began
+    opening: Opening,
     // the reports under way on the real-time channel
     live: UnderWay<'a>,
     // what is under way on the recovery channel
@@ -36,6 +41,7 @@ impl<'a> Model for Watch<'a> {
     ghost view = { λ w. record {
       ready = w.ready;
       up = w.up;
+      opening = w.opening;
       live = w.live;
       recovered = w.recovered;
       again = w.again;
@@ -44,7 +50,7 @@ impl<'a> Model for Watch<'a> {
 }
 
 impl<'a> Watch<'a> {
-    ghost use Rattle.both_ends.specs.Allowed.{quiet, answered, next_of, after_logon, after_recovery, after_venue, after_up, out_of_turn, given_live, or_lost, given_recovered, next_report, next_other, after_ask, after_call};
+    ghost use Rattle.both_ends.specs.Allowed.{quiet, answered, next_of, after_logon, after_recovery, after_failure, given_recovery, after_venue, after_up, out_of_turn, given_live, or_lost, given_recovered, next_report, next_other, after_ask, after_call};
     ghost use Rattle.both_ends.specs.Deciding.{onto};
 
     /// A line on which nothing was said.
@@ -54,6 +60,7 @@ impl<'a> Watch<'a> {
         Watch {
             ready: false,
             up: false,
+            opening: Opening::Awaited,
             live: UnderWay::new(alloc),
             recovered: UnderWay::new(alloc),
             again: UnderWay::new(alloc),
@@ -72,6 +79,7 @@ impl<'a> Watch<'a> {
             return Err(Breach::StillUp);
         }
         self.ready = true;
+        self.opening = Opening::Awaited;
         self.live.clear();
         self.recovered.clear();
         self.again.clear();
@@ -108,6 +116,44 @@ impl<'a> Watch<'a> {
         }
     }
 
+    // The first Logon was no message; its Reject is under way.
+    fn fail(&mut self, reject: &'a [u8]) -> Result<(), AllocError>
+        ensures { IfOk result (λ _. self.new ≡ after_failure reject.now self.old) }
+    {
+        if !is_reject(reject) {
+            self.opening = Opening::Open;
+            return Ok(());
+        }
+        self.opening = Opening::Failed;
+        self.recovered.push(reject)
+    }
+
+    // What is given on the recovery channel, by how it began.
+    fn given_recovery(
+        &mut self,
+        message: &[u8],
+        reply: &'a Reply,
+    ) -> Result<Result<(), Breach>, AllocError>
+        ensures { IfOk result (λ r. given_recovery self.old.opening message.now reply.now self.old ≡ onto r self.new) }
+    {
+        match self.opening {
+            Opening::Awaited => {
+                if is_failed_logon(reply, message) {
+                    self.fail(left_reject(reply))?;
+                    return Ok(Ok(()));
+                }
+                self.opening = Opening::Open;
+            }
+            Opening::Open => {}
+            Opening::Failed => {
+                if is_grant(bytes(reply)) {
+                    return Ok(Err(Breach::GrantedOverFailure));
+                }
+            }
+        }
+        self.after_recovery(message, bytes(reply))
+    }
+
     fn after_venue(
         &mut self,
         line: usize,
@@ -123,7 +169,7 @@ impl<'a> Watch<'a> {
             }
             VenueDone::Recovery(at, request, _, reply) => {
                 if *at == line {
-                    return self.after_recovery(request, bytes(reply));
+                    return self.given_recovery(request, reply);
                 }
             }
             VenueDone::Send(at, reply) => {
