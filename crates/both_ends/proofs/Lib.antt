@@ -15,3 +15,5 @@ pub mod Levelling
 pub mod Refusals
 pub mod Erasing
 pub mod Kept
+pub mod Turns
+pub mod Rules

@@ -2,6 +2,7 @@
 ghost use Rattle.both_ends.specs.Asking.{Erases};
 ghost use Rattle.both_ends.specs.Laws.{LevelByDownload, StaysBehind, StaysLevel};
 ghost use Rattle.both_ends.specs.Agreement.{DownloadsLevel};
+ghost use Rattle.both_ends.specs.Connections.{AsTheRule};
 
 use crate::question::Question;
 use matching::matcher::Matcher;
@@ -33,4 +34,9 @@ pub fn nothing_given_is_behind()
 /// After any log that the line allows: a partition is level once its download has come to the end that says complete.
 pub fn downloads_make_level()
     ensures { DownloadsLevel }
+{}
+
+/// What keeps the rule of the line, as it is told of what left the gateway and what came, the line allows.
+pub fn the_rule_is_allowed()
+    ensures { AsTheRule }
 {}
