@@ -11,7 +11,7 @@ use Rattle.configuration.specs.declared.participant.Participant.{Participant}
 use Rattle.both_ends.proofs.Carrying.{Flows}
 use Rattle.both_ends.proofs.Caught.{begins, shown}
 use Rattle.both_ends.proofs.Flights.{Passed}
-use Rattle.both_ends.proofs.Follows.{up_of, to_up, to_ready, to_away, Went, same_ok, ok_err, given_live_keeps, given_recovered_keeps}
+use Rattle.both_ends.proofs.Follows.{up_of, to_up, Went, same_ok, ok_err, given_live_keeps, given_recovered_keeps}
 use Rattle.both_ends.proofs.Keeping.{Keeps, Phase, Ready, Up, Still, Staged, Channelled, Sided, SidedBy, Taking, Flowing, channelled_on, keeps_taken}
 use Rattle.both_ends.proofs.Living.{place_in, tallied_as}
 use Rattle.both_ends.proofs.Refusals.{refused_stays}
@@ -41,6 +41,9 @@ use Rattle.wire.specs.declared.message.TheConstants.{BUFFER}
 use Rattle.follower.specs.declared.side.State.TheVariants.{Level, Behind}
 use Rattle.follower.specs.declared.stage.Stage.{Stage}
 use Rattle.follower.specs.declared.stage.Stage.TheVariants as stage
+use Rattle.both_ends.specs.Connecting.{lost, up_in}
+use Rattle.both_ends.specs.declared.connection.Connection.{Connection}
+use Rattle.both_ends.specs.declared.connection.Connection.TheVariants as conn
 use Rattle.gateway.specs.Calls.{send_fault, recovery_handed}
 use Rattle.gateway.specs.State.{State, session, fresh as fresh_state}
 use Rattle.limits.specs.declared.TheConstants.{ORDERS}
@@ -178,16 +181,16 @@ module _ (c : ℕ) (s : State) (d : Desk) (x : Line) (t : Taking) (k : Keeps c s
         ≡ place d p = turned_place up d.follower p in omega (arith, a, z);
   }
 
-  turned_still : (up : Bool) (y : PerPartition ℕ) (r u : Bool)
+  turned_still : (up : Bool) (y : PerPartition ℕ) (a : Connection)
       → Channelled x.opening stage.Idle c s.venue.kept (place d) y (download (session s c)) x
       → Channelled x.opening stage.Idle c s.venue.kept (place_in (turned up d.follower)) y (download (session s c))
-      (record x { ready = r; up = u })
-  turned_still up y r u st =
+      (record x { connection = a })
+  turned_still up y a st =
       channelled_on x.opening stage.Idle c s.venue.kept s.venue.kept (place d) (place_in (turned up d.follower)) y y
-      (download (session s c)) (download (session s c)) x (record x { ready = r; up = u }) refl refl (λ e. e) (λ z. z) st
+      (download (session s c)) (download (session s c)) x (record x { connection = a }) refl refl (λ e. e) (λ z. z) st
 
-  turned_keeps : (up : Bool) (x' : Line) → x'.up ≡ up
-      → Phase x'.ready x'.up c s.venue.kept (session s c) (turned up d.follower) (place_in (turned up d.follower)) x' t
+  turned_keeps : (up : Bool) (x' : Line) → up_in x'.connection ≡ up
+      → Phase x'.connection c s.venue.kept (session s c) (turned up d.follower) (place_in (turned up d.follower)) x' t
       → Keeps c s (turned_desk up) x' t
   turned_keeps up x' e ph = record {
     up = e;
@@ -201,8 +204,8 @@ module _ (c : ℕ) (s : State) (d : Desk) (x : Line) (t : Taking) (k : Keeps c s
     phase = ph;
   }
 
-  pub up_keeps : (x' : Line) → after_up x.ready x ≡ Ok x' → Keeps c s (turned_desk true) x' t
-  up_keeps x' ok = by x.ready x.up refl k.phase ok
+  pub up_keeps : (x' : Line) → after_up x.connection x ≡ Ok x' → Keeps c s (turned_desk true) x' t
+  up_keeps x' ok = by x.connection k.phase ok
     where
       sides : (y : PerPartition ℕ) (p : Partition)
           → Sided c (at s.venue.kept p) (at (turned true d.follower).sides p) (at y p) (at y p)
@@ -212,47 +215,49 @@ module _ (c : ℕ) (s : State) (d : Desk) (x : Line) (t : Taking) (k : Keeps c s
 
       ups : Ready c s.venue.kept (session s c) (place d) x t
           → Up c s.venue.kept (session s c) (turned true d.follower) (place_in (turned true d.follower))
-          (record x { ready = false; up = true }) t
+          (record x { connection = conn.Up }) t
       ups z = record {
         y = z.y;
         b = z.y;
-        flowing = turned_flowing true z.y (record x { ready = false; up = true }) refl z.flowing;
+        flowing = turned_flowing true z.y (record x { connection = conn.Up }) refl z.flowing;
         bases = z.flowing.within;
         sides = sides z.y;
-        staged = turned_still true z.y false true z.still;
+        staged = turned_still true z.y conn.Up z.still;
       }
 
-      by : (r u : Bool) → x.ready ≡ r → Phase r u c s.venue.kept (session s c) d.follower (place d) x t → after_up r x
-          ≡ Ok x' → Keeps c s (turned_desk true) x' t
-      by false u e ph g = ok_err NoLogon x' (Err NoLogon) refl g
-      by true true e ph g = absurd ph
-      by true false e ph g =
+      by : (a : Connection) → Phase a c s.venue.kept (session s c) d.follower (place d) x t → after_up a x ≡ Ok x'
+          → Keeps c s (turned_desk true) x' t
+      by conn.Away ph g = ok_err NoLogon x' (Err NoLogon) refl g
+      by conn.Up ph g = ok_err NoLogon x' (Err NoLogon) refl g
+      by conn.Ready ph g =
           subst (λ y. Keeps c s (turned_desk true) y t)
-          (same_ok (record x { ready = false; up = true }) x' (Ok (record x { ready = false; up = true })) refl g)
-          (turned_keeps true (record x { ready = false; up = true }) refl (ups ph))
+          (same_ok (record x { connection = conn.Up }) x' (Ok (record x { connection = conn.Up })) refl g)
+          (turned_keeps true (record x { connection = conn.Up }) refl (ups ph))
 
-  pub lost_keeps : (x' : Line) → went (record x { up = false }) ≡ Ok x' → Keeps c s (turned_desk false) x' t
+  pub lost_keeps : (x' : Line) → went (record x { connection = lost x.connection }) ≡ Ok x' → Keeps c s (turned_desk false) x' t
   lost_keeps x' ok =
       subst (λ y. Keeps c s (turned_desk false) y t)
-      (same_ok (record x { up = false }) x' (Ok (record x { up = false })) refl ok)
-      (turned_keeps false (record x { up = false }) refl (by x.ready x.up refl k.phase))
+      (same_ok left x' (Ok left) refl ok)
+      (turned_keeps false left (down x.connection) (by x.connection k.phase))
     where
-      by : (r u : Bool) → x.ready ≡ r → Phase r u c s.venue.kept (session s c) d.follower (place d) x t
-          → Phase x.ready false c s.venue.kept (session s c) (turned false d.follower)
-          (place_in (turned false d.follower)) (record x { up = false }) t
-      by false u e ph =
-          to_away c s.venue.kept (session s c) (turned false d.follower) (place_in (turned false d.follower))
-          (record x { up = false }) t x.ready false e refl
-      by true true e ph = absurd ph
-      by true false e ph =
-          to_ready c s.venue.kept (session s c) (turned false d.follower) (place_in (turned false d.follower))
-          (record x { up = false }) t x.ready false e refl
-          (record {
-            y = ph.y;
-            flowing = turned_flowing false ph.y
-                (record x { up = false }) refl ph.flowing;
-            still = turned_still false ph.y x.ready false ph.still;
-          })
+      left : Line
+      left = record x { connection = lost x.connection }
+
+      down : (a : Connection) → up_in (lost a) ≡ false
+      down conn.Away = refl
+      down conn.Ready = refl
+      down conn.Up = refl
+
+      by : (a : Connection) → Phase a c s.venue.kept (session s c) d.follower (place d) x t
+          → Phase (lost a) c s.venue.kept (session s c) (turned false d.follower)
+          (place_in (turned false d.follower)) left t
+      by conn.Away ph = tt
+      by conn.Up ph = tt
+      by conn.Ready ph = record {
+        y = ph.y;
+        flowing = turned_flowing false ph.y left refl ph.flowing;
+        still = turned_still false ph.y (lost x.connection) ph.still;
+      }
 
   -- ---- a request
 
@@ -297,7 +302,7 @@ module _ (c : ℕ) (s : State) (d : Desk) (x : Line) (t : Taking) (k : Keeps c s
       → Keeps c s (asked_desk p token) (record x { asked = x.asked ++ m ∷ [] }) t
   asked_for b n p e back token m is =
       let fr = free_of b n p e in
-      let (r, u) = up_of c s.venue.kept (session s c) d.follower (place d) x t x.ready x.up (k.up ∙ fr.up) k.phase in
+      let (r, u) = up_of c s.venue.kept (session s c) d.follower (place d) x t x.connection (k.up ∙ fr.up) k.phase in
       let st = subst
       (λ g. Channelled x.opening g c s.venue.kept (place d) u.b (download (session s c)) x) fr.idle u.staged in
       record {
@@ -309,7 +314,7 @@ module _ (c : ℕ) (s : State) (d : Desk) (x : Line) (t : Taking) (k : Keeps c s
         sound = λ q. sound;
         few = λ q. few;
         phase = to_up c s.venue.kept (session s c) (asked_desk p token).follower (place d)
-            (record x { asked = x.asked ++ m ∷ [] }) t x.ready x.up r (k.up ∙ fr.up) (record {
+            (record x { asked = x.asked ++ m ∷ [] }) t x.connection r (record {
               y = u.y;
               b = u.b;
               flowing = record { within = u.flowing.within; flows = u.flowing.flows; taken = u.flowing.taken };
@@ -514,7 +519,7 @@ module _ (c : ℕ) (xs : List Done) (w : State) (e : Desk) (l : Line) (k : Keeps
   same_orders : (p : Partition) → state_of e p ≡ Level → AllTaken c w p xs → (n : ℕ) → SameOrders c w e p n
   same_orders p lv all n =
       let up = level_up e p k.quiet lv in
-      let (r, u) = up_of c w.venue.kept (session w c) e.follower (place e) l (λ p n. ⊥ ⊎ Took p n xs) l.ready l.up
+      let (r, u) = up_of c w.venue.kept (session w c) e.follower (place e) l (λ p n. ⊥ ⊎ Took p n xs) l.connection
       (k.up ∙ up) k.phase in
       let sided : SidedBy Level c (at w.venue.kept p) (at e.follower.sides p) (at u.y p) (at u.b p) = subst
       (λ z. SidedBy z c (at w.venue.kept p) (at e.follower.sides p) (at u.y p) (at u.b p)) lv (u.sides p) in

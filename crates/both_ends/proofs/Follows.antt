@@ -34,6 +34,9 @@ use Rattle.follower.specs.declared.heard.Heard.TheVariants.{Report, Ack, End, Re
 use Rattle.follower.specs.declared.heard.NumberedReport.{NumberedReport}
 use Rattle.follower.specs.declared.pending.Pending.{Pending}
 use Rattle.follower.specs.declared.stage.Stage.TheVariants.{Idle}
+use Rattle.both_ends.specs.Connecting.{lost, up_in}
+use Rattle.both_ends.specs.declared.connection.Connection.{Connection}
+use Rattle.both_ends.specs.declared.connection.Connection.TheVariants as conn
 use Rattle.gateway.specs.State.{State, session}
 use Rattle.layout.specs.declared.fault.Fault.{Fault}
 use Rattle.limits.specs.declared.TheConstants.{ORDERS}
@@ -47,25 +50,19 @@ use Rattle.venue.specs.Books.{Sound}
 -- ---- the phases of a connection
 
 module _ (c : ℕ) (k : Kept) (s : Session) (f : Following) (pl : Partition → ℕ) (x : Line) (t : Taking) where
-  pub up_of : (r u : Bool) → u ≡ true → Phase r u c k s f pl x t → (r ≡ false) × Up c k s f pl x t
-  up_of false true e h = (refl, h)
-  up_of true true e h = absurd h
-  up_of r false e h = absurd cc
+  pub up_of : (a : Connection) → up_in a ≡ true → Phase a c k s f pl x t → (a ≡ conn.Up) × Up c k s f pl x t
+  up_of conn.Up e h = (refl, h)
+  up_of conn.Away e h = absurd cc
+  up_of conn.Ready e h = absurd cc
 
-  pub to_up : (r u : Bool) → r ≡ false → u ≡ true → Up c k s f pl x t → Phase r u c k s f pl x t
-  to_up false true e g h = h
-  to_up true u e g h = absurd cc
-  to_up false false e g h = absurd cc
+  pub to_up : (a : Connection) → a ≡ conn.Up → Up c k s f pl x t → Phase a c k s f pl x t
+  to_up a e h = subst (λ z. Phase z c k s f pl x t) (sym e) h
 
-  pub to_ready : (r u : Bool) → r ≡ true → u ≡ false → Ready c k s pl x t → Phase r u c k s f pl x t
-  to_ready true false e g h = h
-  to_ready true true e g h = absurd cc
-  to_ready false u e g h = absurd cc
+  pub to_ready : (a : Connection) → a ≡ conn.Ready → Ready c k s pl x t → Phase a c k s f pl x t
+  to_ready a e h = subst (λ z. Phase z c k s f pl x t) (sym e) h
 
-  pub to_away : (r u : Bool) → r ≡ false → u ≡ false → Phase r u c k s f pl x t
-  to_away false false e g = tt
-  to_away true u e g = absurd cc
-  to_away false true e g = absurd cc
+  pub to_away : (a : Connection) → a ≡ conn.Away → Phase a c k s f pl x t
+  to_away a e = subst (λ z. Phase z c k s f pl x t) (sym e) tt
 
 -- ---- a call that gives the follower something
 
@@ -197,7 +194,7 @@ module _ (c : ℕ) (s : State) (d : Desk) (x : Line) (t : Taking) (sound : Sound
         hers = λ q i z. old q i z;
         sound = λ q. sound;
         few = λ q. few;
-        phase = by x.ready x.up (k.up ∙ dn) k.phase;
+        phase = by x.connection (k.up ∙ dn) k.phase;
       };
     }
       where
@@ -208,10 +205,10 @@ module _ (c : ℕ) (s : State) (d : Desk) (x : Line) (t : Taking) (sound : Sound
         old q i (inl z) = k.hers q i z
         old q i (inr z) = absurd z
 
-        by : (r b : Bool) → b ≡ false → Phase r b c s.venue.kept (session s c) f (place d) x t
-            → Phase r b c s.venue.kept (session s c) f (place d) rest_line (or_one c s.venue.kept (session s c) t none)
-        by false false e z = tt
-        by true false e z =
+        by : (a : Connection) → up_in a ≡ false → Phase a c s.venue.kept (session s c) f (place d) x t
+            → Phase a c s.venue.kept (session s c) f (place d) rest_line (or_one c s.venue.kept (session s c) t none)
+        by conn.Away e z = tt
+        by conn.Ready e z =
             let w = comes z.y z.flowing.flows in
             record {
               y = with_at z.y p w.n;
@@ -220,14 +217,14 @@ module _ (c : ℕ) (s : State) (d : Desk) (x : Line) (t : Taking) (sound : Sound
               still = channelled_on x.opening Idle c s.venue.kept s.venue.kept (place d) (place d) z.y (with_at z.y p w.n)
                   (download (session s c)) (download (session s c)) x rest_line refl refl (λ g. g) (λ st. st) z.still;
             }
-        by r true e z = absurd cc
+        by conn.Up e z = absurd cc
 
     -- it is up
     is_up : f.up ≡ true → (x' : Line) → or_lost (is_full (lived f (Report p h)).answer) (Ok rest_line) ≡ Ok x'
         → Goes c s (lived f (Report p h)) x' (or_one c s.venue.kept (session s c) t
         (took (lived f (Report p h)) (Ok (Report p h))))
     is_up up x' ok =
-        let (r, u) = up_of c s.venue.kept (session s c) f (place d) x t x.ready x.up (k.up ∙ up) k.phase in
+        let (r, u) = up_of c s.venue.kept (session s c) f (place d) x t x.connection (k.up ∙ up) k.phase in
         let w = comes u.y u.flowing.flows in
         let g = lived f (Report p h) in
         let done = subst (λ z. Lives c s.venue (session s c) sound few f (lived f (Report p z)) rest_line
@@ -236,8 +233,8 @@ module _ (c : ℕ) (s : State) (d : Desk) (x : Line) (t : Taking) (sound : Sound
         (stands u) w.brings.stands w.brings.owner w.next w.flows (only u.y w g)) in
         by r u w done.0 done.1
       where
-        lost : Taking
-        lost = took (lived f (Report p h)) (Ok (Report p h))
+        gone : Taking
+        gone = took (lived f (Report p h)) (Ok (Report p h))
 
         quiet : Quiet (lived f (Report p h)).after
         quiet = subst (λ b. Quiet (cond b (lived f (Report p h)) (refused {A = Live} fault.NotUp f)).after) up
@@ -246,23 +243,23 @@ module _ (c : ℕ) (s : State) (d : Desk) (x : Line) (t : Taking) (sound : Sound
         up_after : Following → Type 0
         up_after g = g.up ≡ true
 
-        by : x.ready ≡ false → (u : Up c s.venue.kept (session s c) f (place_in f) x t) (w : Comes u.y)
+        by : x.connection ≡ conn.Up → (u : Up c s.venue.kept (session s c) f (place_in f) x t) (w : Comes u.y)
             → is_unfit (lived f (Report p h)).answer ≡ false
             → ((is_full (lived f (Report p h)).answer ≡ true) × ((lived f (Report p h)).after ≡ turned false f))
             ⊎ ((is_full (lived f (Report p h)).answer ≡ false) × ((lived f (Report p h)).after.up ≡ f.up)
             × Stands c s.venue (session s c) (lived f (Report p h)).after rest_line
-            (or_one c s.venue.kept (session s c) t lost))
-            → Goes c s (lived f (Report p h)) x' (or_one c s.venue.kept (session s c) t lost)
+            (or_one c s.venue.kept (session s c) t gone))
+            → Goes c s (lived f (Report p h)) x' (or_one c s.venue.kept (session s c) t gone)
         by r u w fits (inl (full, fell)) =
-            let lx : record rest_line { up = false }
-            ≡ x' = same_ok (record rest_line { up = false }) x' (or_lost true (Ok rest_line)) refl
+            let lx : record rest_line { connection = lost x.connection }
+            ≡ x' = same_ok (record rest_line { connection = lost x.connection }) x' (or_lost true (Ok rest_line)) refl
             (subst (λ b. or_lost b (Ok rest_line) ≡ Ok x') full ok) in
             record {
               fits = fits;
               keeps = λ token. subst (λ y. Keeps c s
                   (record { follower = (lived f (Report p h)).after; token = token }) y
-                  (or_one c s.venue.kept (session s c) t lost)) lx (record {
-                    up = ap (λ (g : Following). g.up) (sym fell);
+                  (or_one c s.venue.kept (session s c) t gone)) lx (record {
+                    up = ap (λ a. up_in (lost a)) r ∙ ap (λ (g : Following). g.up) (sym fell);
                     quiet = quiet;
                     placed = λ q. subst (λ (g : Following). (place_in g q ≡ 0) ⊎ (is_hers c s q (place_in g q) ≡ true))
                         (sym fell) (subst (λ z. (z ≡ 0) ⊎ (is_hers c s q z ≡ true)) (sym (turned_places q))
@@ -274,8 +271,8 @@ module _ (c : ℕ) (s : State) (d : Desk) (x : Line) (t : Taking) (sound : Sound
                     sound = λ q. sound;
                     few = λ q. few;
                     phase = to_away c s.venue.kept (session s c) (lived f (Report p h)).after
-                        (place_in (lived f (Report p h)).after) (record rest_line { up = false })
-                        (or_one c s.venue.kept (session s c) t lost) x.ready false r refl;
+                        (place_in (lived f (Report p h)).after) (record rest_line { connection = lost x.connection })
+                        (or_one c s.venue.kept (session s c) t gone) (lost x.connection) (ap lost r);
                   });
             }
           where
@@ -290,7 +287,7 @@ module _ (c : ℕ) (s : State) (d : Desk) (x : Line) (t : Taking) (sound : Sound
               fits = fits;
               keeps = λ token. subst (λ y. Keeps c s
                   (record { follower = (lived f (Report p h)).after; token = token }) y
-                  (or_one c s.venue.kept (session s c) t lost)) lx (record {
+                  (or_one c s.venue.kept (session s c) t gone)) lx (record {
                     up = k.up ∙ sym same_up;
                     quiet = quiet;
                     placed = st.placed;
@@ -300,13 +297,13 @@ module _ (c : ℕ) (s : State) (d : Desk) (x : Line) (t : Taking) (sound : Sound
                     few = λ q. few;
                     phase = to_up c s.venue.kept (session s c) (lived f (Report p h)).after
                         (place_in (lived f (Report p h)).after) rest_line
-                        (or_one c s.venue.kept (session s c) t lost) x.ready x.up r (k.up ∙ up) st.up;
+                        (or_one c s.venue.kept (session s c) t gone) x.connection r st.up;
                   });
             }
 
   -- what is not the next under way: up, the line does not bring it
   not_next : {X : Type 0} (b : Breach) (l : Line) → f.up ≡ true → out_of_turn b x ≡ Ok l → X
-  not_next b l up ok = by x.up (k.up ∙ up) ok
+  not_next b l up ok = by (up_in x.connection) (k.up ∙ up) ok
     where
       by : {X : Type 0} (u : Bool) → u ≡ true → cond u (Err b) (Ok x) ≡ Ok l → X
       by true e g = ok_err b l (Err b) refl g
@@ -314,7 +311,7 @@ module _ (c : ℕ) (s : State) (d : Desk) (x : Line) (t : Taking) (sound : Sound
 
   -- not up, it changes nothing
   as_it_was : (b : Breach) (l : Line) → f.up ≡ false → out_of_turn b x ≡ Ok l → x ≡ l
-  as_it_was b l dn ok = by x.up (k.up ∙ dn) ok
+  as_it_was b l dn ok = by (up_in x.connection) (k.up ∙ dn) ok
     where
       by : (u : Bool) → u ≡ false → cond u (Err b) (Ok x) ≡ Ok l → x ≡ l
       by false e g = same_ok x l (Ok x) refl g
@@ -383,14 +380,14 @@ module _ (c : ℕ) (s : State) (d : Desk) (x : Line) (t : Taking) (sound : Sound
   -- ---- the recovery channel
 
   -- where both ends stand after it, and the follower is up still
-  gone_on : {y : Line} (a : Step Recovered) (u : Taking) → f.up ≡ true → y.ready ≡ x.ready → y.up ≡ x.up
+  gone_on : {y : Line} (a : Step Recovered) (u : Taking) → f.up ≡ true → y.connection ≡ x.connection
       → Recovers c s.venue (session s c) sound few f a y (or_one c s.venue.kept (session s c) t u) → Quiet a.after
       → ((p : Partition) (n : ℕ) → u p n → is_hers c s p n ≡ true)
       → Goes c s a y (or_one c s.venue.kept (session s c) t u)
-  gone_on {y} a u up er eu (fits, same_up, st) quiet hers = record {
+  gone_on {y} a u up eu (fits, same_up, st) quiet hers = record {
     fits = fits;
     keeps = λ token. record {
-      up = eu ∙ k.up ∙ sym same_up;
+      up = ap up_in eu ∙ k.up ∙ sym same_up;
       quiet = quiet;
       placed = st.placed;
       known = st.known;
@@ -398,9 +395,8 @@ module _ (c : ℕ) (s : State) (d : Desk) (x : Line) (t : Taking) (sound : Sound
       sound = λ q. sound;
       few = λ q. few;
       phase = to_up c s.venue.kept (session s c) a.after (place_in a.after) y
-          (or_one c s.venue.kept (session s c) t u) y.ready y.up
-          (er ∙ (up_of c s.venue.kept (session s c) f (place d) x t x.ready x.up (k.up ∙ up) k.phase).0)
-          (eu ∙ k.up ∙ up) st.up;
+          (or_one c s.venue.kept (session s c) t u) y.connection
+          (eu ∙ (up_of c s.venue.kept (session s c) f (place d) x t x.connection (k.up ∙ up) k.phase).0) st.up;
     };
   }
     where
@@ -412,7 +408,7 @@ module _ (c : ℕ) (s : State) (d : Desk) (x : Line) (t : Taking) (sound : Sound
   UpNow = Up c s.venue.kept (session s c) f (place_in f) x t
 
   now_up : f.up ≡ true → UpNow
-  now_up up = (up_of c s.venue.kept (session s c) f (place d) x t x.ready x.up (k.up ∙ up) k.phase).1
+  now_up up = (up_of c s.venue.kept (session s c) f (place d) x t x.connection (k.up ∙ up) k.phase).1
 
   abbrev step_on : Heard → Step Recovered
   step_on h = recovered_step f (Ok h)
@@ -437,21 +433,21 @@ module _ (c : ℕ) (s : State) (d : Desk) (x : Line) (t : Taking) (sound : Sound
   refusing_front m rest e h = subst Refusing e h
 
   -- a follower that is not up takes nothing, and has nothing under way on the recovery channel; or no connection counts
-  off_still : (y : Line) (h : Heard) → f.up ≡ false → y.ready ≡ x.ready → y.up ≡ x.up → y.live ≡ x.live
+  off_still : (y : Line) (h : Heard) → f.up ≡ false → y.connection ≡ x.connection → y.live ≡ x.live
       → ((b : PerPartition ℕ) → StillAt b x → StillAt b y)
       → Goes c s (refused {A = Recovered} fault.NotUp f) y
       (or_one c s.venue.kept (session s c) t (took (refused {A = Recovered} fault.NotUp f) (Ok h)))
-  off_still y h dn er eu el same = record {
+  off_still y h dn eu el same = record {
     fits = refl;
     keeps = λ token. record {
-      up = eu ∙ k.up;
+      up = ap up_in eu ∙ k.up;
       quiet = k.quiet;
       placed = k.placed;
       known = k.known;
       hers = λ p n z. old_hers p n z;
       sound = λ q. sound;
       few = λ q. few;
-      phase = by x.ready x.up (k.up ∙ dn) er eu k.phase;
+      phase = by x.connection (k.up ∙ dn) eu k.phase;
     };
   }
     where
@@ -478,20 +474,21 @@ module _ (c : ℕ) (s : State) (d : Desk) (x : Line) (t : Taking) (sound : Sound
             still = same z.y z.still;
           }
 
-      by : (r b : Bool) → b ≡ false → y.ready ≡ r → y.up ≡ b → Phase r b c s.venue.kept (session s c) f (place d) x t
-          → Phase y.ready y.up c s.venue.kept (session s c) f (place d) y (or_one c s.venue.kept (session s c) t none)
-      by false false e er eu z = to_away c s.venue.kept (session s c) f (place d) y
-          (or_one c s.venue.kept (session s c) t none) y.ready y.up er eu
-      by true false e er eu z = to_ready c s.venue.kept (session s c) f (place d) y
-          (or_one c s.venue.kept (session s c) t none) y.ready y.up er eu (ready z)
-      by r true e er eu z = absurd cc
+      by : (a : Connection) → up_in a ≡ false → y.connection ≡ a
+          → Phase a c s.venue.kept (session s c) f (place d) x t
+          → Phase y.connection c s.venue.kept (session s c) f (place d) y (or_one c s.venue.kept (session s c) t none)
+      by conn.Away e eu z = to_away c s.venue.kept (session s c) f (place d) y
+          (or_one c s.venue.kept (session s c) t none) y.connection eu
+      by conn.Ready e eu z = to_ready c s.venue.kept (session s c) f (place d) y
+          (or_one c s.venue.kept (session s c) t none) y.connection eu (ready z)
+      by conn.Up e eu z = absurd cc
 
   off_same : (h : Heard) (l : Line) → f.up ≡ false → x ≡ l
       → Goes c s (step_on h) l (or_one c s.venue.kept (session s c) t (took (step_on h) (Ok h)))
   off_same h l dn e =
       subst (λ z. Goes c s (step_on h) z (or_one c s.venue.kept (session s c) t (took (step_on h) (Ok h)))) e
       (subst (λ a. Goes c s a x (or_one c s.venue.kept (session s c) t (took a (Ok h)))) (sym (is_off h dn))
-      (off_still x h dn refl refl refl (λ b z. z)))
+      (off_still x h dn refl refl (λ b z. z)))
 
   taken_none : {A : Type 0} (r : Result A FollowerFault) → Taken r ⊥ → ⊥
   taken_none (Ok a) h = h
@@ -521,7 +518,7 @@ module _ (c : ℕ) (s : State) (d : Desk) (x : Line) (t : Taking) (sound : Sound
       (same_ok (record x { recovered = rest; again = [] }) x' (Ok (record x { recovered = rest; again = [] })) refl ok)
       (subst (λ a. Goes c s a (record x { recovered = rest; again = [] })
       (or_one c s.venue.kept (session s c) t (took a (Ok h)))) (sym (is_on h q))
-      (gone_on (recovering f h) (took (recovering f h) (Ok h)) q refl refl
+      (gone_on (recovering f h) (took (recovering f h) (Ok h)) q refl
       (on (now_up q) rest (took (recovering f h) (Ok h)) (next_is m x.recovered rest e) none) (quiet_on h q)
       (λ p n z. absurd (none p n z))))
     where
@@ -532,7 +529,7 @@ module _ (c : ℕ) (s : State) (d : Desk) (x : Line) (t : Taking) (sound : Sound
       (same_ok (record x { recovered = rest; again = [] }) x' (Ok (record x { recovered = rest; again = [] })) refl ok)
       (subst (λ a. Goes c s a (record x { recovered = rest; again = [] })
       (or_one c s.venue.kept (session s c) t (took a (Ok h)))) (sym (is_off h q))
-      (off_still (record x { recovered = rest; again = [] }) h q refl refl refl
+      (off_still (record x { recovered = rest; again = [] }) h q refl refl
       (λ b z. popped b x.opening refl z)))
     where
       front : x.recovered ≡ m ∷ rest
@@ -608,21 +605,21 @@ module _ (c : ℕ) (s : State) (d : Desk) (x : Line) (t : Taking) (sound : Sound
         subst (λ z. Goes c s (step_on told) z (or_one c s.venue.kept (session s c) t (took (step_on told) (Ok told))))
         (same_ok y x' (Ok y) refl ok)
         (subst (λ a. Goes c s a y (or_one c s.venue.kept (session s c) t (took a (Ok told)))) (sym (is_on told q))
-        (gone_on (recovering f told) (took (recovering f told) (Ok told)) q refl refl r.0 (quiet_on told q)
+        (gone_on (recovering f told) (took (recovering f told) (Ok told)) q refl r.0 (quiet_on told q)
         (hers_told (recovering f told) r.1)))
     report_came (Some rest) e w i x' false q ok =
         let y : Line = record x { recovered = rest; again = m ∷ x.again } in
         subst (λ z. Goes c s (step_on told) z (or_one c s.venue.kept (session s c) t (took (step_on told) (Ok told))))
         (same_ok y x' (Ok y) refl ok)
         (subst (λ a. Goes c s a y (or_one c s.venue.kept (session s c) t (took a (Ok told)))) (sym (is_off told q))
-        (off_still y told q refl refl refl (λ b z. none_next b rest (next_is m x.recovered rest e) x.opening z)))
+        (off_still y told q refl refl (λ b z. none_next b rest (next_is m x.recovered rest e) x.opening z)))
     report_came None e true i x' true q ok =
         let u = now_up q in
         let r = comes_again u i x.opening refl u.staged in
         subst (λ z. Goes c s (step_on told) z (or_one c s.venue.kept (session s c) t (took (step_on told) (Ok told))))
         (same_ok x x' (repeated true x) refl (subst (λ z. repeated z x ≡ Ok x') i ok))
         (subst (λ a. Goes c s a x (or_one c s.venue.kept (session s c) t (took a (Ok told)))) (sym (is_on told q))
-        (gone_on (recovering f told) (took (recovering f told) (Ok told)) q refl refl r.0 (quiet_on told q)
+        (gone_on (recovering f told) (took (recovering f told) (Ok told)) q refl r.0 (quiet_on told q)
         (hers_told (recovering f told) r.1)))
     report_came None e false i x' true q ok = not_next RecoveredOutOfTurn x' q (subst (λ z. repeated z x ≡ Ok x') i ok)
     report_came None e w i x' false q ok = off_same told x' q (by w (subst (λ z. repeated z x ≡ Ok x') i ok))

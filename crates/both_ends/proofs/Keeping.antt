@@ -1,11 +1,14 @@
 -- What holds of both ends and of the line between them after every call that the line allows. Assumes nothing.
-use Rattle.std.proofs.Common.{◌≡◌, ◌⊎◌, inl, inr, ℕ, ◌≤◌, max, Bool, true, false, List, [], ◌∷◌, ◌++◌, None, Ok, Err, Option, Result, length, refl, sym, ◌∙◌, subst, arith}
+use Rattle.std.proofs.Common.{◌≡◌, ◌⊎◌, inl, inr, ℕ, ◌≤◌, max, true, List, [], ◌∷◌, ◌++◌, None, Ok, Err, Option, Result, length, refl, sym, ◌∙◌, subst, arith}
 use Rattle.codes.specs.declared.session.AckResponse.TheVariants.{Successful, LimitReached, InvalidAppId, ServiceUnavailable}
 use Rattle.codes.specs.declared.session.Partition.{Partition}
 use Rattle.both_ends.proofs.Carrying.{Brings, Flows, Holding, Loads, brings_grown, holding_grown, loads_grown, loads_cut}
 use Rattle.both_ends.proofs.Flights.{Passed, there_within, hers_grown, passed_grown}
 use Rattle.both_ends.specs.Agreement.{place, is_hers}
 use Rattle.both_ends.specs.Allowed.{Line}
+use Rattle.both_ends.specs.Connecting.{up_in}
+use Rattle.both_ends.specs.declared.connection.Connection.{Connection}
+use Rattle.both_ends.specs.declared.connection.Connection.TheVariants as conn
 use Rattle.both_ends.specs.declared.opening.Opening.{Opening}
 use Rattle.both_ends.specs.declared.opening.Opening.TheVariants.{Awaited, Open, Failed}
 use Rattle.both_ends.specs.Runs.{Desk}
@@ -262,22 +265,21 @@ pub record Up (c : ℕ) (k : Kept) (s : Session) (f : Following) (place : Partit
   pub sides : (p : Partition) → Sided c (at k p) (at f.sides p) (at y p) (at b p)
   pub staged : Channelled x.opening f.download c k place b (download s) x
 
--- by whether a connection is ready, and whether the follower is up
-abbrev pub Phase : Bool → Bool → ℕ → Kept → Session → Following → (Partition → ℕ) → Line → Taking → Type 0
-Phase false false c k s f place x t = Unit {0}
-Phase true false c k s f place x t = Ready c k s place x t
-Phase false true c k s f place x t = Up c k s f place x t
-Phase true true c k s f place x t = ⊥
+-- what holds while a connection is away, ready or up
+abbrev pub Phase : Connection → ℕ → Kept → Session → Following → (Partition → ℕ) → Line → Taking → Type 0
+Phase conn.Away c k s f place x t = Unit {0}
+Phase conn.Ready c k s f place x t = Ready c k s place x t
+Phase conn.Up c k s f place x t = Up c k s f place x t
 
 pub record Keeps (c : ℕ) (s : State) (d : Desk) (x : Line) (t : Taking) : Type 0 where
-  pub up : x.up ≡ d.follower.up
+  pub up : up_in x.connection ≡ d.follower.up
   pub quiet : Quiet d.follower
   pub placed : (p : Partition) → (place d p ≡ 0) ⊎ (is_hers c s p (place d p) ≡ true)
   pub known : Tallied c s.venue.kept d.follower.standings (place d)
   pub hers : (p : Partition) (n : ℕ) → t p n → is_hers c s p n ≡ true
   pub sound : d.follower.up ≡ true → Sound s.venue
   pub few : d.follower.up ≡ true → length s.venue.rows ≤ ORDERS
-  pub phase : Phase x.ready x.up c s.venue.kept (session s c) d.follower (place d) x t
+  pub phase : Phase x.connection c s.venue.kept (session s c) d.follower (place d) x t
 
 -- what was taken may be told in other words, and who keeps it does not hang on the token
 pub keeps_taken : (c : ℕ) (s : State) (d : Desk) (x : Line) (t t' : Taking) (token : Pending)
@@ -291,18 +293,18 @@ keeps_taken c s d x t t' token less k = record {
   hers = λ p n h. k.hers p n (less p n h);
   sound = k.sound;
   few = k.few;
-  phase = by x.ready x.up k.phase;
+  phase = by x.connection k.phase;
 }
   where
     flowing : (y : PerPartition ℕ) → Flowing c s.venue.kept (session s c).sent (place d) x t y
         → Flowing c s.venue.kept (session s c).sent (place d) x t' y
     flowing y h = record { within = h.within; flows = h.flows; taken = λ p n i. h.taken p n (less p n i) }
 
-    by : (r b : Bool) → Phase r b c s.venue.kept (session s c) d.follower (place d) x t
-        → Phase r b c s.venue.kept (session s c) d.follower (place d) x t'
-    by false false h = tt
-    by true false h = record { y = h.y; flowing = flowing h.y h.flowing; still = h.still }
-    by false true h =
+    by : (a : Connection) → Phase a c s.venue.kept (session s c) d.follower (place d) x t
+        → Phase a c s.venue.kept (session s c) d.follower (place d) x t'
+    by conn.Away h = tt
+    by conn.Ready h = record { y = h.y; flowing = flowing h.y h.flowing; still = h.still }
+    by conn.Up h =
         record {
           y = h.y;
           b = h.b;
@@ -311,4 +313,3 @@ keeps_taken c s d x t t' token less k = record {
           sides = h.sides;
           staged = h.staged;
         }
-    by true true h = absurd h

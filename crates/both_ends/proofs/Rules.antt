@@ -1,4 +1,7 @@
 -- That a log which keeps the rule of the line is allowed. Assumes nothing.
+use Rattle.both_ends.specs.Connecting.{lost, up_in}
+use Rattle.both_ends.specs.declared.connection.Connection.{Connection}
+use Rattle.both_ends.specs.declared.connection.Connection.TheVariants as conn
 use Rattle.std.specs.Prelude.{fold, filter, take, not, option_to_list}
 use Rattle.std.specs.List.{list_any}
 use Rattle.std.specs.Str.{bytes_eq}
@@ -38,14 +41,14 @@ Begun Failed carried rejects = (carried ≡ true) × (rejects ≡ [] → ⊥)
 module _ (c : ℕ) where
   -- what is under way is what left without what came
   pub record Matches (zs : List Done) (l : Line) : Type 0 where
-    pub up : l.up ≡ is_up zs
+    pub up : up_in l.connection ≡ is_up zs
     pub begun : Begun l.opening (list_any (is_recovery c) zs) (rejected_logons c zs)
     pub live : left_live c zs ≡ came_live c zs ++ l.live
     pub recovered : Flowing (left_recovered c zs) (came_recovered c zs) l.recovered l.again
     pub asked : written zs ≡ answered c zs ++ l.asked
 
-  pub at_logon : (ready : Bool) → Matches [] (record quiet { ready = ready })
-  at_logon ready = record { up = refl; begun = refl; live = refl; recovered = empty; asked = refl }
+  pub at_logon : (a : Connection) → up_in a ≡ false → Matches [] (record quiet { connection = a })
+  at_logon a down = record { up = down; begun = refl; live = refl; recovered = empty; asked = refl }
     where
       empty : Flowing [] [] [] []
       empty = record { behind = ([], refl); repeats = λ k i. i; next = inl refl }
@@ -102,8 +105,8 @@ module _ (c : ℕ) (zs : List Done) where
 
   -- and the line behind it
   pub record Moved (l l' : Line) (w : Shows) : Type 0 where
-    pub up : l'.up ≡ w.up
-    pub ready : w.raises ≡ false → l.ready ≡ true → l'.ready ≡ true
+    pub up : up_in l'.connection ≡ w.up
+    pub ready : w.raises ≡ false → l.connection ≡ conn.Ready → l'.connection ≡ conn.Ready
     pub begun : Begun l'.opening (list_any (is_recovery c) zs || (w.carries || false)) (rejected_logons c zs ++ w.rejects)
     pub live : left_live c zs ++ option_to_list w.live_out
         ≡ (came_live c zs ++ filter is_live (option_to_list w.live_in)) ++ l'.live
@@ -156,7 +159,7 @@ module _ (c : ℕ) (zs : List Done) where
     granted = e;
   }
 
-  pub matches : (l : Line) (x : Done) (l' : Line) → l.up ≡ is_up zs → Moved l l' (shows_of l.up x)
+  pub matches : (l : Line) (x : Done) (l' : Line) → up_in l.connection ≡ is_up zs → Moved l l' (shows_of (up_in l.connection) x)
       → Matches c (zs ++ x ∷ []) l'
   matches l x l' up m = record {
     up = m.up ∙ ap (λ b. up_after b x) up ∙ sym (up_more zs x);
@@ -167,7 +170,7 @@ module _ (c : ℕ) (zs : List Done) where
     live = shows_more (leaves_live c) zs x ∙ m.live ∙ ap (λ z. z ++ l'.live) (live_more x);
     recovered = subst (λ left. Flowing left (came_recovered c (zs ++ x ∷ [])) l'.recovered l'.again)
         (sym (left_more x))
-        (subst (λ us. Flowing (left_recovered c zs ++ (shows_of l.up x).back_out) us l'.recovered l'.again) (back_more x)
+        (subst (λ us. Flowing (left_recovered c zs ++ (shows_of (up_in l.connection) x).back_out) us l'.recovered l'.again) (back_more x)
         m.recovered);
     asked = shows_more writes zs x ∙ m.asked ∙ ap (λ z. z ++ l'.asked) (sym (shows_more (answers c) zs x));
   }
@@ -206,10 +209,11 @@ module _ (c : ℕ) (zs : List Done) where
         (subst (λ rs. Begun l.opening (list_any (is_recovery c) zs) rs) (sym (append-nil (rejected_logons c zs))) h.begun)
 
     -- nothing is shown
-    quietly : (ready up raises : Bool) → (raises ≡ false → l.ready ≡ true → ready ≡ true)
-        → Moved l (record l { ready = ready; up = up }) (record (nothing up) { raises = raises })
-    quietly ready up raises r = record {
-      up = refl;
+    quietly : (a : Connection) (up raises : Bool) → up_in a ≡ up
+        → (raises ≡ false → l.connection ≡ conn.Ready → a ≡ conn.Ready)
+        → Moved l (record l { connection = a }) (record (nothing up) { raises = raises })
+    quietly a up raises is r = record {
+      up = is;
       ready = r;
       begun = begun_still;
       live = live_still;
@@ -217,12 +221,12 @@ module _ (c : ℕ) (zs : List Done) where
       asked = asked_still;
     }
 
-    still : Moved l l (nothing l.up)
-    still = quietly l.ready l.up false (λ i r. r)
+    still : Moved l l (nothing (up_in l.connection))
+    still = quietly l.connection (up_in l.connection) false refl (λ i r. r)
 
     -- handed out live
     sent : (b : Bool) (bs : List ℕ) → Moved l (cond b (record l { live = behind l.live bs }) l)
-        (record (nothing l.up) { live_out = cond b (handed_out bs) None })
+        (record (nothing (up_in l.connection)) { live_out = cond b (handed_out bs) None })
     sent false bs = still
     sent true [] = still
     sent true (y ∷ bs) = record {
@@ -237,7 +241,7 @@ module _ (c : ℕ) (zs : List Done) where
 
     -- handed out on the recovery channel
     sent_back : (b : Bool) (bs : List ℕ) → Moved l (cond b (record l { recovered = behind l.recovered bs }) l)
-        (record (nothing l.up) { back_out = option_to_list (cond b (handed_out bs) None) ++ [] })
+        (record (nothing (up_in l.connection)) { back_out = option_to_list (cond b (handed_out bs) None) ++ [] })
     sent_back false bs = still
     sent_back true [] = still
     sent_back true (y ∷ bs) = record {
@@ -251,7 +255,7 @@ module _ (c : ℕ) (zs : List Done) where
 
     -- a request
     asks : (r : Result ℕ FollowerFault) (buffer : Message) → Moved l (after_ask r buffer l)
-        (record (nothing l.up) { wrote = written_of r buffer })
+        (record (nothing (up_in l.connection)) { wrote = written_of r buffer })
     asks (Err e) buffer = still
     asks (Ok n) buffer = record {
       up = refl;
@@ -269,7 +273,7 @@ module _ (c : ℕ) (zs : List Done) where
       pub ok : r ≡ Ok line
       pub moved : Moved l line w
 
-    stands : Goes (Ok l) (nothing l.up)
+    stands : Goes (Ok l) (nothing (up_in l.connection))
     stands = record { line = l; ok = refl; moved = still }
 
     -- ---- what the recovery channel carries to the gateway
@@ -279,7 +283,7 @@ module _ (c : ℕ) (zs : List Done) where
 
     -- something is given there: it may be an answered request, or a Logon that is no message and leaves a Reject
     abbrev given_with : Bool → Bool → Message → Message → List Message → Shows
-    given_with answers grants reply m rejects = record (nothing l.up) {
+    given_with answers grants reply m rejects = record (nothing (up_in l.connection)) {
       back_out = option_to_list (cond answers (Some reply) None) ++ rejects;
       took = cond answers (Some m) None;
       grants = grants;
@@ -294,7 +298,7 @@ module _ (c : ℕ) (zs : List Done) where
     carries = or_right carried true refl
 
     module _ (o : Opening) (begun : Begun o (carried || true) (rejected_logons c zs ++ [])) where
-      opened : (grants : Bool) → Moved l (record l { opening = o }) (record (nothing l.up) { grants = grants; carries = true })
+      opened : (grants : Bool) → Moved l (record l { opening = o }) (record (nothing (up_in l.connection)) { grants = grants; carries = true })
       opened grants = record {
         up = refl;
         ready = λ i r. r;
@@ -426,30 +430,46 @@ module _ (c : ℕ) (zs : List Done) where
     -- ---- what the follower is given
 
     -- a hold that is full acts as a lost line
+    abbrev fallen : Bool → Connection
+    fallen full = cond full (lost l.connection) l.connection
+
     falls : (ms : List Message) (full : Bool)
-        → or_lost full (Ok (record l { live = ms })) ≡ Ok (record l { live = ms; up = cond full false l.up })
+        → or_lost full (Ok (record l { live = ms })) ≡ Ok (record l { live = ms; connection = fallen full })
     falls ms true = refl
     falls ms false = refl
 
-    unheard : (full : Bool) → Goes (or_lost full (Ok l)) (nothing (cond full false l.up))
+    down : (a : Connection) → up_in (lost a) ≡ false
+    down conn.Away = refl
+    down conn.Ready = refl
+    down conn.Up = refl
+
+    fallen_up : (full : Bool) → up_in (fallen full) ≡ cond full false (up_in l.connection)
+    fallen_up true = down l.connection
+    fallen_up false = refl
+
+    fallen_ready : (full : Bool) → l.connection ≡ conn.Ready → fallen full ≡ conn.Ready
+    fallen_ready true r = ap lost r
+    fallen_ready false r = r
+
+    unheard : (full : Bool) → Goes (or_lost full (Ok l)) (nothing (cond full false (up_in l.connection)))
     unheard full = record {
-      line = record l { up = cond full false l.up };
+      line = record l { connection = fallen full };
       ok = falls l.live full;
-      moved = quietly l.ready (cond full false l.up) false (λ i r. r);
+      moved = quietly (fallen full) (cond full false (up_in l.connection)) false (fallen_up full) (λ i r. fallen_ready full r);
     }
 
     report_given : (m : Message) → IsFront (came_live c zs ++ filter is_live (m ∷ [])) (left_live c zs ++ []) → (full : Bool)
         → Goes (or_lost full (next_live (next_of m l.live) l))
-        (record (nothing (cond full false l.up)) { live_in = Some m })
+        (record (nothing (cond full false (up_in l.connection))) { live_in = Some m })
     report_given m (rest, f) full =
         let t = given l (left_live c zs) (came_live c zs) m h.live (is_live m)
         (ap (λ b. b || list_any (bytes_eq m) (left_live c zs)) h.up) (rest, sym (append-nil (left_live c zs)) ∙ f) in
         record {
-          line = record l { live = t.live; up = cond full false l.up };
+          line = record l { live = t.live; connection = fallen full };
           ok = ap (or_lost full) t.ok ∙ falls t.live full;
           moved = record {
-            up = refl;
-            ready = λ i r. r;
+            up = fallen_up full;
+            ready = λ i r. fallen_ready full r;
             begun = begun_still;
             live = append-nil (left_live c zs) ∙ t.flows;
             recovered = back_still;
@@ -460,7 +480,7 @@ module _ (c : ℕ) (zs : List Done) where
     come : (m : Message) (r : Result Heard Fault)
         → IsFront (came_live c zs ++ filter is_live (option_to_list (cond (is_report r) (Some m) None))) (left_live c zs ++ []) → (full : Bool)
         → Goes (or_lost full (given_live m r l))
-        (record (nothing (cond full false l.up)) { live_in = cond (is_report r) (Some m) None })
+        (record (nothing (cond full false (up_in l.connection))) { live_in = cond (is_report r) (Some m) None })
     come m (Ok (Report p n)) f full = report_given m f full
     come m (Ok (Ack a)) f full = unheard full
     come m (Ok (End a)) f full = unheard full
@@ -471,7 +491,7 @@ module _ (c : ℕ) (zs : List Done) where
     -- given on the recovery channel
     heard_back : (m : Message) (r : Result Heard Fault) → heard_in m ≡ r → is_heard r ≡ true
         → IsFront (once (came_back ++ filter is_back (m ∷ []))) (left_recovered c zs ++ [])
-        → Goes (given_recovered m r l) (record (nothing l.up) { back_in = Some m })
+        → Goes (given_recovered m r l) (record (nothing (up_in l.connection)) { back_in = Some m })
     heard_back m r heard counts (rest, f) =
         let t = given_back l (left_recovered c zs) came_back m h.recovered r heard counts
         (is_back m) (ap (λ b. b || list_any (bytes_eq m) (left_recovered c zs)) h.up)
@@ -491,7 +511,7 @@ module _ (c : ℕ) (zs : List Done) where
 
     come_back : (m : Message) (r : Result Heard Fault) → heard_in m ≡ r
         → IsFront (once (came_back ++ filter is_back (option_to_list (cond (is_heard r) (Some m) None)))) (left_recovered c zs ++ [])
-        → Goes (given_recovered m r l) (record (nothing l.up) { back_in = cond (is_heard r) (Some m) None })
+        → Goes (given_recovered m r l) (record (nothing (up_in l.connection)) { back_in = cond (is_heard r) (Some m) None })
     come_back m (Ok (Report p n)) heard f = heard_back m (Ok (Report p n)) heard refl f
     come_back m (Ok (Ack a)) heard f = heard_back m (Ok (Ack a)) heard refl f
     come_back m (Ok (End a)) heard f = heard_back m (Ok (End a)) heard refl f
@@ -500,12 +520,12 @@ module _ (c : ℕ) (zs : List Done) where
     come_back m (Err e) heard f = stands
 
     -- any call that begins no connection
-    goes : (x : Done) → accepts c x ≡ false → Ruled (shows_of l.up x) → (is_up_call x ≡ true → l.ready ≡ true)
-        → Goes (after_call c x l) (shows_of l.up x)
+    goes : (x : Done) → accepts c x ≡ false → Ruled (shows_of (up_in l.connection) x) → (is_up_call x ≡ true → l.connection ≡ conn.Ready)
+        → Goes (after_call c x l) (shows_of (up_in l.connection) x)
     goes (done.Venue (venue.RealTime line m t r)) plain s up = by (line == c) (bytes_eq (bytes_of r) accepted) plain
       where
         by : (b e : Bool) → (b && e) ≡ false
-            → Goes (cond b (after_logon e l) (Ok l)) (nothing l.up)
+            → Goes (cond b (after_logon e l) (Ok l)) (nothing (up_in l.connection))
         by true true i = absurd cc
         by true false i = stands
         by false e i = stands
@@ -525,14 +545,14 @@ module _ (c : ℕ) (zs : List Done) where
       moved = sent_back (line == c) (bytes_of r);
     }
     goes done.Up plain s up = record {
-      line = record l { ready = false; up = true };
-      ok = ap (λ b. after_up b l) (up refl);
-      moved = quietly false true true (λ i r. absurd cc);
+      line = record l { connection = conn.Up };
+      ok = ap (λ a. after_up a l) (up refl);
+      moved = quietly conn.Up true true refl (λ i r. absurd cc);
     }
     goes done.Lost plain s up = record {
-      line = record l { up = false };
+      line = record l { connection = lost l.connection };
       ok = refl;
-      moved = quietly l.ready false false (λ i r. r);
+      moved = quietly (lost l.connection) false false (down l.connection) (λ i r. ap lost r);
     }
     goes (done.Live m r) plain s up = come m.items (heard_in m.items) s.live (is_full r)
     goes (done.Recovered m r) plain s up = come_back m.items (heard_in m.items) refl s.recovered
@@ -548,10 +568,10 @@ module _ (c : ℕ) (zs : List Done) where
 pub record Behind (c : ℕ) (ys : List Done) (l : Line) : Type 0 where
   pub matches : Matches c (since c ys) l
   pub up : is_up (since c ys) ≡ is_up ys
-  pub ready : list_any (accepts c) ys ≡ true → list_any is_up_call (since c ys) ≡ false → l.ready ≡ true
+  pub ready : list_any (accepts c) ys ≡ true → list_any is_up_call (since c ys) ≡ false → l.connection ≡ conn.Ready
 
 at_first : (c : ℕ) → Behind c [] quiet
-at_first c = record { matches = at_logon c false; up = refl; ready = λ i r. absurd cc }
+at_first c = record { matches = at_logon c conn.Away refl; up = refl; ready = λ i r. absurd cc }
 
 module _ (c : ℕ) (log : List Done) (k : KeepsLine c log) where
   pub record Onward (ys : List Done) (x : Done) (l : Line) : Type 0 where
@@ -564,7 +584,7 @@ module _ (c : ℕ) (log : List Done) (k : KeepsLine c log) where
       → Onward ys x l
   begins ys x l f b logon = record { line = connected; ok = by x logon; behind = anew }
     where
-      down : l.up ≡ false
+      down : up_in l.connection ≡ false
       down = b.matches.up ∙ b.up ∙ k.logons ys x f logon
 
       one : (b e : Bool) → (b && e) ≡ true → cond b (after_logon e l) (Ok l) ≡ Ok connected
@@ -585,7 +605,7 @@ module _ (c : ℕ) (log : List Done) (k : KeepsLine c log) where
 
       anew : Behind c (ys ++ x ∷ []) connected
       anew = record {
-        matches = subst (λ zs. Matches c zs connected) (sym none) (at_logon c true);
+        matches = subst (λ zs. Matches c zs connected) (sym none) (at_logon c conn.Ready refl);
         up = ap is_up none ∙ sym (up_more ys x ∙ stays x logon (is_up ys) ∙ k.logons ys x f logon);
         ready = λ i r. refl;
       }
@@ -609,22 +629,22 @@ module _ (c : ℕ) (log : List Done) (k : KeepsLine c log) where
       more : since c (ys ++ x ∷ []) ≡ since c ys ++ x ∷ []
       more = since_more c ys x plain
 
-      rule : Ruled c (since c ys) (shows_of c (since c ys) l.up x)
+      rule : Ruled c (since c ys) (shows_of c (since c ys) (up_in l.connection) x)
       rule = ruled c (since c ys) x
           (subst (λ zs. IsFront (came_live c zs) (left_live c zs)) more (k.live (ys ++ x ∷ []) f))
           (subst (λ zs. IsFront (came_recovered c zs) (left_recovered c zs)) more (k.recovered (ys ++ x ∷ []) f))
           (subst (λ zs. IsFront (answered c zs) (written zs)) more (k.requests (ys ++ x ∷ []) f))
-          (k.granted ys x f) l.up
+          (k.granted ys x f) (up_in l.connection)
 
-      raised : (x : Done) → IsFront (ys ++ x ∷ []) log → is_up_call x ≡ true → l.ready ≡ true
+      raised : (x : Done) → IsFront (ys ++ x ∷ []) log → is_up_call x ≡ true → l.connection ≡ conn.Ready
       raised done.Up f i = let (logon, once_only) = k.ups ys f in b.ready logon once_only
       raised x f i = absurd cc
 
-      g : Goes c (since c ys) l b.matches (after_call c x l) (shows_of c (since c ys) l.up x)
+      g : Goes c (since c ys) l b.matches (after_call c x l) (shows_of c (since c ys) (up_in l.connection) x)
       g = goes c (since c ys) l b.matches x plain rule (raised x f)
 
       ready : (list_any (accepts c) ys ≡ true) ⊎ ((accepts c x || false) ≡ true)
-          → (list_any is_up_call (since c ys) ≡ false) × ((is_up_call x || false) ≡ false) → g.line.ready ≡ true
+          → (list_any is_up_call (since c ys) ≡ false) × ((is_up_call x || false) ≡ false) → g.line.connection ≡ conn.Ready
       ready (inl i) (r, q) = g.moved.ready (or_parts (is_up_call x) false q).0 (b.ready i r)
       ready (inr i) r = absurd (let z : true ≡ false = sym i ∙ ap (λ b. b || false) plain in cc)
 

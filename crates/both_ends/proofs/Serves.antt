@@ -24,6 +24,9 @@ use Rattle.both_ends.specs.Runs.{Desk}
 use Rattle.both_ends.specs.declared.allowed.Breach.TheVariants.{StillUp, NotAsked, GrantedOverFailure}
 use Rattle.both_ends.specs.declared.opening.Opening.{Opening}
 use Rattle.both_ends.specs.declared.opening.Opening.TheVariants.{Awaited, Open, Failed}
+use Rattle.both_ends.specs.Connecting.{up_in}
+use Rattle.both_ends.specs.declared.connection.Connection.{Connection}
+use Rattle.both_ends.specs.declared.connection.Connection.TheVariants as conn
 use Rattle.gateway_runs.specs.declared.call.Reply.{Reply}
 use Rattle.gateway.specs.declared.fault.GatewayFault.{GatewayFault}
 use Rattle.gateway_runs.specs.Runs.{bytes_of, left}
@@ -102,7 +105,7 @@ module _ (c : ℕ) (s : State) (d : Desk) (x : Line) (t : Taking) (k : Keeps c s
       by (inl e) = inl e
       by (inr h) = inr (hers_grown c (at old p) (at new p) (place d p) (g p) h)
 
-  keeps_on : (x' : Line) → x'.up ≡ x.up → Phase x'.ready x'.up c new (session w c) f (place d) x' t → Keeps c w d x' t
+  keeps_on : (x' : Line) → up_in x'.connection ≡ up_in x.connection → Phase x'.connection c new (session w c) f (place d) x' t → Keeps c w d x' t
   keeps_on x' e ph = record {
     up = e ∙ k.up;
     quiet = k.quiet;
@@ -162,26 +165,25 @@ module _ (c : ℕ) (s : State) (d : Desk) (x : Line) (t : Taking) (k : Keeps c s
   }
 
   -- by the phase, where the line goes on
-  goes_on : (x' : Line) → x'.ready ≡ x.ready → x'.up ≡ x.up
+  goes_on : (x' : Line) → x'.connection ≡ x.connection
       → (Ready c old (session s c) (place d) x t → Ready c new (session w c) (place d) x' t)
       → (Up c old (session s c) f (place d) x t → Up c new (session w c) f (place d) x' t)
       → Keeps c w d x' t
-  goes_on x' er eu on_ready on_up = keeps_on x' eu (by x.ready x.up er eu k.phase)
+  goes_on x' same on_ready on_up = keeps_on x' (ap up_in same) (by x.connection same k.phase)
     where
-      by : (r u : Bool) → x'.ready ≡ r → x'.up ≡ u → Phase r u c old (session s c) f (place d) x t
-          → Phase x'.ready x'.up c new (session w c) f (place d) x' t
-      by false false er eu z = to_away c new (session w c) f (place d) x' t x'.ready x'.up er eu
-      by true false er eu z = to_ready c new (session w c) f (place d) x' t x'.ready x'.up er eu (on_ready z)
-      by false true er eu z = to_up c new (session w c) f (place d) x' t x'.ready x'.up er eu (on_up z)
-      by true true er eu z = absurd z
+      by : (a : Connection) → x'.connection ≡ a → Phase a c old (session s c) f (place d) x t
+          → Phase x'.connection c new (session w c) f (place d) x' t
+      by conn.Away e z = to_away c new (session w c) f (place d) x' t x'.connection e
+      by conn.Ready e z = to_ready c new (session w c) f (place d) x' t x'.connection e (on_ready z)
+      by conn.Up e z = to_up c new (session w c) f (place d) x' t x'.connection e (on_up z)
 
   -- the session stays, or its channels are closed
   pub quietly : Stays (session s c) (session w c) ⊎ Closes (session s c) (session w c) → Keeps c w d x t
-  quietly (inl (es, ed)) = goes_on x refl refl (ready_on x es refl on) (up_on x es refl on)
+  quietly (inl (es, ed)) = goes_on x refl (ready_on x es refl on) (up_on x es refl on)
     where
       on : Carries x
       on a b bases st = subst (λ o. Channelled x.opening a c new (place d) b o x) (sym ed) st
-  quietly (inr (es, ed)) = goes_on x refl refl (ready_on x es refl on) (up_on x es refl on)
+  quietly (inr (es, ed)) = goes_on x refl (ready_on x es refl on) (up_on x es refl on)
     where
       on : Carries x
       on a b bases st =
@@ -191,7 +193,7 @@ module _ (c : ℕ) (s : State) (d : Desk) (x : Line) (t : Taking) (k : Keeps c s
 
   -- ---- a Logon is accepted
 
-  pub logs_on : Opens old (session w c) → (b : Bool) → x.up ≡ b → (x' : Line) → cond b (Err StillUp) (Ok connected)
+  pub logs_on : Opens old (session w c) → (b : Bool) → up_in x.connection ≡ b → (x' : Line) → cond b (Err StillUp) (Ok connected)
       ≡ Ok x' → Keeps c w d x' t
   logs_on o true e x' ok = ok_err StillUp x' (Err StillUp) refl ok
   logs_on (es, ed) false e x' ok =
@@ -222,7 +224,7 @@ module _ (c : ℕ) (s : State) (d : Desk) (x : Line) (t : Taking) (k : Keeps c s
 
   pub real_time : (bytes : List ℕ) → RealTimeDoes old bytes (session s c) (session w c) → (b : Bool)
       → bytes_eq bytes accepted ≡ b → (x' : Line) → after_logon b x ≡ Ok x' → Keeps c w d x' t
-  real_time bytes (inl (e, o)) true q x' ok = logs_on o x.up refl x' ok
+  real_time bytes (inl (e, o)) true q x' ok = logs_on o (up_in x.connection) refl x' ok
   real_time bytes (inl (e, o)) false q x' ok = absurd
       (let z : true ≡ false = sym ((bytes_eq-Decides bytes accepted).1 e) ∙ q in cc)
   real_time bytes (inr (ne, h)) true q x' ok = absurd (ne ((bytes_eq-Decides bytes accepted).0 q))
@@ -269,7 +271,7 @@ module _ (c : ℕ) (s : State) (d : Desk) (x : Line) (t : Taking) (k : Keeps c s
       → ((y : PerPartition ℕ) → Flowing c old (session s c).sent (place d) x t y
       → Flowing c new (session w c).sent (place d) (record x { live = ms }) t y)
       → Keeps c w d (record x { live = ms }) t
-  goes_live ms ed on = goes_on (record x { live = ms }) refl refl on_ready on_up
+  goes_live ms ed on = goes_on (record x { live = ms }) refl on_ready on_up
     where
       carry : Carries (record x { live = ms })
       carry a b bases st =
@@ -349,7 +351,7 @@ module _ (c : ℕ) (s : State) (d : Desk) (x : Line) (t : Taking) (k : Keeps c s
   goes_recovered : (rec ask : List (List ℕ)) → (session w c).sent ≡ (session s c).sent
       → Carries (record x { recovered = rec; asked = ask }) → Keeps c w d (record x { recovered = rec; asked = ask }) t
   goes_recovered rec ask es on =
-      goes_on (record x { recovered = rec; asked = ask }) refl refl
+      goes_on (record x { recovered = rec; asked = ask }) refl
       (ready_on (record x { recovered = rec; asked = ask }) es refl on)
       (up_on (record x { recovered = rec; asked = ask }) es refl on)
 
@@ -671,18 +673,18 @@ module _ (c : ℕ) (s : State) (d : Desk) (x : Line) (t : Taking) (k : Keeps c s
     hers = k.hers;
     sound = k.sound;
     few = k.few;
-    phase = by x.ready x.up k.phase;
+    phase = by x.connection k.phase;
   }
     where
       flowing : (z : PerPartition ℕ) → Flowing c s.venue.kept (session s c).sent (place d) x t z
           → Flowing c s.venue.kept (session s c).sent (place d) (record x { opening = o; recovered = rec }) t z
       flowing z h = record { within = h.within; flows = h.flows; taken = h.taken }
 
-      by : (r u : Bool) → Phase r u c s.venue.kept (session s c) d.follower (place d) x t
-          → Phase r u c s.venue.kept (session s c) d.follower (place d) (record x { opening = o; recovered = rec }) t
-      by false false z = tt
-      by true false z = record { y = z.y; flowing = flowing z.y z.flowing; still = on Idle z.y z.still }
-      by false true z = record {
+      by : (a : Connection) → Phase a c s.venue.kept (session s c) d.follower (place d) x t
+          → Phase a c s.venue.kept (session s c) d.follower (place d) (record x { opening = o; recovered = rec }) t
+      by conn.Away z = tt
+      by conn.Ready z = record { y = z.y; flowing = flowing z.y z.flowing; still = on Idle z.y z.still }
+      by conn.Up z = record {
         y = z.y;
         b = z.b;
         flowing = flowing z.y z.flowing;
@@ -690,7 +692,6 @@ module _ (c : ℕ) (s : State) (d : Desk) (x : Line) (t : Taking) (k : Keeps c s
         sides = z.sides;
         staged = on d.follower.download z.b z.staged;
       }
-      by true true z = absurd z
 
   opens_channel : x.opening ≡ Awaited → Keeps c s d (record x { opening = Open }) t
   opens_channel i = reopened Open x.recovered (λ a b st. by a b x.opening i st)

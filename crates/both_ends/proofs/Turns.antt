@@ -1,4 +1,5 @@
 -- What left the gateway on a channel, what came, and what is under way. Assumes nothing.
+use Rattle.both_ends.specs.Connecting.{up_in}
 use Rattle.std.specs.Prelude.{fold, option_to_list}
 use Rattle.std.specs.List.{filter_map, list_any}
 use Rattle.std.specs.Str.{bytes_eq}
@@ -107,7 +108,7 @@ module _ (l : Line) (left us : List Message) (m : Message) (e : left ≡ us ++ l
     pub ok : r ≡ Ok (record l { live = live })
     pub flows : left ≡ (us ++ new) ++ live
 
-  pub given : (own : Bool) → (l.up || list_any (bytes_eq m) left) ≡ own → IsFront (us ++ cond own (m ∷ []) []) left
+  pub given : (own : Bool) → (up_in l.connection || list_any (bytes_eq m) left) ≡ own → IsFront (us ++ cond own (m ∷ []) []) left
       → Taken (cond own (m ∷ []) []) (next_live (next_of m l.live) l)
   given true o (rest, f) =
       let next : l.live ≡ m ∷ rest = behind_front left us l.live rest (m ∷ []) e f in record {
@@ -116,7 +117,7 @@ module _ (l : Line) (left us : List Message) (m : Message) (e : left ≡ us ++ l
         flows = f;
       }
   given false o f =
-      let (down, none) = or_parts l.up (list_any (bytes_eq m) left) o in record {
+      let (down, none) = or_parts (up_in l.connection) (list_any (bytes_eq m) left) o in record {
         live = l.live;
         ok = ap (λ z. next_live z l) (next_none m us l.live (ap (list_any (bytes_eq m)) (sym e) ∙ none))
             ∙ ap (λ b. cond b (Err LiveOutOfTurn) (Ok l)) down;
@@ -190,14 +191,14 @@ module _ (l : Line) (left ms : List Message) (m : Message) (e : Flowing left (on
   none_next : list_any (bytes_eq m) left ≡ false → next_of m l.recovered ≡ None
   none_next none = next_none m e.behind.0 l.recovered (ap (list_any (bytes_eq m)) (sym e.behind.1) ∙ none)
 
-  free : l.up ≡ false → out_of_turn RecoveredOutOfTurn l ≡ Ok l
+  free : up_in l.connection ≡ false → out_of_turn RecoveredOutOfTurn l ≡ Ok l
   free down = ap (λ b. cond b (Err RecoveredOutOfTurn) (Ok l)) down
 
-  back : (b : Bool) → l.up ≡ false → repeated b l ≡ Ok l
+  back : (b : Bool) → up_in l.connection ≡ false → repeated b l ≡ Ok l
   back true down = refl
   back false down = free down
 
-  foreign : (h : Result Heard Fault) → l.up ≡ false → list_any (bytes_eq m) left ≡ false → Given false h
+  foreign : (h : Result Heard Fault) → up_in l.connection ≡ false → list_any (bytes_eq m) left ≡ false → Given false h
   foreign h down none = record {
     under = l.recovered;
     again = l.again;
@@ -342,7 +343,7 @@ module _ (l : Line) (left ms : List Message) (m : Message) (e : Flowing left (on
     own false i = next_own i
 
   pub given_back : (h : Result Heard Fault) → heard_in m ≡ h → is_heard h ≡ true → (own : Bool)
-      → (l.up || list_any (bytes_eq m) left) ≡ own → IsFront (once (ms ++ cond own (m ∷ []) [])) left → Given own h
+      → (up_in l.connection || list_any (bytes_eq m) left) ≡ own → IsFront (once (ms ++ cond own (m ∷ []) [])) left → Given own h
   given_back h heard counts true o f = own h heard counts f (list_any (bytes_eq m) (last_reports (once ms))) refl
   given_back h heard counts false o f =
-      let (down, none) = or_parts l.up (list_any (bytes_eq m) left) o in foreign h down none
+      let (down, none) = or_parts (up_in l.connection) (list_any (bytes_eq m) left) o in foreign h down none

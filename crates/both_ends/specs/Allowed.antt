@@ -8,6 +8,9 @@ use Rattle.answers.specs.declared.answer.Answer.TheVariants.{LogonReply}
 use Rattle.both_ends.specs.Laws.{is_full}
 use Rattle.both_ends.specs.declared.allowed.Breach.{Breach}
 use Rattle.both_ends.specs.declared.allowed.Breach.TheVariants.{StillUp, NoLogon, LiveOutOfTurn, RecoveredOutOfTurn, NotAsked, GrantedOverFailure}
+use Rattle.both_ends.specs.Connecting.{lost, up_in}
+use Rattle.both_ends.specs.declared.connection.Connection.{Connection}
+use Rattle.both_ends.specs.declared.connection.Connection.TheVariants as conn
 use Rattle.both_ends.specs.declared.opening.Opening.{Opening}
 use Rattle.both_ends.specs.declared.opening.Opening.TheVariants.{Awaited, Open, Failed}
 use Rattle.both_ends.specs.declared.call.Done.{Done}
@@ -33,10 +36,7 @@ Message = List ℕ
 
 -- one line, as the calls so far left it
 pub record Line : Type 0 where
-  -- a Logon was accepted, and no up came since
-  pub ready : Bool
-  -- the follower is up
-  pub up : Bool
+  pub connection : Connection
   -- how the recovery channel of the connection began
   pub opening : Opening
   -- the reports under way to it on the real-time channel, oldest first
@@ -49,11 +49,11 @@ pub record Line : Type 0 where
   pub asked : List Message
 
 abbrev pub quiet : Line
-quiet = record { ready = false; up = false; opening = Awaited; live = []; recovered = []; again = []; asked = [] }
+quiet = record { connection = conn.Away; opening = Awaited; live = []; recovered = []; again = []; asked = [] }
 
 -- a new connection: of the one before it nothing comes any more
 abbrev pub connected : Line
-connected = record quiet { ready = true }
+connected = record quiet { connection = conn.Ready }
 
 -- what is behind the first message, if it is this one
 abbrev pub next_of : Message → List Message → Option (List Message)
@@ -67,7 +67,7 @@ abbrev pub accepted : Message
 accepted = answer_bytes (LogonReply Accepted)
 
 abbrev pub after_logon : Bool → Line → Result Line Breach
-after_logon true l = if l.up then Err StillUp else Ok connected
+after_logon true l = if up_in l.connection then Err StillUp else Ok connected
 after_logon false l = Ok l
 
 -- what is handed out is under way; where nothing was, nothing is
@@ -144,13 +144,14 @@ after_venue c (venue.SendRecovered line r) l =
 
 -- ---- the follower's calls
 
-abbrev pub after_up : Bool → Line → Result Line Breach
-after_up true l = Ok (record l { ready = false; up = true })
-after_up false l = Err NoLogon
+abbrev pub after_up : Connection → Line → Result Line Breach
+after_up conn.Ready l = Ok (record l { connection = conn.Up })
+after_up conn.Away l = Err NoLogon
+after_up conn.Up l = Err NoLogon
 
 -- what is not the next under way is a breach of the one that is up; of one that is not it changes nothing
 abbrev pub out_of_turn : Breach → Line → Result Line Breach
-out_of_turn b l = if l.up then Err b else Ok l
+out_of_turn b l = if up_in l.connection then Err b else Ok l
 
 -- a report given live is the next under way; all else that may be given live is nothing to a follower
 abbrev pub next_live : Option (List Message) → Line → Result Line Breach
@@ -163,7 +164,7 @@ given_live m h l = Ok l
 
 -- a hold that is full acts as a lost line
 abbrev pub or_lost : Bool → Result Line Breach → Result Line Breach
-or_lost true (Ok l) = Ok (record l { up = false })
+or_lost true (Ok l) = Ok (record l { connection = lost l.connection })
 or_lost true (Err b) = Err b
 or_lost false r = r
 
@@ -197,8 +198,8 @@ after_ask (Err e) buffer l = l
 
 abbrev pub after_call : ℕ → Done → Line → Result Line Breach
 after_call c (done.Venue d) l = after_venue c d l
-after_call c done.Up l = after_up l.ready l
-after_call c done.Lost l = Ok (record l { up = false })
+after_call c done.Up l = after_up l.connection l
+after_call c done.Lost l = Ok (record l { connection = lost l.connection })
 after_call c (done.Live m r) l = or_lost (is_full r) (given_live m.items (heard_in m.items) l)
 after_call c (done.Recovered m r) l = given_recovered m.items (heard_in m.items) l
 after_call c (done.Ask n r) l = Ok (after_ask r.answer r.after.items l)

@@ -3,6 +3,7 @@
 
 pub mod allowed;
 pub mod call;
+pub mod connection;
 pub mod entry;
 pub mod laws;
 mod making;

@@ -4,6 +4,7 @@ ghost use Rattle.follower.specs.Hearing.{heard_in};
 
 use crate::allowed::Breach;
 use crate::call::{Asked, Done};
+use crate::connection::Connection;
 use crate::opening::Opening;
 use crate::replies::{
     bytes, is_accepted, is_failed_logon, is_full, is_grant, is_reject, left_reject,
@@ -18,9 +19,7 @@ use std::marker::Model;
 /// One line, as the calls so far left it.
 #[derive(Drop)]
 pub(crate) struct Watch<'a> {
-    // a Logon was accepted, and no up came since
-    ready: bool,
-    up: bool,
+    connection: Connection,
     // how the recovery channel of the connection began
     opening: Opening,
     // the reports under way on the real-time channel
@@ -39,8 +38,7 @@ impl<'a> Model for Watch<'a> {
     ghost Value = { Line };
 
     ghost view = { λ w. record {
-      ready = w.ready;
-      up = w.up;
+      connection = w.connection;
       opening = w.opening;
       live = w.live;
       recovered = w.recovered;
@@ -58,8 +56,7 @@ impl<'a> Watch<'a> {
         ensures { result ≡ quiet }
     {
         Watch {
-            ready: false,
-            up: false,
+            connection: Connection::Away,
             opening: Opening::Awaited,
             live: UnderWay::new(alloc),
             recovered: UnderWay::new(alloc),
@@ -75,10 +72,10 @@ impl<'a> Watch<'a> {
         if !is_accepted {
             return Ok(());
         }
-        if self.up {
+        if self.connection.is_up() {
             return Err(Breach::StillUp);
         }
-        self.ready = true;
+        self.connection = Connection::Ready;
         self.opening = Opening::Awaited;
         self.live.clear();
         self.recovered.clear();
@@ -188,21 +185,22 @@ impl<'a> Watch<'a> {
     }
 
     fn after_up(&mut self) -> Result<(), Breach>
-        ensures { after_up self.old.ready self.old ≡ onto result self.new }
+        ensures { after_up self.old.connection self.old ≡ onto result self.new }
     {
-        if !self.ready {
-            return Err(Breach::NoLogon);
+        match self.connection {
+            Connection::Ready => {
+                self.connection = Connection::Up;
+                Ok(())
+            }
+            Connection::Away | Connection::Up => Err(Breach::NoLogon),
         }
-        self.ready = false;
-        self.up = true;
-        Ok(())
     }
 
     // What is not the next under way changes nothing where the follower is not up, and else the line does not bring it.
     fn out_of_turn(&self, breach: Breach) -> Result<(), Breach>
         ensures { out_of_turn breach self.now ≡ onto result self.now }
     {
-        if !self.up {
+        if !self.connection.is_up() {
             return Ok(());
         }
         Err(breach)
@@ -226,7 +224,7 @@ impl<'a> Watch<'a> {
     {
         self.given_live(message)?;
         if is_full {
-            self.up = false;
+            self.connection = self.connection.lost();
         }
         Ok(())
     }
@@ -289,7 +287,7 @@ impl<'a> Watch<'a> {
             Done::Venue(done) => self.after_venue(line, done),
             Done::Up => Ok(self.after_up()),
             Done::Lost => {
-                self.up = false;
+                self.connection = self.connection.lost();
                 Ok(Ok(()))
             }
             Done::Live(message, answer) => Ok(self.after_live(message, is_full(answer))),
