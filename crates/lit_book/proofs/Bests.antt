@@ -6,8 +6,9 @@ use Rattle.std.proofs.lemmas.Bool.{and_parts, both_ways}
 use Rattle.texts.specs.declared.values.Price.{Price}
 use Rattle.codes.specs.declared.order.Side.{Side}
 use Rattle.codes.specs.declared.order.Side.TheVariants.{Buy, Sell}
-use Rattle.lit_book.specs.declared.order.Order.{Order}
-use Rattle.lit_book.specs.Orders.{crosses, prefers, price}
+use Rattle.order_book.specs.declared.order.Order.{Order}
+use Rattle.lit_book.specs.Orders.{crosses, prefers}
+use Rattle.order_book.specs.Orders.{price}
 use Rattle.lit_book.specs.Lists.{best, best_from, better_of, improves}
 use Rattle.lit_book.proofs.Settles.{Misses}
 

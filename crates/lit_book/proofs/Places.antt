@@ -5,9 +5,12 @@ use Rattle.std.proofs.lemmas.List.{get_or_default, take_all}
 use Rattle.std.proofs.lemmas.List.Sums.{fold_more}
 use Rattle.std.specs.Option.{option_map}
 use Rattle.texts.specs.declared.values.Price.{Price}
-use Rattle.lit_book.specs.declared.order.Order.{Order}
-use Rattle.lit_book.specs.Orders.{better_at, betters, crosses, prefers, price}
-use Rattle.lit_book.specs.Lists.{BestAt, BestSoFar, best, better_of, improves}
+use Rattle.order_book.specs.declared.order.Order.{Order}
+use Rattle.lit_book.specs.Orders.{better_at, betters, crosses, prefers}
+use Rattle.order_book.specs.Orders.{price}
+use Rattle.order_book.specs.Pairing.{PickedAt}
+use Rattle.lit_book.specs.Rules.{best_pair}
+use Rattle.lit_book.specs.Lists.{BestSoFar, best, better_of, improves}
 
 -- a price is compared with that of the best so far
 compared : (a x : Order) (os : List Order) (k : ℕ) (r : Option (ℕ × Price)) → BestSoFar a os k r
@@ -45,8 +48,13 @@ looked_at a e os k r so_far lt =
 
 pub best_at : (a : Order) (os : List Order) (k : ℕ) (r : Option (ℕ × Price)) → BestSoFar a os k r → length os ≤ k
     → k ≤ length os
-    → BestAt a os (option_map (λ (x : ℕ × Price). x.0) r)
-best_at a os k None so_far le ge = ap (best a) (sym (take_all k os le)) ∙ so_far
+    → PickedAt os (best_pair a os) r
+best_at a os k None so_far le ge =
+    ap (option_map (λ (o : Order). (o, price o))) (ap (best a) (sym (take_all k os le)) ∙ so_far)
 best_at a os k (Some (i, p)) so_far le ge =
     let l = so_far.0 in
-    (omega arith, λ d. ap (best a) (sym (take_all k os le)) ∙ (so_far.1 d).0)
+    (
+      omega arith,
+      λ d. ap (option_map (λ (o : Order). (o, price o))) (ap (best a) (sym (take_all k os le)) ∙ (so_far.1 d).0)
+          ∙ ap (λ (q : Price). Some (slice_index_or os i d, q)) (so_far.1 d).1,
+    )

@@ -1,9 +1,11 @@
 -- The orders at rest stay uncrossed. Assumes nothing.
 use Rattle.std.proofs.Common.{◌≡◌, ℕ, Bool, true, false, cond, not, ◌&&◌, eqb, List, [], ◌∷◌, ◌++◌, Some, None, Option, refl, ap, arith}
 use Rattle.std.proofs.lemmas.Bool.{and_from, and_parts}
-use Rattle.lit_book.specs.declared.order.Order.{Order}
-use Rattle.lit_book.specs.Orders.{crosses, rests}
-use Rattle.lit_book.specs.Lists.{best, best_from, better_of, changed, clear_of, improves, remains, settled}
+use Rattle.order_book.specs.declared.order.Order.{Order}
+use Rattle.lit_book.specs.Orders.{crosses}
+use Rattle.order_book.specs.Orders.{rests}
+use Rattle.lit_book.specs.Lists.{best, best_from, better_of, clear_of, improves, settled}
+use Rattle.order_book.specs.Lists.{changed, remains}
 
 -- a change of one order
 clear_changed : (o : Order) (n : ℕ) (w : Option ℕ) (xs : List Order) → clear_of o xs ≡ true
