@@ -8,11 +8,12 @@ use Rattle.texts.specs.declared.values.Price.{Price}
 use Rattle.order_book.specs.Orders.{goes_back}
 use Rattle.order_book.specs.Rules.{Lists, altered, amended, entered, order_under}
 use Rattle.order_book.specs.declared.order.Order.{Order}
+use Rattle.order_book.proofs.Bests.{best_none}
 use Rattle.order_book.proofs.Stops.{Ends, Kept, stop}
+use Rattle.lit_book.specs.Keeping.{lit_keeps}
 use Rattle.lit_book.specs.Lists.{settled}
-use Rattle.lit_book.specs.Rules.{best_pair, next}
-use Rattle.lit_book.proofs.Chosen.{none_best}
-use Rattle.lit_book.proofs.Settles.{best_none, settled_changed, settled_push}
+use Rattle.lit_book.specs.Rules.{lit_rule, next}
+use Rattle.lit_book.proofs.Settles.{settled_changed, settled_push}
 
 abbrev Quiet : Lists → Type 0
 Quiet b = settled b.resting ≡ true
@@ -47,11 +48,11 @@ amend_settled (Err w) b e m n p q f g = ap (λ (x : Lists). settled x.resting) g
 
 -- ---- events
 
--- one more comes to rest where none is picked for it
-pub settled_kept : Kept best_pair settled
-settled_kept a xs e r s = settled_push a xs s r (best_none a xs (none_best xs a e))
+-- one more comes to rest where there is none for it
+pub settled_kept : Kept lit_rule settled
+settled_kept a xs e r s = settled_push a xs s r (best_none lit_rule lit_keeps a xs e)
 
-settled_of : (rs ws : List Order) (x : Event × Lists) → settled rs ≡ true → Ends best_pair rs ws x → Quiet x.1
+settled_of : (rs ws : List Order) (x : Event × Lists) → settled rs ≡ true → Ends lit_rule rs ws x → Quiet x.1
 settled_of rs [] x q h = ap (λ (y : Event × Lists). settled y.1.resting) h ∙ q
 settled_of rs (a ∷ ws) x q (inl h) =
     ap (λ (y : Event × Lists). settled y.1.resting) h.is
@@ -61,7 +62,7 @@ settled_of rs (a ∷ ws) x q (inr h) =
 
 pub settled_next : (b : Lists) → Quiet b → Quiet (next b).1
 settled_next b q =
-    let s = stop best_pair b.resting b.waiting in
+    let s = stop lit_rule b.resting b.waiting in
     settled_of s.at_rest s.in_wait (next b) (s.keeps settled settled_kept q) s.ends
 
 pub next_settled : (b e : Lists) → Quiet b → e ≡ (next b).1 → Quiet e

@@ -1,50 +1,33 @@
 -- Whom a trade passes over, and that no two at rest cross. Assumes nothing.
-use Rattle.std.specs.Prelude.{◌≡◌, ℕ, zero, suc, ◌<◌, Bool, true, false, not, ◌&&◌, List, [], ◌∷◌, ◌++◌, length, get_or, Some, None, Option, MatchOption, nat_eq, refl}
+use Rattle.std.specs.Prelude.{◌≡◌, ℕ, zero, suc, ◌<◌, Bool, true, false, not, ◌&&◌, List, [], ◌∷◌, ◌++◌, length, get_or, Some, None, Option, MatchOption, refl}
 use Rattle.std.proofs.Common.{eqb, sym, ap, ◌∙◌, subst, inl, inr, arith}
 use Rattle.std.proofs.lemmas.List.{append_assoc}
 use Rattle.std.proofs.lemmas.List.Elements.{All-cons, All-nil}
-use Rattle.std.proofs.lemmas.List.Sums.{take_while-cons}
 use Rattle.std.proofs.lemmas.Int.{ints}
-use Rattle.std.proofs.lemmas.Bool.{and_cases, and_left, and_parts, and_right, both_ways, cases_Bool, cond-false, cond-true, eq-eqb, eqb-false, eqb-true, ne_eqb, not-true}
+use Rattle.std.proofs.lemmas.Bool.{and_cases, and_left, and_parts, and_right, both_ways, cases_Bool, eq-eqb, eqb-false, eqb-true, ne_eqb, not-true}
 use Rattle.std.specs.List.{All}
 use Rattle.codes.specs.declared.order.Side.{Side}
 use Rattle.codes.specs.declared.order.Side.TheVariants.{Buy, Sell}
 use Rattle.terms.specs.declared.lifetime.Lifetime.{Lifetime}
-use Rattle.keyed.specs.Look.{look}
-use Rattle.keyed.proofs.Looks.{passes}
 use Rattle.matching.specs.declared.event.Event.{Event}
 use Rattle.terms.specs.declared.pricing.Pricing.{Pricing}
 use Rattle.terms.specs.declared.pricing.Pricing.TheVariants.{Market, Limit}
 use Rattle.terms.specs.Pricing.{price_of}
 use Rattle.texts.specs.declared.values.Price.{Price}
-use Rattle.order_book.specs.Lists.{all_apart, order_held, order_in, order_number}
+use Rattle.order_book.specs.Laws.{at_rest_for, before}
+use Rattle.order_book.specs.Lists.{all_apart}
 use Rattle.order_book.specs.Orders.{accepts, lasting, opposes, price, rests}
-use Rattle.order_book.specs.Rules.{Lists, order_under}
+use Rattle.order_book.specs.Rules.{Lists}
 use Rattle.order_book.specs.declared.order.Order.{Order}
-use Rattle.order_book.proofs.Fairs.{Absent, absent_before, mid_in}
+use Rattle.order_book.proofs.Bests.{AllBeaten, NoneBeats, best_some}
+use Rattle.order_book.proofs.Fairs.{absent_before, met, mid_before, mid_in}
 use Rattle.order_book.proofs.Stops.{Ends, Stop, all_same, stop}
-use Rattle.lit_book.specs.Laws.{FirstServed, NoBetter, Served, Uncrossed, Worse, alike, at_rest_for, before}
-use Rattle.lit_book.specs.Lists.{best, clear_of, settled}
+use Rattle.lit_book.specs.Keeping.{crossed_parts, crosses_accepts, lit_keeps, not_better}
+use Rattle.lit_book.specs.Laws.{FirstServed, NoBetter, Served, Uncrossed, Worse, alike}
+use Rattle.lit_book.specs.Lists.{clear_of, settled}
 use Rattle.lit_book.specs.Orders.{crosses, prefers, takes}
-use Rattle.lit_book.specs.Rules.{best_pair, next}
-use Rattle.lit_book.proofs.Bests.{NoneBetterCrossed, WorseCrossed, best_some}
-use Rattle.lit_book.proofs.Chosen.{crossed_parts, crosses_accepts, is_best}
+use Rattle.lit_book.specs.Rules.{best, lit_rule, next}
 use Rattle.lit_book.proofs.Keeps.{settled_kept}
-
-absent_back : (xs ys : List Order) (n : ℕ) → Absent (xs ++ ys) n → Absent ys n
-absent_back [] ys n h = h
-absent_back (x ∷ xs) ys n h =
-    absent_back xs ys n (passes order_number order_held x (xs ++ ys) n h).1
-
-mid_before : (xs ys : List Order) (o : Order) → Absent xs o.number → before o.number (xs ++ o ∷ ys) ≡ xs
-mid_before [] ys o h =
-    take_while-cons (λ (x : Order). not (nat_eq x.number o.number)) o ys
-    ∙ cond-false (not (nat_eq o.number o.number)) _ _ (ap not (eq-eqb o.number o.number refl))
-mid_before (x ∷ xs) ys o h =
-    let p = passes order_number order_held x xs o.number h in
-    take_while-cons (λ (y : Order). not (nat_eq y.number o.number)) x (xs ++ o ∷ ys)
-    ∙ cond-true (not (nat_eq x.number o.number)) _ _ (ap not p.0)
-    ∙ ap (λ (l : List Order). x ∷ l) (mid_before xs ys o p.1)
 
 -- ---- whom a trade passes over
 
@@ -107,12 +90,7 @@ uncrossed_worse a o x c r l n =
     accepts_better a.side a.pricing (price o) (price x) (crosses_accepts a o c)
     (refuses a.side a.pricing x.pricing x.lifetime r k)
 
--- no price is better than itself
-not_better : (s : Side) (p : Price) → prefers s p p ≡ false
-not_better Buy p = grind (arith, ints)
-not_better Sell p = grind (arith, ints)
-
-all_worse : (a o : Order) (xs : List Order) → crosses a o ≡ true → AllRest xs → WorseCrossed a o xs
+all_worse : (a o : Order) (xs : List Order) → crosses a o ≡ true → AllRest xs → AllBeaten lit_rule a o xs
     → All (Worse a.side o) xs
 all_worse a o [] c r w = All-nil (Worse a.side o)
 all_worse a o (x ∷ xs) c r w =
@@ -120,7 +98,7 @@ all_worse a o (x ∷ xs) c r w =
     (λ l. elim (cases_Bool (crosses a x)) [ inl t ↦ w.0 t | inr n ↦ uncrossed_worse a o x c r.0 l n ])
     (all_worse a o xs c r.1 w.1)
 
-none_after : (a o : Order) (xs : List Order) → crosses a o ≡ true → AllRest xs → NoneBetterCrossed a o xs
+none_after : (a o : Order) (xs : List Order) → crosses a o ≡ true → AllRest xs → NoneBeats lit_rule a o xs
     → All (NoBetter a.side o) xs
 none_after a o [] c r w = All-nil (NoBetter a.side o)
 none_after a o (x ∷ xs) c r w =
@@ -133,8 +111,8 @@ none_after a o (x ∷ xs) c r w =
     (none_after a o xs c r.1 w.1)
 
 -- none at all is better
-none_better : (a o : Order) (xs ys : List Order) → crosses a o ≡ true → AllRest (xs ++ o ∷ ys) → WorseCrossed a o xs
-    → NoneBetterCrossed a o ys
+none_better : (a o : Order) (xs ys : List Order) → crosses a o ≡ true → AllRest (xs ++ o ∷ ys) → AllBeaten lit_rule a o xs
+    → NoneBeats lit_rule a o ys
     → All (NoBetter a.side o) (xs ++ o ∷ ys)
 none_better a o [] ys c r w v =
     All-cons (NoBetter a.side o) o ys (λ l. not_better a.side (price o)) (none_after a o ys c r.1 v)
@@ -147,7 +125,7 @@ none_better a o (x ∷ xs) ys c r w v =
 first_served : (a o : Order) (rs ws : List Order) → all_apart (rs ++ a ∷ ws) ≡ true → settled rs ≡ true → best a rs
     ≡ Some o → FirstServed a o.number rs
 first_served a o rs ws u s f =
-    let t = best_some a o rs f in
+    let t = best_some lit_rule lit_keeps a o rs f in
     let whole : rs ++ a ∷ ws ≡ t.before ++ o ∷ (t.after ++ a ∷ ws) = ap
     (λ (l : List Order). l ++ a ∷ ws) t.split ∙ append_assoc t.before (o ∷ t.after) (a ∷ ws) in
     let n = absent_before t.before (t.after ++ a ∷ ws) o (ap all_apart (sym whole) ∙ u) in
@@ -155,8 +133,8 @@ first_served a o rs ws u s f =
     let in_line : All (Worse a.side o) (before o.number (t.before ++ o ∷ t.after))
     × All (NoBetter a.side o) (t.before ++ o ∷ t.after) = (
       subst (All (Worse a.side o)) (sym (mid_before t.before t.after o n))
-          (all_worse a o t.before t.crossed (rest_front t.before (o ∷ t.after) r) t.earlier),
-      none_better a o t.before t.after t.crossed r t.earlier t.later,
+          (all_worse a o t.before t.fitting (rest_front t.before (o ∷ t.after) r) t.earlier),
+      none_better a o t.before t.after t.fitting r t.earlier t.later,
     ) in
     subst (FirstServed a o.number) (sym t.split)
     (subst (λ (w : Option Order). MatchOption w ⊥
@@ -164,34 +142,25 @@ first_served a o rs ws u s f =
     × All (NoBetter a.side y) (t.before ++ o ∷ t.after)))
     (sym (mid_in t.before t.after o n)) in_line)
 
-served_of : (b : Lists) (s : Stop best_pair b.resting b.waiting (next b)) (rs ws : List Order) → rs ≡ s.at_rest
+served_of : (b : Lists) (s : Stop lit_rule b.resting b.waiting (next b)) (rs ws : List Order) → rs ≡ s.at_rest
     → ws ≡ s.in_wait → all_apart (rs ++ ws) ≡ true → settled rs ≡ true
-    → Ends best_pair rs ws (next b) → Served b (next b).0
+    → Ends lit_rule rs ws (next b) → Served b (next b).0
 served_of b s rs [] p q u t h = subst (λ (x : Event × Lists). Served b x.0) (sym h) tt
 served_of b s rs (a ∷ ws) p q u t (inr h) = subst (λ (x : Event × Lists). Served b x.0) (sym h.is) tt
 served_of b s rs (a ∷ ws) p q u t (inl h) =
     let o = h.other in
-    let n = absent_before rs ws a u in
-    let all : b.resting ++ b.waiting ≡ rs ++ a
-    ∷ ws = sym (all_same best_pair b.resting b.waiting s) ∙ ap (λ (l : List Order). l ++ s.in_wait) (sym p) ∙ ap
-    (λ (l : List Order). rs ++ l) (sym q) in
-    let under : order_under b a.number ≡ Some a = ap (λ (l : List Order). order_in l a.number) all ∙ mid_in rs ws a n in
-    let came : Absent s.came a.number = absent_back b.resting s.came a.number
-    (ap (λ (l : List Order). look order_number order_held l a.number) (sym s.rested ∙ sym p) ∙ n) in
-    let there : at_rest_for a.number b ≡ rs =
-    ap (λ (l : List Order). b.resting ++ before a.number l) (s.waited ∙ ap (λ (l : List Order). s.came ++ l) (sym q))
-    ∙ ap (λ (l : List Order). b.resting ++ l) (mid_before s.came ws a came)
-    ∙ sym s.rested ∙ sym p in
+    let m = met lit_rule lit_keeps b s rs ws a o p q u h.best_is in
     subst (λ (x : Event × Lists). Served b x.0) (sym h.is)
-    (subst (λ (w : Option Order). MatchOption w ⊥ (λ y. FirstServed y o.number (at_rest_for a.number b))) (sym under)
-    (subst (FirstServed a o.number) (sym there) (first_served a o rs ws u t (is_best rs a o h.price h.picked).0)))
+    (subst (λ (w : Option Order). MatchOption w ⊥ (λ y. FirstServed y o.number (at_rest_for a.number b)))
+    (sym m.aggressive)
+    (subst (FirstServed a o.number) (sym m.there) (first_served a o rs ws u t h.best_is)))
 
 pub served_next : (b : Lists) → all_apart (b.resting ++ b.waiting) ≡ true → settled b.resting ≡ true
     → Served b (next b).0
 served_next b u q =
-    let s = stop best_pair b.resting b.waiting in
+    let s = stop lit_rule b.resting b.waiting in
     served_of b s s.at_rest s.in_wait refl refl
-    (ap all_apart (all_same best_pair b.resting b.waiting s) ∙ u) (s.keeps settled settled_kept q) s.ends
+    (ap all_apart (all_same lit_rule b.resting b.waiting s) ∙ u) (s.keeps settled settled_kept q) s.ends
 
 -- ---- no two at rest cross
 

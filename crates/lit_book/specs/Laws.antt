@@ -1,6 +1,6 @@
 -- Laws of the book, in the words of a trader. Assumes nothing.
 use Rattle.std.specs.Prelude.{◌≡◌, ℕ, ◌<◌, Bool, true, false, not, ◌&&◌, List, [], ◌∷◌, ◌++◌, length, pos, Some, None, MatchOption, ◌==◌, slice_index_or}
-use Rattle.std.specs.List.{All, take_while}
+use Rattle.std.specs.List.{All}
 use Rattle.codes.specs.declared.order.Side.{Side}
 use Rattle.codes.specs.declared.order.Side.TheVariants.{Buy, Sell}
 use Rattle.matching.specs.declared.event.Event.{Event}
@@ -8,13 +8,13 @@ use Rattle.matching.specs.declared.event.Event.TheVariants.{Nothing, Expired, Tr
 use Rattle.terms.specs.declared.lifetime.Lifetime.TheVariants.{Day}
 use Rattle.terms.specs.declared.pricing.Pricing.TheVariants.{Limit}
 use Rattle.texts.specs.declared.values.Price.{Price}
-use Rattle.order_book.specs.Laws.{EnoughBy}
+use Rattle.order_book.specs.Laws.{EnoughBy, at_rest_for, before}
 use Rattle.order_book.specs.Lists.{order_in}
 use Rattle.order_book.specs.Orders.{opposes, price}
 use Rattle.order_book.specs.Rules.{Lists, order_under}
 use Rattle.order_book.specs.declared.order.Order.{Order}
 use Rattle.lit_book.specs.Orders.{crosses, prefers}
-use Rattle.lit_book.specs.Rules.{best_pair, next}
+use Rattle.lit_book.specs.Rules.{lit_rule, next}
 
 -- ---- no order at rest that is better priced, or as good and earlier, is passed over
 
@@ -29,15 +29,6 @@ Worse s o x = alike o x ≡ true → prefers s (price o) (price x) ≡ true
 -- x is priced no better than o
 abbrev pub NoBetter : Side → Order → Order → Type 0
 NoBetter s o x = alike o x ≡ true → prefers s (price x) (price o) ≡ false
-
--- the orders of a list that stand before the one of a number
-abbrev pub before : ℕ → List Order → List Order
-before n os = take_while (λ o. not (o.number == n)) os
-
--- those at rest when the waiting order of the number n trades: those at rest before the call, and behind them
--- those that waited before it and came to rest in this very call
-abbrev pub at_rest_for : ℕ → Lists → List Order
-at_rest_for n b = b.resting ++ before n b.waiting
 
 -- a trades with the order of the number p among those at rest: each before it is priced worse, and none at all
 -- better
@@ -64,7 +55,7 @@ Uncrossed os =
 
 -- n events are enough: then there is none
 abbrev pub Enough : ℕ → Lists → Type 0
-Enough n b = EnoughBy best_pair n b
+Enough n b = EnoughBy lit_rule n b
 
 -- ---- worked examples
 

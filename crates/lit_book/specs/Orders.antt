@@ -1,11 +1,11 @@
--- When an order crosses one at rest, and which price it prefers. Assumes nothing.
-use Rattle.std.specs.Prelude.{ℕ, Bool, true, false, if◌then◌else◌, ◌&&◌, Some, None, Option, ◌==◌, int_lt}
+-- When an order crosses one at rest, and which price a side prefers. Assumes nothing.
+use Rattle.std.specs.Prelude.{Bool, false, ◌&&◌, ◌==◌, int_lt}
 use Rattle.codes.specs.declared.order.Side.{Side}
 use Rattle.codes.specs.declared.order.Side.TheVariants.{Buy, Sell}
 use Rattle.terms.specs.declared.pricing.Pricing.{Pricing}
 use Rattle.terms.specs.declared.pricing.Pricing.TheVariants.{Market, Limit}
 use Rattle.texts.specs.declared.values.Price.{Price}
-use Rattle.order_book.specs.Orders.{accepts, opposes, price}
+use Rattle.order_book.specs.Orders.{accepts, opposes}
 use Rattle.order_book.specs.declared.order.Order.{Order}
 
 -- whether it takes the price of an order at rest, which is a limit order
@@ -21,12 +21,3 @@ crosses a o = a.instrument == o.instrument && (opposes a.side o.side && takes a.
 abbrev pub prefers : Side → Price → Price → Bool
 prefers Buy p q = int_lt p.raw q.raw
 prefers Sell p q = int_lt q.raw p.raw
-
--- whether p is better than the price of the best so far, which stands at some place
-abbrev pub betters : Side → Price → Option (ℕ × Price) → Bool
-betters s p None = true
-betters s p (Some (i, q)) = prefers s p q
-
--- the better of the best so far and o, which stands at i
-abbrev pub better_at : Order → Option (ℕ × Price) → ℕ → Order → Option (ℕ × Price)
-better_at a found i o = if crosses a o && betters a.side (price o) found then Some (i, price o) else found

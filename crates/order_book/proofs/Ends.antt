@@ -8,9 +8,10 @@ use Rattle.matching.specs.declared.event.Event.TheVariants.{Nothing, Expired, Tr
 use Rattle.order_book.specs.declared.order.Order.{Order}
 use Rattle.order_book.specs.Orders.{with_quantity}
 use Rattle.order_book.specs.Laws.{EnoughBy, Idle, after_events, open_orders}
-use Rattle.order_book.specs.Pairing.{Chooses}
+use Rattle.order_book.specs.Pairing.{Keeps, Rule}
 use Rattle.order_book.specs.Lists.{changed, order_in, remains}
-use Rattle.order_book.specs.Rules.{Lists, Pick, altered, left_of, next_by, size_of, traded}
+use Rattle.order_book.specs.Rules.{Lists, altered, left_of, next_by, size_of, traded}
+use Rattle.order_book.proofs.Bests.{best_some}
 use Rattle.order_book.proofs.Nexts.{next_idle}
 use Rattle.order_book.proofs.Stops.{Ends, all_same, stop}
 
@@ -106,52 +107,52 @@ trade_ends rs ws before after a o split =
     ]
 
 -- an event that is one leaves fewer orders open
-spends_of : (pick : Pick) → Chooses pick → (rs ws : List Order) (x : Event × Lists) → Ends pick rs ws x
+spends_of : (r : Rule) → Keeps r → (rs ws : List Order) (x : Event × Lists) → Ends r rs ws x
     → (x.0 ≡ Nothing) ⊎ (open_orders x.1 + 1 ≤ length rs + length ws)
-spends_of pick c rs [] x h = inl (ap (λ (y : Event × Lists). y.0) h)
-spends_of pick c rs (a ∷ ws) x (inl h) =
-    let o = c rs a h.other h.price h.picked in
+spends_of r k rs [] x h = inl (ap (λ (y : Event × Lists). y.0) h)
+spends_of r k rs (a ∷ ws) x (inl h) =
+    let t = best_some r k a h.other rs h.best_is in
     inr (subst (λ (y : Event × Lists). open_orders y.1 + 1 ≤ length rs + length (a ∷ ws)) (sym h.is)
-    (trade_ends rs ws o.before o.after a h.other o.split))
-spends_of pick c rs (a ∷ ws) x (inr h) =
+    (trade_ends rs ws t.before t.after a h.other t.split))
+spends_of r k rs (a ∷ ws) x (inr h) =
     inr (subst (λ (y : Event × Lists). open_orders y.1 + 1 ≤ length rs + length (a ∷ ws)) (sym h.is)
     (waiting_ends (record { resting = rs; waiting = a ∷ ws }) a.number (mid_known [] ws a)))
 
-spends : (pick : Pick) → Chooses pick → (b : Lists) → ((next_by pick b).0 ≡ Nothing)
-    ⊎ (open_orders (next_by pick b).1 + 1 ≤ open_orders b)
-spends pick c b =
-    let s = stop pick b.resting b.waiting in
+spends : (r : Rule) → Keeps r → (b : Lists) → ((next_by r b).0 ≡ Nothing)
+    ⊎ (open_orders (next_by r b).1 + 1 ≤ open_orders b)
+spends r k b =
+    let s = stop r b.resting b.waiting in
     let l = sym (length-append s.at_rest s.in_wait) ∙ ap length
-    (all_same pick b.resting b.waiting s) ∙ length-append b.resting b.waiting in
-    elim (spends_of pick c s.at_rest s.in_wait (next_by pick b) s.ends) [ inl e ↦ inl e | inr h ↦ inr (omega arith) ]
+    (all_same r b.resting b.waiting s) ∙ length-append b.resting b.waiting in
+    elim (spends_of r k s.at_rest s.in_wait (next_by r b) s.ends) [ inl e ↦ inl e | inr h ↦ inr (omega arith) ]
 
 -- with no event nothing waits
-idle_of : (pick : Pick) (rs ws : List Order) (x : Event × Lists) → Ends pick rs ws x → Idle x.0 x.1
-idle_of pick rs [] x h = subst (λ (y : Event × Lists). Idle y.0 y.1) (sym h) refl
-idle_of pick rs (a ∷ ws) x (inl h) = subst (λ (y : Event × Lists). Idle y.0 y.1) (sym h.is) tt
-idle_of pick rs (a ∷ ws) x (inr h) = subst (λ (y : Event × Lists). Idle y.0 y.1) (sym h.is) tt
+idle_of : (r : Rule) (rs ws : List Order) (x : Event × Lists) → Ends r rs ws x → Idle x.0 x.1
+idle_of r rs [] x h = subst (λ (y : Event × Lists). Idle y.0 y.1) (sym h) refl
+idle_of r rs (a ∷ ws) x (inl h) = subst (λ (y : Event × Lists). Idle y.0 y.1) (sym h.is) tt
+idle_of r rs (a ∷ ws) x (inr h) = subst (λ (y : Event × Lists). Idle y.0 y.1) (sym h.is) tt
 
-pub idle_next : (pick : Pick) (b : Lists) → Idle (next_by pick b).0 (next_by pick b).1
-idle_next pick b =
-    let s = stop pick b.resting b.waiting in idle_of pick s.at_rest s.in_wait (next_by pick b) s.ends
+idle_next : (r : Rule) (b : Lists) → Idle (next_by r b).0 (next_by r b).1
+idle_next r b =
+    let s = stop r b.resting b.waiting in idle_of r s.at_rest s.in_wait (next_by r b) s.ends
 
-nothing_waits : (pick : Pick) (b : Lists) → (next_by pick b).0 ≡ Nothing → (next_by pick b).1.waiting ≡ []
-nothing_waits pick b e = subst (λ (x : Event). Idle x (next_by pick b).1) e (idle_next pick b)
+nothing_waits : (r : Rule) (b : Lists) → (next_by r b).0 ≡ Nothing → (next_by r b).1.waiting ≡ []
+nothing_waits r b e = subst (λ (x : Event). Idle x (next_by r b).1) e (idle_next r b)
 
-stays_idle : (pick : Pick) (n : ℕ) (b : Lists) → b.waiting ≡ [] → EnoughBy pick n b
-stays_idle pick zero b e =
-    ap (λ (x : Event × Lists). x.0) (next_idle pick b (ap (λ (l : List Order). slice_get l 0) e))
-stays_idle pick (suc n) b e =
-    let i = next_idle pick b (ap (λ (l : List Order). slice_get l 0) e) in
-    ap (λ (x : Event × Lists). (next_by pick (after_events pick n x.1)).0) i ∙ stays_idle pick n b e
+stays_idle : (r : Rule) (n : ℕ) (b : Lists) → b.waiting ≡ [] → EnoughBy r n b
+stays_idle r zero b e =
+    ap (λ (x : Event × Lists). x.0) (next_idle r b (ap (λ (l : List Order). slice_get l 0) e))
+stays_idle r (suc n) b e =
+    let i = next_idle r b (ap (λ (l : List Order). slice_get l 0) e) in
+    ap (λ (x : Event × Lists). (next_by r (after_events r n x.1)).0) i ∙ stays_idle r n b e
 
-pub enough : (pick : Pick) → Chooses pick → (n : ℕ) (b : Lists) → open_orders b ≤ n → EnoughBy pick n b
-enough pick c zero b le =
-    elim (spends pick c b) [ inl e ↦ e | inr h ↦ absurd (let z : ⊥ = omega arith in z) ]
-enough pick c (suc n) b le =
-    elim (spends pick c b) [
-      | inl e ↦ stays_idle pick n (next_by pick b).1 (nothing_waits pick b e)
-      | inr h ↦ enough pick c n (next_by pick b).1 (omega arith)
+pub enough : (r : Rule) → Keeps r → (n : ℕ) (b : Lists) → open_orders b ≤ n → EnoughBy r n b
+enough r k zero b le =
+    elim (spends r k b) [ inl e ↦ e | inr h ↦ absurd (let z : ⊥ = omega arith in z) ]
+enough r k (suc n) b le =
+    elim (spends r k b) [
+      | inl e ↦ stays_idle r n (next_by r b).1 (nothing_waits r b e)
+      | inr h ↦ enough r k n (next_by r b).1 (omega arith)
     ]
 
 pub all_counted : (xs : List Order) (k n : ℕ) → n ≡ length xs → k ≤ length xs → n
@@ -160,3 +161,6 @@ all_counted xs k n e le =
     let t = length-take-le k xs le in
     let d = length-drop k xs in
     omega arith
+
+pub idle : (r : Rule) (b c : Lists) (e : Event) → e ≡ (next_by r b).0 → c ≡ (next_by r b).1 → Idle e c
+idle r b c e f g = subst (λ (x : Event). Idle x c) (sym f) (subst (Idle (next_by r b).0) (sym g) (idle_next r b))

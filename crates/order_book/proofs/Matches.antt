@@ -17,9 +17,9 @@ use Rattle.matching.specs.declared.event.Event.TheVariants.{Trade}
 use Rattle.texts.specs.declared.values.Price.{Price}
 use Rattle.order_book.specs.declared.order.Order.{Order}
 use Rattle.order_book.specs.Lists.{FoundOrder, all_apart, changed, order_held, order_number, orders_of}
-use Rattle.order_book.specs.Rules.{Lists, Pick, altered, left_of, size_of, traded}
+use Rattle.order_book.specs.Rules.{Lists, altered, left_of, size_of, traded}
 use Rattle.order_book.specs.Books.{booked}
-use Rattle.order_book.specs.Pairing.{Chosen, PickedAt}
+use Rattle.order_book.specs.Pairing.{BestAt, Rule, best}
 use Rattle.order_book.specs.Steps.{Stands, TurnIs, remaining}
 use Rattle.order_book.specs.declared.book.Turn.TheVariants.{Trades}
 use Rattle.order_book.proofs.Changes.{at, rest_absent}
@@ -170,20 +170,18 @@ trade_lists b b' b'' a o q w v s e f g h =
     ∙ ap (λ (x : Option ℕ). altered (altered b o.number (left_of (size_of a o) o.quantity)) a.number x)
     (f ∙ ap (λ (x : ℕ). left_of x a.quantity) s)
 
--- the turn in which a trades, by what the rule says of its pick
-pub trade_turn : (pick : Pick) (xs rs : List Order) (k i : ℕ) (a o : Order) (p : Price) → k ≤ length xs
-    → slice_get (drop k xs) 0 ≡ Some a → rs ≡ take k xs → PickedAt rs (pick a rs) (Some (i, p))
-    → ((x : Order) (q : Price) → pick a rs ≡ Some (x, q) → Chosen rs a x q) → o ≡ get_or xs i o
-    → TurnIs pick (lists xs k) (Trades a o i p)
-trade_turn pick xs rs k i a o p le e same at chosen read =
+-- the turn in which a trades, by the place of the best
+pub trade_turn : (r : Rule) (xs rs : List Order) (k i : ℕ) (a o : Order) → k ≤ length xs
+    → slice_get (drop k xs) 0 ≡ Some a → rs ≡ take k xs → BestAt r a rs (Some i) → o ≡ get_or xs i o
+    → TurnIs r (lists xs k) (Trades a o i)
+trade_turn r xs rs k i a o le e same at read =
     let long = length-take-le k xs le in
     let l = ap length same in
     let within = at.0 in
     let lt : i < k = omega arith in
-    let there : o ≡ get_or rs i o = read ∙ sym (get_or-take k xs i o lt) ∙ ap (λ (y : List Order). get_or y i o) (sym same) in
-    let is : pick a rs ≡ Some (o, p) = at.1 o ∙ ap (λ (x : Order). Some (x, p)) (sym there) in (
+    let there : o ≡ get_or rs i o = read ∙ sym (get_or-take k xs i o lt) ∙ ap (λ (y : List Order). get_or y i o)
+    (sym same) in (
       e,
-      ap (pick a) (sym same) ∙ is,
+      ap (best r a) (sym same) ∙ at.1 o ∙ ap Some (sym there),
       (omega arith, there ∙ ap (λ (y : List Order). get_or y i o) same),
-      (chosen o p is).instrument,
     )

@@ -1,7 +1,7 @@
 pub mod Orders
 pub mod Lists
-pub mod Rules
 pub mod Pairing
+pub mod Rules
 pub mod Books
 pub mod Turns
 pub mod Steps

@@ -7,6 +7,7 @@ use Rattle.texts.specs.declared.values.Price.{Price}
 use Rattle.order_book.specs.declared.order.Order.{Order}
 use Rattle.order_book.specs.Orders.{goes_back, rests, with_limit, with_quantity}
 use Rattle.order_book.specs.Lists.{changed, order_in}
+use Rattle.order_book.specs.Pairing.{Rule, best}
 
 -- the orders at rest, the first to rest first, and the waiting ones, the oldest first
 pub record Lists : Type 0 where
@@ -45,10 +46,6 @@ amended b (Some o) q p =
 
 -- ---- events
 
--- a pairing rule: the order at rest that an order trades with, if any, and the price
-abbrev pub Pick : Type 0
-Pick = Order → List Order → Option (Order × Price)
-
 -- what is left of an open quantity when q is traded
 abbrev pub left_of : ℕ → ℕ → Option ℕ
 left_of q open-now = if nat_lt q open-now then Some (open-now - q) else None
@@ -64,17 +61,17 @@ abbrev pub traded : Lists → Order → Order → Lists
 traded b a o =
     altered (altered b o.number (left_of (size_of a o) o.quantity)) a.number (left_of (size_of a o) a.quantity)
 
--- what becomes of the oldest waiting order a, by what the rule picks for it: it trades, or comes to rest so that
+-- what becomes of the oldest waiting order a, where o is the best for it: it trades, or comes to rest so that
 -- later is what comes, or expires
-abbrev pub outcome : Lists → Order → Option (Order × Price) → Event × Lists → Event × Lists
-outcome b a (Some (o, p)) later = (trade_of a o p, traded b a o)
-outcome b a None later = if rests a then later else (Expired a.number, altered b a.number None)
+abbrev pub outcome : Rule → Lists → Order → Option Order → Event × Lists → Event × Lists
+outcome r b a (Some o) later = (trade_of a o (r.price a o), traded b a o)
+outcome r b a None later = if rests a then later else (Expired a.number, altered b a.number None)
 
 -- the next event, and the book after it
-abbrev pub next_of : Pick → List Order → List Order → Event × Lists
-next_of pick rs [] = (Nothing, record { resting = rs; waiting = [] })
-next_of pick rs (a ∷ ws) =
-    outcome (record { resting = rs; waiting = a ∷ ws }) a (pick a rs) (next_of pick (rs ++ a ∷ []) ws)
+abbrev pub next_of : Rule → List Order → List Order → Event × Lists
+next_of r rs [] = (Nothing, record { resting = rs; waiting = [] })
+next_of r rs (a ∷ ws) =
+    outcome r (record { resting = rs; waiting = a ∷ ws }) a (best r a rs) (next_of r (rs ++ a ∷ []) ws)
 
-abbrev pub next_by : Pick → Lists → Event × Lists
-next_by pick b = next_of pick b.resting b.waiting
+abbrev pub next_by : Rule → Lists → Event × Lists
+next_by r b = next_of r b.resting b.waiting

@@ -6,7 +6,8 @@ use Rattle.order_book.specs.declared.book.Turn.{Turn}
 use Rattle.order_book.specs.declared.book.Turn.TheVariants.{Idle, Expires, Trades}
 use Rattle.order_book.specs.declared.order.Order.{Order}
 use Rattle.order_book.specs.Orders.{rests}
-use Rattle.order_book.specs.Rules.{Lists, Pick}
+use Rattle.order_book.specs.Pairing.{Rule, best}
+use Rattle.order_book.specs.Rules.{Lists}
 
 -- the meaning after a change of the order of a number
 abbrev pub remaining : Meaning → ℕ → Option ℕ → Meaning
@@ -18,9 +19,7 @@ abbrev pub Stands : List Order → ℕ → Order → Type 0
 Stands os i o = (i < length os) × (o ≡ slice_index_or os i o)
 
 -- the turn is what the oldest waiting order does, where it does not come to rest
-abbrev pub TurnIs : Pick → Lists → Turn → Type 0
-TurnIs pick b Idle = slice_get b.waiting 0 ≡ None
-TurnIs pick b (Expires a) = (slice_get b.waiting 0 ≡ Some a) × (pick a b.resting ≡ None) × (rests a ≡ false)
-TurnIs pick b (Trades a o i p) =
-    (slice_get b.waiting 0 ≡ Some a) × (pick a b.resting ≡ Some (o, p)) × Stands b.resting i o
-    × (a.instrument ≡ o.instrument)
+abbrev pub TurnIs : Rule → Lists → Turn → Type 0
+TurnIs r b Idle = slice_get b.waiting 0 ≡ None
+TurnIs r b (Expires a) = (slice_get b.waiting 0 ≡ Some a) × (best r a b.resting ≡ None) × (rests a ≡ false)
+TurnIs r b (Trades a o i) = (slice_get b.waiting 0 ≡ Some a) × (best r a b.resting ≡ Some o) × Stands b.resting i o

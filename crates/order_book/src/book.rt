@@ -7,7 +7,7 @@ ghost use Rattle.order_book.specs.Rules.{left_of};
 ghost use Rattle.order_book.specs.Lists.{all_apart, order_number};
 
 use crate::order::Order;
-use crate::rule::PairingRule;
+use crate::rule::{PairingRule, best_of};
 use crate::turns::Turns;
 use keyed::place_of;
 use limits::ORDERS;
@@ -40,8 +40,8 @@ enum Turn {
     Idle,
     // the oldest waiting order finds nothing to trade with, and does not rest
     Expires(Order),
-    // the oldest waiting order trades with another, which stands at this place, at this price
-    Trades(Order, Order, usize, Price),
+    // the oldest waiting order trades with another, which stands at this place
+    Trades(Order, Order, usize),
 }
 
 // What is left of an open quantity after a trade.
@@ -63,7 +63,7 @@ impl OrderBook {
     ghost use Rattle.std.specs.Result.{result_err};
     ghost use Rattle.matching.specs.Meaning.{Allowed, amend_refusal, cancel_refusal, closed, enter_refusal, happened, held_of, opened, resized};
     ghost use Rattle.order_book.specs.Books.{lists_of, meaning_as, open_in, plain, table};
-    ghost use Rattle.order_book.specs.Laws.{open_orders};
+    ghost use Rattle.order_book.specs.Laws.{Chosen, Fair, Idle, open_orders};
     ghost use Rattle.order_book.specs.Lists.{FoundOrder, order_held};
     ghost use Rattle.order_book.specs.Orders.{rests};
     ghost use Rattle.order_book.specs.Rules.{altered, amended, entered, left_of, next_by, order_of, order_under, trade_of, traded};
@@ -167,19 +167,25 @@ impl OrderBook {
         Ok(())
     }
 
-    /// The next event by a pairing rule, and what it changes: the oldest waiting order trades with the one that the rule
-    /// picks, or it expires; a Day limit order for which it picks none comes to rest, and the next waiting one is taken.
+    /// The next event by a pairing rule, and what it changes: the oldest waiting order trades with the best for it
+    /// at rest, or it expires; a Day limit order for which there is none comes to rest, and the next waiting one is taken.
     #[tactic(auto, using(crate::proofs::Nexts::none_waits))]
     pub fn next_event<R: PairingRule>(&mut self, rule: &R) -> Event
         ensures allowed { Allowed (open_in self.old) result }
         ensures after { (d i : Bool) → meaning_as d i self.new ≡ happened (meaning_as d i self.old) result }
-        ensures event { result ≡ (next_by (R.pick rule.now) (lists_of self.old)).0 }
-        ensures lists { lists_of self.new ≡ (next_by (R.pick rule.now) (lists_of self.old)).1 }
+        ensures event { result ≡ (next_by (R.rule rule.now) (lists_of self.old)).0 }
+        ensures lists { lists_of self.new ≡ (next_by (R.rule rule.now) (lists_of self.old)).1 }
+        ensures fair { Fair (lists_of self.old) result }
+        ensures chosen { Chosen (R.rule rule.now) (lists_of self.old) result }
+        ensures idle { Idle result (lists_of self.new) }
     {
         match self.next_turn(rule) {
             Turn::Idle => Event::Nothing,
             Turn::Expires(order) => self.expire(order),
-            Turn::Trades(order, other, place, price) => self.trade(order, other, place, price),
+            Turn::Trades(order, other, place) => {
+                let price = rule.price(&order, &other);
+                self.trade(order, other, place, price)
+            }
         }
     }
 
@@ -302,13 +308,13 @@ impl OrderBook {
     // Goes on until the oldest waiting order trades or expires, or none waits; those before it come to rest.
     #[tactic(auto, using(crate::proofs::Nexts::next_rest))]
     fn next_turn<R: PairingRule>(&mut self, rule: &R) -> Turn
-        ensures turn { TurnIs (R.pick rule.now) (lists_of self.new) result }
-        ensures same { next_by (R.pick rule.now) (lists_of self.new) ≡ next_by (R.pick rule.now) (lists_of self.old) }
+        ensures turn { TurnIs (R.rule rule.now) (lists_of self.new) result }
+        ensures same { next_by (R.rule rule.now) (lists_of self.new) ≡ next_by (R.rule rule.now) (lists_of self.old) }
         ensures after { open_in self.new ≡ open_in self.old }
     {
         while let Some(order) = self.oldest() {
-            if let Some((place, price)) = rule.pick(&order, self.resting()) {
-                return Turn::Trades(order, self.orders[place], place, price);
+            if let Some(place) = best_of(rule, &order, self.resting()) {
+                return Turn::Trades(order, self.orders[place], place);
             }
             if !order.rests() {
                 return Turn::Expires(order);

@@ -5,7 +5,7 @@ use Rattle.order_book.specs.Rules.{Lists}
 use Rattle.order_book.proofs.Fairs.{lists_apart}
 use Rattle.lit_book.specs.Books.{lit}
 use Rattle.lit_book.proofs.Keeps.{next_settled}
-use Rattle.lit_book.proofs.Laws.{fair, idle, served, uncrossed}
+use Rattle.lit_book.proofs.Laws.{served, uncrossed}
 use Rattle.lit_book.proofs.book.LitBookMatcher.next_event.Goals as goal
 
 pub invariant_of-self : goal.invariant_of-self
@@ -13,12 +13,6 @@ invariant_of-self c =
     let b = c.args.self.now in
     let n = c.next_event in
     record { uncrossed = next_settled (lit b) (lists_of n.new.self) b.uncrossed n.ensures.lists }
-
-pub returns-clause-fair : goal.returns-clause-fair
-returns-clause-fair c =
-    let b = c.args.self.now in
-    fair (lit b) c.next_event.result (lists_apart (table b.orders) b.orders.resting b.orders.apart)
-    c.next_event.ensures.event
 
 pub returns-clause-served : goal.returns-clause-served
 returns-clause-served c =
@@ -31,7 +25,3 @@ returns-clause-uncrossed c =
     let b = c.args.self.now in
     let n = c.next_event in
     uncrossed (lists_of n.new.self) (next_settled (lit b) (lists_of n.new.self) b.uncrossed n.ensures.lists)
-
-pub returns-clause-idle : goal.returns-clause-idle
-returns-clause-idle c =
-    let n = c.next_event in idle (lit c.args.self.now) (lists_of n.new.self) n.result n.ensures.event n.ensures.lists

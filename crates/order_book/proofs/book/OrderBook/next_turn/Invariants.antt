@@ -5,8 +5,8 @@ use Rattle.order_book.proofs.book.OrderBook.next_turn.Given as goal
 
 abbrev pub invariant-loop-order : goal.invariant-loop-order
 invariant-loop-order g l =
-    (next_by (g.R.PairingRule.pick l.rule) (lists_of l.self)
-    ≡ next_by (g.R.PairingRule.pick l.rule) (lists_of l.initial.self))
+    (next_by (g.R.PairingRule.rule l.rule) (lists_of l.self)
+    ≡ next_by (g.R.PairingRule.rule l.rule) (lists_of l.initial.self))
     × (open_in l.self ≡ open_in l.initial.self)
 
 abbrev pub decreases-loop-order : goal.decreases-loop-order
