@@ -6,7 +6,7 @@ ghost use Rattle.book_pair.specs.Unions.{Apart};
 use codes::order::Book;
 use matching::event::Event;
 use matching::matcher::{Held, Matcher, Refusal, Ticket};
-use matching::midpoint::{MidpointRefusal, Midpoints};
+use matching::midpoint::MidpointRefusal;
 use texts::values::Price;
 
 /// Two matching engines as one. No order number is open in both, and together they hold no more orders than the smaller
@@ -81,7 +81,7 @@ impl<A: Matcher, B: Matcher> BookPair<A, B> {
     }
 }
 
-// An order goes to the first engine where that serves its book, and else to the second.
+// An order goes to the first engine where that serves its book, and else to the second, which is told midpoints.
 impl<A: Matcher, B: Matcher> Matcher for BookPair<A, B> {
     ghost use Rattle.std.specs.Prelude.{◌≡◌, OnOk, OnErr, is_ok, if◌then◌else◌};
     ghost use Rattle.std.specs.Result.{result_err};
@@ -92,6 +92,10 @@ impl<A: Matcher, B: Matcher> Matcher for BookPair<A, B> {
     ghost meaning = { λ p. paired (A.meaning p.first) (B.meaning p.second) };
 
     ghost Did = { λ p x q. PairDid A.meaning A.Did B.Did p.first p.second x q.first q.second };
+
+    ghost guided = { B.guided };
+
+    ghost Learns = { λ p i m taken q. (q.first ≡ p.first) × B.Learns p.second i m taken q.second };
 
     ghost bounded = { λ p. p.roomy };
 
@@ -136,6 +140,11 @@ impl<A: Matcher, B: Matcher> Matcher for BookPair<A, B> {
         self.second.next_event()
     }
 
+    // The second engine is told.
+    fn midpoint(&mut self, instrument: usize, price: Option<Price>) -> Result<(), MidpointRefusal> {
+        self.second.midpoint(instrument, price)
+    }
+
     fn open_order(&self, number: u64) -> Option<Held> {
         match self.first.open_order(number) {
             Some(order) => Some(order),
@@ -156,14 +165,5 @@ impl<A: Matcher, B: Matcher> Matcher for BookPair<A, B> {
     #[tactic(auto, using(crate::proofs::Pairs::serves_paired))]
     fn serves(&self, book: Book) -> bool {
         self.first.serves(book) || self.second.serves(book)
-    }
-}
-
-// The second engine is told.
-impl<A: Matcher, B: Midpoints> Midpoints for BookPair<A, B> {
-    ghost midpoints = { λ p. B.midpoints p.second };
-
-    fn midpoint(&mut self, instrument: usize, price: Option<Price>) -> Result<(), MidpointRefusal> {
-        self.second.midpoint(instrument, price)
     }
 }

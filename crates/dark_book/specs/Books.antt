@@ -1,5 +1,5 @@
 -- What a dark book means. Assumes nothing.
-use Rattle.std.specs.Prelude.{◌≡◌, ◌≤◌, true, false, List, None, Option}
+use Rattle.std.specs.Prelude.{◌≡◌, ℕ, ◌≤◌, Bool, true, false, List, None, Option, slice_set}
 use Rattle.std.specs.FinMap.{len}
 use Rattle.dark_book.specs.Rules.{next}
 use Rattle.dark_book.specs.declared.book.DarkBook.{DarkBook}
@@ -33,6 +33,14 @@ Moves b (Next e) c = (e ≡ (next (midpoints b) (dark b)).0) × (dark c ≡ (nex
 -- what comes of a call: the midpoints stay
 abbrev pub DarkDid : DarkBook → Asked → DarkBook → Type 0
 DarkDid b x c = Moves b x c × (midpoints c ≡ midpoints b)
+
+-- a midpoint that is taken stands in place of the one before, one that is not changes none; and all orders stay
+abbrev pub told : List (Option Price) → ℕ → Option Price → Bool → List (Option Price)
+told ms i p true = slice_set ms i p
+told ms i p false = ms
+
+abbrev pub DarkLearns : DarkBook → ℕ → Option Price → Bool → DarkBook → Type 0
+DarkLearns b i p taken c = (midpoints c ≡ told (midpoints b) i p taken) × (dark c ≡ dark b)
 
 -- no more orders are open than it takes
 pub dark_bounded : (b : DarkBook) → len (dark_meaning b).orders ≤ (dark_meaning b).capacity

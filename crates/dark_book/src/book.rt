@@ -1,10 +1,10 @@
 // The dark book: the orders of a book by the rule of the midpoint, and the book as a matching engine.
 use crate::rule::Midpoint;
 use codes::order::Book;
-use limits::ORDERS;
+use limits::{INSTRUMENTS, ORDERS};
 use matching::event::Event;
 use matching::matcher::{Held, Matcher, Refusal, Ticket};
-use matching::midpoint::{INSTRUMENTS, MidpointRefusal, Midpoints};
+use matching::midpoint::MidpointRefusal;
 use order_book::book::OrderBook;
 use order_book::order::Order;
 use std::alloc::{AllocError, Global};
@@ -66,17 +66,22 @@ impl DarkBook {
 // Beside the trait's contract each call says what it does to the orders that rest and the orders that wait, by the
 // rules of the book.
 impl Matcher for DarkBook {
-    ghost use Rattle.std.specs.Prelude.{◌≡◌, OnErr, OnOk, is_ok, if◌then◌else◌, None};
+    ghost use Rattle.std.specs.Prelude.{◌≡◌, OnErr, OnOk, is_ok, if◌then◌else◌, None, true};
     ghost use Rattle.matching.specs.Asked.{Enter, Cancel, Amend, Next};
     ghost use Rattle.std.specs.Result.{result_err};
     ghost use Rattle.matching.specs.Meaning.{Allowed, amend_refusal, cancel_refusal, closed, enter_refusal, happened, held_of, opened, resized};
-    ghost use Rattle.dark_book.specs.Books.{DarkDid, dark, dark_bounded, dark_meaning, midpoints};
+    ghost use Rattle.matching.specs.Midpoints.{midpoint_refusal};
+    ghost use Rattle.dark_book.specs.Books.{DarkDid, DarkLearns, dark, dark_bounded, dark_meaning, midpoints};
     ghost use Rattle.dark_book.specs.Laws.{AtMidpoint, Served};
     ghost use Rattle.order_book.specs.Laws.{Fair, Idle};
 
     ghost meaning = { dark_meaning };
 
     ghost Did = { DarkDid };
+
+    ghost guided = { true };
+
+    ghost Learns = { DarkLearns };
 
     ghost bounded = { dark_bounded };
 
@@ -126,6 +131,23 @@ impl Matcher for DarkBook {
         self.orders.next_event(&self.rule)
     }
 
+    fn midpoint(&mut self, instrument: usize, price: Option<Price>) -> Result<(), MidpointRefusal>
+        ensures refusal { result_err result ≡ midpoint_refusal true instrument price }
+        ensures learns { DarkLearns self.old instrument price (is_ok result) self.new }
+        ensures orders { dark_meaning self.new ≡ dark_meaning self.old }
+    {
+        if instrument >= INSTRUMENTS {
+            return Err(MidpointRefusal::NoInstrument);
+        }
+        if let Some(price) = price
+            && price.raw <= 0
+        {
+            return Err(MidpointRefusal::BadPrice);
+        }
+        self.rule.prices[instrument] = price;
+        Ok(())
+    }
+
     fn open_order(&self, number: u64) -> Option<Held> {
         self.orders.open_order(number)
     }
@@ -143,33 +165,5 @@ impl Matcher for DarkBook {
             Book::DarkMidpoint => true,
             Book::Integrated => false,
         }
-    }
-}
-
-impl Midpoints for DarkBook {
-    ghost use Rattle.std.specs.Prelude.{◌≡◌, is_ok, if◌then◌else◌, slice_set};
-    ghost use Rattle.std.specs.Result.{result_err};
-    ghost use Rattle.matching.specs.Midpoints.{midpoint_refusal};
-    ghost use Rattle.dark_book.specs.Books.{dark, dark_meaning, midpoints};
-
-    ghost midpoints = { midpoints };
-
-    fn midpoint(&mut self, instrument: usize, price: Option<Price>) -> Result<(), MidpointRefusal>
-        ensures refusal { result_err result ≡ midpoint_refusal instrument price }
-        ensures after { midpoints self.new ≡ (if is_ok result then slice_set (midpoints self.old) instrument price
-            else midpoints self.old) }
-        ensures orders { dark_meaning self.new ≡ dark_meaning self.old }
-        ensures lists { dark self.new ≡ dark self.old }
-    {
-        if instrument >= INSTRUMENTS {
-            return Err(MidpointRefusal::NoInstrument);
-        }
-        if let Some(price) = price
-            && price.raw <= 0
-        {
-            return Err(MidpointRefusal::BadPrice);
-        }
-        self.rule.prices[instrument] = price;
-        Ok(())
     }
 }

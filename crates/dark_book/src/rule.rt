@@ -3,7 +3,7 @@ ghost use Rattle.std.specs.Prelude.{◌≡◌, ◌&&◌, length, nat_lt, None, S
 ghost use Rattle.dark_book.specs.Keeping.{dark_keeps};
 ghost use Rattle.dark_book.specs.Rules.{at_midpoint, dark_rule, meets, midpoint_of, takes_part};
 
-use matching::midpoint::INSTRUMENTS;
+use limits::INSTRUMENTS;
 use order_book::order::Order;
 use order_book::rule::PairingRule;
 use texts::values::Price;

@@ -8,6 +8,7 @@ use codes::order::Book;
 use limits::ORDERS;
 use matching::event::Event;
 use matching::matcher::{Held, Matcher, Refusal, Ticket};
+use matching::midpoint::MidpointRefusal;
 use order_book::book::OrderBook;
 use order_book::order::Order;
 use std::alloc::{AllocError, Global};
@@ -119,6 +120,10 @@ impl Matcher for LitBook {
         ensures idle { Idle result (lit self.new) }
     {
         self.orders.next_event(&BestPrice)
+    }
+
+    fn midpoint(&mut self, _instrument: usize, _price: Option<Price>) -> Result<(), MidpointRefusal> {
+        Err(MidpointRefusal::NoMidpoints)
     }
 
     fn open_order(&self, number: u64) -> Option<Held> {

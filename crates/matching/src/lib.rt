@@ -1,4 +1,4 @@
-// What a matching engine means, as a trait; one that is told midpoints; and an engine that plays given trades.
+// What a matching engine means, as a trait, and an engine that plays given trades.
 #![tactic(auto)]
 
 pub mod event;
