@@ -45,10 +45,11 @@ pub enum Verb {
     Pull,
     Reconnect,
     Catch,
+    Midpoint,
 }
 
 /// All that a line can ask for.
-pub const VERBS: [Verb; 40] = [
+pub const VERBS: [Verb; 41] = [
     Verb::CompId,
     Verb::Instrument,
     Verb::Matcher,
@@ -89,6 +90,7 @@ pub const VERBS: [Verb; 40] = [
     Verb::Pull,
     Verb::Reconnect,
     Verb::Catch,
+    Verb::Midpoint,
 ];
 
 impl Verb {
@@ -137,6 +139,7 @@ impl Verb {
             Verb::Pull => "pull",
             Verb::Reconnect => "reconnect",
             Verb::Catch => "catch",
+            Verb::Midpoint => "midpoint",
         }
     }
 
