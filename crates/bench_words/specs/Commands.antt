@@ -186,7 +186,7 @@ book_of ws =
     else Err why.Count
 
 -- [marked] [dark]
-unfoldable pub marked_of : Words → Result (Bool × Book) Misread
+abbrev pub marked_of : Words → Result (Bool × Book) Misread
 marked_of ws =
     if nat_le 1 (length ws) && bytes_eq (text ws 0) (codes "marked")
     then (book_of (drop 1 ws) then λ b. Ok (true, b))
@@ -231,7 +231,7 @@ replace_of ws =
 abbrev pub firm_of : List ℕ → Result Bool Misread
 firm_of w = if bytes_eq w (codes "own") then Ok false else if bytes_eq w (codes "firm") then Ok true else Err why.Scope
 
-abbrev pub scope_of : Words → Result Scope Misread
+unfoldable pub scope_of : Words → Result Scope Misread
 scope_of ws =
     if length ws == 0 then Ok scope.All
     else if (length ws == 2) && bytes_eq (text ws 0) (codes "instrument")
