@@ -186,7 +186,7 @@ book_of ws =
     else Err why.Count
 
 -- [marked] [dark]
-abbrev pub marked_of : Words → Result (Bool × Book) Misread
+unfoldable pub marked_of : Words → Result (Bool × Book) Misread
 marked_of ws =
     if nat_le 1 (length ws) && bytes_eq (text ws 0) (codes "marked")
     then (book_of (drop 1 ws) then λ b. Ok (true, b))

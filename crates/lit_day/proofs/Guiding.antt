@@ -16,10 +16,10 @@ use Rattle.venue.specs.Books.{Over}
 abbrev pub Unmoved : {M : Type 0} → M → ℕ → Option Price → Bool → M → Type 0
 Unmoved a i p taken b = (taken ≡ false) × (b ≡ a)
 
-module _ {M Q A : Type 0} (did : M → Asked → M → Type 0) where
-  same : (x z : Over State M) → z.state ≡ x.state → z.engine ≡ x.engine → z.free ≡ x.free → z ≡ x
-  same x z p q r i = record { state = p i; engine = q i; free = r i }
+same : {M : Type 0} (x z : Over State M) → z.state ≡ x.state → z.engine ≡ x.engine → z.free ≡ x.free → z ≡ x
+same x z p q r i = record { state = p i; engine = q i; free = r i }
 
+module _ {M Q A : Type 0} (did : M → Asked → M → Type 0) where
   pub calls_alone : (x : Over State M) (xs : List (Entry Q A)) (y : Over State M)
       → Guides did false Unmoved x (turns xs) y → Runs did x (venue_log (made xs)) y
   calls_alone x [] y e = e
