@@ -68,9 +68,7 @@ impl Letter {
                 client,
                 original,
                 book,
-            } => Ok(Letter::Cancel(Cancel::new(
-                symbol, side, client, original, book,
-            )?)),
+            } => Ok(Letter::Cancel(Cancel::new(symbol, side, client, original, book)?)),
             Request::Replace {
                 symbol,
                 side,

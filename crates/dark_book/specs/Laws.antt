@@ -101,14 +101,20 @@ abbrev pub Worked : Type 0
 Worked =
     ((t : Lifetime) → (next hundred (example t)).0 ≡ Trade (Some 2) (Some 4) 50 (at_price 100))
     × ((t : Lifetime) → (next hundred (after_first t)).0 ≡ Trade (Some 3) (Some 4) 30 (at_price 100))
-    × (next gone (after_first Day) ≡ (Nothing, record {
-      resting = order 1 Sell 100 Day 30 ∷ order 3 Sell 98 Day 50 ∷ order 4 Buy 100 Day 30 ∷ [];
-      waiting = [];
-    }))
-    × (next gone (after_first ImmediateOrCancel) ≡ (Expired 4, record {
-      resting = order 1 Sell 100 Day 30 ∷ order 3 Sell 98 Day 50 ∷ [];
-      waiting = [];
-    }))
+    × (next gone (after_first Day) ≡ (
+      Nothing,
+      record {
+        resting = order 1 Sell 100 Day 30 ∷ order 3 Sell 98 Day 50 ∷ order 4 Buy 100 Day 30 ∷ [];
+        waiting = [];
+      },
+    ))
+    × (next gone (after_first ImmediateOrCancel) ≡ (
+      Expired 4,
+      record {
+        resting = order 1 Sell 100 Day 30 ∷ order 3 Sell 98 Day 50 ∷ [];
+        waiting = [];
+      },
+    ))
 
 -- of two equal sells, a trade with the second to rest is against the law; and one with a smaller
 abbrev pub LastRefused : Type 0

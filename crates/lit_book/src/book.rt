@@ -122,7 +122,11 @@ impl Matcher for LitBook {
         self.orders.next_event(&BestPrice)
     }
 
-    fn midpoint(&mut self, _instrument: usize, _price: Option<Price>) -> Result<(), MidpointRefusal> {
+    fn midpoint(
+        &mut self,
+        _instrument: usize,
+        _price: Option<Price>,
+    ) -> Result<(), MidpointRefusal> {
         Err(MidpointRefusal::NoMidpoints)
     }
 

@@ -264,7 +264,11 @@ impl Matcher for Tape {
         }
     }
 
-    fn midpoint(&mut self, _instrument: usize, _price: Option<Price>) -> Result<(), MidpointRefusal> {
+    fn midpoint(
+        &mut self,
+        _instrument: usize,
+        _price: Option<Price>,
+    ) -> Result<(), MidpointRefusal> {
         Err(MidpointRefusal::NoMidpoints)
     }
 

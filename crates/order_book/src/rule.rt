@@ -47,11 +47,7 @@ fn improves<R: PairingRule>(
 
 // The place of the order at rest that is best for an order; of equals the first.
 #[tactic(auto, using(crate::proofs::Places::looked, crate::proofs::Places::best_at))]
-pub(crate) fn best_of<R: PairingRule>(
-    rule: &R,
-    order: &Order,
-    resting: &[Order],
-) -> Option<usize>
+pub(crate) fn best_of<R: PairingRule>(rule: &R, order: &Order, resting: &[Order]) -> Option<usize>
     ensures { BestAt (R.rule rule.now) order.now resting.now result }
 {
     let mut best = None;

@@ -29,5 +29,20 @@ orders-worked t a =
 
 pub returns : goal.returns
 unfolding opening first_bad taken is_order is_text named base62
-returns c = (refl, refl, refl, refl, refl, refl, refl, refl, refl, (refl, refl, refl), last_refused,
-    ((λ t. refl), (λ t. refl), refl, refl), dark_last_refused, smaller_refused, orders-worked)
+returns c = (
+  refl,
+  refl,
+  refl,
+  refl,
+  refl,
+  refl,
+  refl,
+  refl,
+  refl,
+  (refl, refl, refl),
+  last_refused,
+  ((λ t. refl), (λ t. refl), refl, refl),
+  dark_last_refused,
+  smaller_refused,
+  orders-worked,
+)
