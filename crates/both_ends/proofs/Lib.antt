@@ -15,5 +15,11 @@ pub mod Levelling
 pub mod Refusals
 pub mod Erasing
 pub mod Kept
+pub mod Passing
+pub mod Granting
+pub mod Waiting
+pub mod Downloading
+pub mod Whole
+pub mod Reaching
 pub mod Turns
 pub mod Rules

@@ -89,7 +89,7 @@ none_in c l d (Some n) h e = by (leb n d.target) refl e
     by true f g = absurd cc
     by false f g = let lt : d.target < n = leb-false n d.target f in λ j p q. h.2 j p (omega (arith, q, lt))
 
-one_in : (c : ℕ) (l : List Entry) (d : Download) (r : Option ℕ) (n : ℕ) → Lowest l c d.last r → up_to d.target r
+pub one_in : (c : ℕ) (l : List Entry) (d : Download) (r : Option ℕ) (n : ℕ) → Lowest l c d.last r → up_to d.target r
     ≡ Some n → Next c l d.last n
 one_in c l d None n h e = absurd cc
 one_in c l d (Some m) n h e = by (leb m d.target) refl e
