@@ -27,7 +27,7 @@ use Rattle.both_ends.specs.declared.opening.Opening.TheVariants.{Awaited, Open, 
 use Rattle.both_ends.specs.declared.call.Asked.{Asked}
 use Rattle.both_ends.specs.declared.call.Done.{Done}
 use Rattle.both_ends.specs.declared.call.Done.TheVariants as done
-use Rattle.follower.proofs.Quiets.{stays_quiet}
+use Rattle.follower.proofs.Quiets.{up_quiet, stays_quiet}
 use Rattle.follower.specs.Asking.{request, ReadBack, is_free, asking_of, asking, partition_of, asks_of}
 use Rattle.follower.specs.Following.{Following, turned, live_step, recovered_step}
 use Rattle.follower.specs.Hearing.{heard_in}
@@ -339,10 +339,7 @@ module _ (c : ℕ) (s : State) (d : Desk) (x : Line) (t : Taking) (k : Keeps c s
       asks Failed b (n, r, ag, e) = (tt, r, ag, e)
 
       quiet : d.follower.up ≡ true → Quiet (asked_desk p token).follower
-      quiet up = record {
-        level = k.quiet.level;
-        down = λ dn. absurd (let z : true ≡ false = sym up ∙ dn in cc);
-      }
+      quiet up = up_quiet (asked_desk p token).follower up
 
   pub ask_keeps : (n : ℕ) (r : Asked) (e : Desk) → r.answer
       ≡ (asks_of d.follower d.token r.before.items (asking d.follower d.token n (length r.before.items))).answer → r.after.items
@@ -513,7 +510,7 @@ level_up d p q l = by d.follower.up refl
   where
     by : (b : Bool) → d.follower.up ≡ b → d.follower.up ≡ true
     by true e = e
-    by false e = absurd (let z : Level ≡ Behind = sym l ∙ ((q.down e).1 p).0 in cc)
+    by false e = absurd (let z : Level ≡ Behind [] = sym l ∙ q.fallen e p in cc)
 
 module _ (c : ℕ) (xs : List Done) (w : State) (e : Desk) (l : Line) (k : Keeps c w e l (λ p n. ⊥ ⊎ Took p n xs)) where
   same_orders : (p : Partition) → state_of e p ≡ Level → AllTaken c w p xs → (n : ℕ) → SameOrders c w e p n
@@ -521,11 +518,11 @@ module _ (c : ℕ) (xs : List Done) (w : State) (e : Desk) (l : Line) (k : Keeps
       let up = level_up e p k.quiet lv in
       let (r, u) = up_of c w.venue.kept (session w c) e.follower (place e) l (λ p n. ⊥ ⊎ Took p n xs) l.connection
       (k.up ∙ up) k.phase in
-      let sided : SidedBy Level c (at w.venue.kept p) (at e.follower.sides p) (at u.y p) (at u.b p) = subst
-      (λ z. SidedBy z c (at w.venue.kept p) (at e.follower.sides p) (at u.y p) (at u.b p)) lv (u.sides p) in
+      let passed : Passed c (at w.venue.kept p) (place e p) (at u.y p) =
+      subst (λ z. SidedBy z c (at w.venue.kept p) (place e p) (at u.y p) (at u.b p)) lv (u.sides p) in
       record {
         shown = shown w.venue.instruments w.venue.rows w.venue.kept c e.follower.standings (place e)
-            (k.sound up).recorded k.known p (λ j lt. above j lt (is_hers c w p j) refl (at u.y p) sided.1
+            (k.sound up).recorded k.known p (λ j lt. above j lt (is_hers c w p j) refl (at u.y p) passed
             (u.flowing.taken p j)) n;
         held = (k.sound up).booked n;
       }

@@ -2,7 +2,7 @@
 use Rattle.std.specs.Prelude.{nat_lt}
 use Rattle.std.specs.List.{list_any}
 use Rattle.std.specs.Str.{bytes_eq}
-use Rattle.std.proofs.Common.{◌≡◌, ◌≢◌, ◌⊎◌, inl, inr, ℕ, ◌<◌, ◌≤◌, max, Bool, true, false, cond, ◌||◌, leb, List, [], ◌∷◌, Some, None, Ok, Result, length, refl, sym, ap, ◌∙◌, subst, arith}
+use Rattle.std.proofs.Common.{◌≡◌, ◌≢◌, ◌⊎◌, inl, inr, ℕ, ◌<◌, ◌≤◌, max, Bool, true, false, cond, ◌||◌, leb, List, [], ◌∷◌, ◌++◌, Some, None, Ok, Result, length, refl, sym, ap, ◌∙◌, subst, arith}
 use Rattle.std.proofs.lemmas.Bool.{leb-true, leb-false, le-leb}
 use Rattle.std.proofs.lemmas.Slice.Eq.{bytes_eq-Decides}
 use Rattle.codes.specs.declared.session.AckResponse.{AckResponse}
@@ -22,6 +22,7 @@ use Rattle.both_ends.specs.Tallied.{Tallied}
 use Rattle.follower.specs.Following.{Following, Step, turned, answered, refused, folded, folded_to, held as held_step, overrun, live_by, lived, no_download, acked, acked_of, recovered_of, reported, levelled, completed, ended, ended_of, rejected}
 use Rattle.follower.specs.Hearing.{heard_in}
 use Rattle.follower.specs.Numbers.{number_of}
+use Rattle.follower.specs.Sides.{held_in}
 use Rattle.follower.specs.declared.answer.Live.{Live}
 use Rattle.follower.specs.declared.answer.Live.TheVariants as live
 use Rattle.follower.specs.declared.answer.Recovered.{Recovered}
@@ -77,9 +78,8 @@ module _ (c : ℕ) (v : Books) (s : Session) (sound : Sound v) (few : length v.r
     live_folded : (at f.sides p).state ≡ Level → place_in f p < n
         → Lives f (folded live.Folded f p (held n e)) after_line (or_one c v.kept s t u)
     live_folded st lt =
-        let level : Passed c (at v.kept p) (place_in f p)
-        (at a.up.y p) = (subst (λ z. SidedBy z c (at v.kept p) (at f.sides p) (at a.up.y p) (at a.up.b p)) st
-        (a.up.sides p)).1 in
+        let level : Passed c (at v.kept p) (place_in f p) (at a.up.y p) =
+        subst (λ z. SidedBy z c (at v.kept p) (place_in f p) (at a.up.y p) (at a.up.b p)) st (a.up.sides p) in
         let mv = moves c v sound few f p n e a.known a.placed
         (next_either c (at v.kept p) (place_in f p) (at a.up.y p) n level next lt) sd o in
         let moved = up_folded c v.kept s f p n mv.after x t (omega (arith, lt)) a.up in
@@ -99,12 +99,12 @@ module _ (c : ℕ) (v : Books) (s : Session) (sound : Sound v) (few : length v.r
           ),
         )
 
-    live_held : (at f.sides p).state ≡ Behind → (b : Bool)
-        → Lives f (cond b (held_step f p (held n e)) (overrun f)) after_line (or_one c v.kept s t u)
-    live_held st false = (refl, inl (refl, refl))
-    live_held st true =
-        let g = with_hold c v.kept s f p (held n e) in
-        let eq = hold_places c v.kept s f p (held n e) in (
+    live_held : (hs : List NumberedReport) → (at f.sides p).state ≡ Behind hs → (b : Bool)
+        → Lives f (cond b (held_step f p hs (held n e)) (overrun f)) after_line (or_one c v.kept s t u)
+    live_held hs st false = (refl, inl (refl, refl))
+    live_held hs st true =
+        let g = with_hold c v.kept s f p (hs ++ held n e ∷ []) in
+        let eq = hold_places c v.kept s f p (hs ++ held n e ∷ []) in (
           refl,
           inr (
             refl,
@@ -112,7 +112,7 @@ module _ (c : ℕ) (v : Books) (s : Session) (sound : Sound v) (few : length v.r
             record {
               known = tallied_as c v.kept f.standings (place_in f) (place_in g) eq a.known;
               placed = λ q. subst (λ z. (z ≡ 0) ⊎ (is_of c (under (at v.kept q) z) ≡ true)) (sym (eq q)) (a.placed q);
-              up = up_held c v.kept s f x m rest t u p n e a.up st sd o next flows only;
+              up = up_held c v.kept s f x m rest t u p n e hs a.up st sd o next flows only;
             },
           ),
         )
@@ -120,7 +120,7 @@ module _ (c : ℕ) (v : Books) (s : Session) (sound : Sound v) (few : length v.r
     live_stated : (z : Standing) → (at f.sides p).state ≡ z → place_in f p < n
         → Lives f (live_by z f p (held n e)) after_line (or_one c v.kept s t u)
     live_stated Level st lt = live_folded st lt
-    live_stated Behind st lt = live_held st (nat_lt (length (at f.sides p).hold) HOLD)
+    live_stated (Behind hs) st lt = live_held hs st (nat_lt (length hs) HOLD)
 
     live_there : (b : Bool) → leb n (place_in f p) ≡ b
         → Lives f (cond b (answered live.Already f) (live_by (at f.sides p).state f p (held n e))) after_line
@@ -333,27 +333,26 @@ module _ (c : ℕ) (v : Books) (s : Session) (sound : Sound v) (few : length v.r
     rejects (Running p) (k, r', z, le, l) h = not_of_download p z Reject h (λ i q. cc) (λ q i w. cc) (front_of p z l)
 
     -- the end of a download
-    holds_from : (p : Partition) (st : Standing) (b y : ℕ) (sd : Side)
-        → Passed c (at v.kept p) sd.place (max sd.place b) → SidedBy st c (at v.kept p) sd y b
-        → Holding c (at v.kept p) sd.place sd.hold y
-    holds_from p Level b y sd ps (e, h) = subst (λ hs. Holding c (at v.kept p) sd.place hs y) (sym e) h
-    holds_from p Behind b y sd ps h = holding_down c (at v.kept p) sd.place (max sd.place b) sd.hold y
+    holds_from : (p : Partition) (st : Standing) (b y place : ℕ) → Passed c (at v.kept p) place (max place b)
+        → SidedBy st c (at v.kept p) place y b → Holding c (at v.kept p) place (held_in st) y
+    holds_from p Level b y place ps h = h
+    holds_from p (Behind hs) b y place ps h = holding_down c (at v.kept p) place (max place b) hs y
         (omega arith) ps h
 
     passed_to : (l : List Entry) (z k b e : ℕ) → z ≤ k → b ≤ e → Passed c l z e → Passed c l k (max k b)
     passed_to l z k b e zk be h = λ j lt le. h j (omega (arith, zk, lt)) (omega (arith, be, lt, le))
 
     abbrev completed_side : ℕ → Side
-    completed_side n = record { place = n; state = Level; hold = [] }
+    completed_side n = record { place = n; state = Level }
 
     complete : (p : Partition) (z : ℕ) → x.asked ≡ [] → rest ≡ [] → download s ≡ None → z ≤ place_in f p
         → Over c (at v.kept p) (at a.up.b p) z ending.Complete
         → Recovers f (completed f p) other_line (or_one c v.kept s t u)
     complete p z k e o zk (aim, covers, within, passed) =
         let sd = at f.sides p in
-        let ready = holds_from p sd.state (at a.up.b p) (at a.up.y p) sd
+        let ready = holds_from p sd.state (at a.up.b p) (at a.up.y p) sd.place
         (passed_to (at v.kept p) z sd.place (at a.up.b p) aim zk covers passed) (a.up.sides p) in
-        let r = reaches c v sound few f.standings (place_in f) p sd.hold (at a.up.y p) a.known (a.placed p) ready in
+        let r = reaches c v sound few f.standings (place_in f) p (held_in sd.state) (at a.up.y p) a.known (a.placed p) ready in
         let n = r.after.place in
         let g : Following = record f {
           standings = r.after.known;
@@ -383,7 +382,7 @@ module _ (c : ℕ) (v : Books) (s : Session) (sound : Sound v) (few : length v.r
               };
               bases = a.up.bases;
               sides = or_as_it_was (λ q y. Sided c (at v.kept q) y (at a.up.y q) (at a.up.b q)) f.sides p
-                  (completed_side n) (refl, r.passed) a.up.sides;
+                  (completed_side n) r.passed a.up.sides;
               staged = opened x.opening Idle c v.kept (place_in g) a.up.b (download s) other_line began (k, e, refl, o);
             };
           },

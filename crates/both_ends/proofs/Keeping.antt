@@ -44,21 +44,21 @@ use Rattle.venue.specs.Books.{Sound}
 -- ---- one partition of a follower
 
 -- level: no report of its own is between its place and what is under way; behind: what is held comes before that
-abbrev pub SidedBy : Standing → ℕ → List Entry → Side → ℕ → ℕ → Type 0
-SidedBy Level c l s y b = (s.hold ≡ []) × Passed c l s.place y
-SidedBy Behind c l s y b = Holding c l (max s.place b) s.hold y
+abbrev pub SidedBy : Standing → ℕ → List Entry → ℕ → ℕ → ℕ → Type 0
+SidedBy Level c l place y b = Passed c l place y
+SidedBy (Behind hs) c l place y b = Holding c l (max place b) hs y
 
 abbrev pub Sided : ℕ → List Entry → Side → ℕ → ℕ → Type 0
-Sided c l s y b = SidedBy s.state c l s y b
+Sided c l s y b = SidedBy s.state c l s.place y b
 
-sided_grown_by : (z : Standing) (c : ℕ) (l l' : List Entry) (s : Side) (y b : ℕ) → Grown l l' → y ≤ length l
-    → SidedBy z c l s y b → SidedBy z c l' s y b
-sided_grown_by Level c l l' s y b g w (h, p) = (h, passed_grown c l l' s.place y g w p)
-sided_grown_by Behind c l l' s y b g w h = holding_grown c l l' (max s.place b) s.hold y g w h
+sided_grown_by : (z : Standing) (c : ℕ) (l l' : List Entry) (place y b : ℕ) → Grown l l' → y ≤ length l
+    → SidedBy z c l place y b → SidedBy z c l' place y b
+sided_grown_by Level c l l' place y b g w h = passed_grown c l l' place y g w h
+sided_grown_by (Behind hs) c l l' place y b g w h = holding_grown c l l' (max place b) hs y g w h
 
 pub sided_grown : (c : ℕ) (l l' : List Entry) (s : Side) (y b : ℕ) → Grown l l' → y ≤ length l → Sided c l s y b
     → Sided c l' s y b
-sided_grown c l l' s y b g w h = sided_grown_by s.state c l l' s y b g w h
+sided_grown c l l' s y b g w h = sided_grown_by s.state c l l' s.place y b g w h
 
 -- ---- the recovery channel
 

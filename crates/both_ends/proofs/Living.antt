@@ -106,10 +106,10 @@ module _ (c : ℕ) (k : Kept) (s : Session) where
       → place_in f q ≤ place_in (after_fold f p n w) q
   places_up f p n w le = or_as_it_was (λ q y. place_in f q ≤ y.place) f.sides p (to_place f p n) le (λ q. omega arith)
 
-  pub sided_moved : (z : Standing) (l : List Entry) (y : Side) (n m b : ℕ) → y.place ≤ n → SidedBy z c l y m b
-      → SidedBy z c l (record y { place = n }) m b
-  sided_moved Level l y n m b le (h, p) = (h, passed_less c l y.place n m m le (omega arith) p)
-  sided_moved Behind l y n m b le h = holding_up c l (max y.place b) (max n b) y.hold m (omega (arith, le)) h
+  pub sided_moved : (z : Standing) (l : List Entry) (place n m b : ℕ) → place ≤ n → SidedBy z c l place m b
+      → SidedBy z c l n m b
+  sided_moved Level l place n m b le h = passed_less c l place n m m le (omega arith) h
+  sided_moved (Behind hs) l place n m b le h = holding_up c l (max place b) (max n b) hs m (omega (arith, le)) h
 
   abbrev pub up_folded : (f : Following) (p : Partition) (n : ℕ) (w : Knowledge) (x : Line) (t : Taking)
       → place_in f p ≤ n → Up c k s f (place_in f) x t
@@ -128,7 +128,7 @@ module _ (c : ℕ) (k : Kept) (s : Session) where
         bases = u.bases;
         sides =
             or_as_it_was (λ q z. Sided c (at k q) z (at u.y q) (at u.b q)) f.sides p (to_place f p n)
-            (sided_moved (at f.sides p).state (at k p) (at f.sides p) n (at u.y p) (at u.b p) le (u.sides p))
+            (sided_moved (at f.sides p).state (at k p) (place_in f p) n (at u.y p) (at u.b p) le (u.sides p))
             u.sides;
         staged = channelled_on x.opening f.download c k k (place_in f) (place_in (after_fold f p n w)) u.b u.b (download s)
             (download s) x x refl refl (λ e. e)
@@ -171,10 +171,10 @@ module _ (c : ℕ) (k : Kept) (s : Session) where
           subst (λ r. i ≤ max (place r) (at (with_at y p n) r)) e
           (let w : at (with_at y p n) p ≡ n = at_written y p n in omega (arith, w, z))
 
-  sided_popped : (z : Standing) (l : List Entry) (y : Side) (m b n : ℕ) → n ≤ y.place → SidedBy z c l y m b
-      → SidedBy z c l y n b
-  sided_popped Level l y m b n le (h, p) = (h, λ j lt q. absurd (omega (arith, lt, q, le)))
-  sided_popped Behind l y m b n le h = holding_on c l (max y.place b) y.hold m n (omega (arith, le)) h
+  sided_popped : (z : Standing) (l : List Entry) (place m b n : ℕ) → n ≤ place → SidedBy z c l place m b
+      → SidedBy z c l place n b
+  sided_popped Level l place m b n le h = λ j lt q. absurd (omega (arith, lt, q, le))
+  sided_popped (Behind hs) l place m b n le h = holding_on c l (max place b) hs m n (omega (arith, le)) h
 
   pub up_popped : (f : Following) (x : Line) (m : List ℕ) (rest : List (List ℕ)) (t u : Taking) (p : Partition) (n : ℕ)
       (a : Up c k s f (place_in f) x t) → Next c (at k p) (at a.y p) n → Flows c k s.sent (with_at a.y p n) rest
@@ -187,7 +187,7 @@ module _ (c : ℕ) (k : Kept) (s : Session) where
     bases = a.bases;
     sides =
         or_as_it_was (λ q z. Sided c (at k q) (at f.sides q) z (at a.b q)) a.y p n
-        (sided_popped (at f.sides p).state (at k p) (at f.sides p) (at a.y p) (at a.b p) n le (a.sides p))
+        (sided_popped (at f.sides p).state (at k p) (place_in f p) (at a.y p) (at a.b p) n le (a.sides p))
         a.sides;
     staged = channelled_on x.opening f.download c k k (place_in f) (place_in f) a.b a.b (download s) (download s) x
         (record x { live = rest }) refl refl (λ e. e)
@@ -198,32 +198,27 @@ module _ (c : ℕ) (k : Kept) (s : Session) where
   other_mark y p n = by_partition (λ q z. p ≢ q → z ≡ at y q) y p n (λ ne. absurd (ne refl)) (λ q ne z. refl)
 
   -- the next report under way comes, and is held
-  abbrev pub with_hold : Following → Partition → NumberedReport → Following
-  with_hold f p h =
-      record f { sides = with_at f.sides p (record (at f.sides p) { hold = (at f.sides p).hold ++ h ∷ [] }) }
+  abbrev pub with_hold : Following → Partition → List NumberedReport → Following
+  with_hold f p hs = record f { sides = with_at f.sides p (record (at f.sides p) { state = Behind hs }) }
 
-  pub hold_places : (f : Following) (p : Partition) (h : NumberedReport) (q : Partition) → place_in (with_hold f p h) q
-      ≡ place_in f q
-  hold_places f p h =
-      or_as_it_was (λ q y. y.place ≡ place_in f q) f.sides p
-      (record (at f.sides p) { hold = (at f.sides p).hold ++ h ∷ [] }) refl (λ q. refl)
-
-  holds_more : (l : List Entry) (y : Side) (m b n : ℕ) (e : Entry) → y.state ≡ Behind → under l n ≡ Some e → e.owner
-      ≡ c → Next c l m n → Sided c l y m b → Sided c l (record y { hold = y.hold ++ held n e ∷ [] }) n b
-  holds_more l y m b n e st s o x h =
-      let was : Holding c l (max y.place b) y.hold m = subst (λ z. SidedBy z c l y m b) st h in
-      subst (λ z. SidedBy z c l (record y { hold = y.hold ++ held n e ∷ [] }) n b) (sym st)
-      (holding_more c l (max y.place b) y.hold m n e s o x was)
+  pub hold_places : (f : Following) (p : Partition) (hs : List NumberedReport) (q : Partition)
+      → place_in (with_hold f p hs) q ≡ place_in f q
+  hold_places f p hs =
+      or_as_it_was (λ q y. y.place ≡ place_in f q) f.sides p (record (at f.sides p) { state = Behind hs }) refl
+      (λ q. refl)
 
   pub up_held : (f : Following) (x : Line) (m : List ℕ) (rest : List (List ℕ)) (t u : Taking) (p : Partition) (n : ℕ)
-      (e : Entry) (a : Up c k s f (place_in f) x t) → (at f.sides p).state ≡ Behind → under (at k p) n ≡ Some e
-      → e.owner ≡ c
+      (e : Entry) (hs : List NumberedReport) (a : Up c k s f (place_in f) x t) → (at f.sides p).state ≡ Behind hs
+      → under (at k p) n ≡ Some e → e.owner ≡ c
       → Next c (at k p) (at a.y p) n → Flows c k s.sent (with_at a.y p n) rest → Only p n u
-      → Up c k s (with_hold f p (held n e)) (place_in (with_hold f p (held n e))) (record x { live = rest })
-      (or_one t u)
-  up_held f x m rest t u p n e a st sd o next flows only =
-      let g = with_hold f p (held n e) in
-      let same = hold_places f p (held n e) in
+      → Up c k s (with_hold f p (hs ++ held n e ∷ [])) (place_in (with_hold f p (hs ++ held n e ∷ [])))
+      (record x { live = rest }) (or_one t u)
+  up_held f x m rest t u p n e hs a st sd o next flows only =
+      let more = hs ++ held n e ∷ [] in
+      let g = with_hold f p more in
+      let same = hold_places f p more in
+      let was : Holding c (at k p) (max (place_in f p) (at a.b p)) hs (at a.y p) =
+      subst (λ z. SidedBy z c (at k p) (place_in f p) (at a.y p) (at a.b p)) st (a.sides p) in
       let fl = flowing_popped (place_in f) x m rest t u a.y p n next flows only a.flowing in
       record {
         y = with_at a.y p n;
@@ -237,10 +232,9 @@ module _ (c : ℕ) (k : Kept) (s : Session) where
         bases = a.bases;
         sides =
             by_partition (λ q z. Sided c (at k q) z (at (with_at a.y p n) q) (at a.b q)) f.sides p
-            (record (at f.sides p) { hold = (at f.sides p).hold ++ held n e ∷ [] })
-            (subst (λ z. Sided c (at k p) (record (at f.sides p) { hold = (at f.sides p).hold ++ held n e ∷ [] }) z
-            (at a.b p)) (sym (at_written a.y p n))
-            (holds_more (at k p) (at f.sides p) (at a.y p) (at a.b p) n e st sd o next (a.sides p)))
+            (record (at f.sides p) { state = Behind more })
+            (subst (λ z. Holding c (at k p) (max (place_in f p) (at a.b p)) more z) (sym (at_written a.y p n))
+            (holding_more c (at k p) (max (place_in f p) (at a.b p)) hs (at a.y p) n e sd o next was))
             (λ q ne. subst (λ z. Sided c (at k q) (at f.sides q) z (at a.b q)) (sym (other_mark a.y p n q ne))
             (a.sides q));
         staged =

@@ -1,5 +1,5 @@
 -- What a desk asks of its follower, of any call in any state. Assumes nothing.
-use Rattle.std.specs.Prelude.{◌≡◌, Bool, true, false, List, Ok, Err, Result}
+use Rattle.std.specs.Prelude.{◌≡◌, ◌≢◌, Bool, true, false, List, [], Ok, Err, Result}
 use Rattle.std.specs.List.{list_any}
 use Rattle.codes.specs.declared.session.Partition.{Partition}
 use Rattle.codes.specs.declared.session.ReportResponse.TheVariants.{Complete}
@@ -18,7 +18,7 @@ use Rattle.follower.specs.declared.stage.Stage.TheVariants.{Running}
 use Rattle.gateway.specs.State.{State}
 use Rattle.partitions.specs.PerPartition.{at}
 
--- whether a partition is level or behind
+-- whether a partition is level or behind, and with what held
 abbrev pub state_of : Desk → Partition → Standing
 state_of d p = (at d.follower.sides p).state
 
@@ -58,7 +58,7 @@ pub record Completes (d : Desk) (p : Partition) (x : Done) : Type 0 where
 -- nothing else makes a partition level
 abbrev pub LevelByDownload : Type 0
 LevelByDownload =
-    (s : State) (d : Desk) (x : Done) (w : State) (e : Desk) (p : Partition) → Does s d x w e → state_of d p ≡ Behind
+    (s : State) (d : Desk) (x : Done) (w : State) (e : Desk) (p : Partition) → Does s d x w e → state_of d p ≢ Level
     → state_of e p ≡ Level → Completes d p x
 
 -- whether the follower is given a message
@@ -67,8 +67,8 @@ gives (done.Live bs r) = true
 gives (done.Recovered bs r) = true
 gives d = false
 
--- a follower that is never given anything stays behind
+-- a follower that is never given anything stays behind, with nothing held
 abbrev pub StaysBehind : Type 0
 StaysBehind =
     (s : State) (xs : List Done) (w : State) (e : Desk) (p : Partition) → Runs s fresh xs w e
-    → list_any gives xs ≡ false → state_of e p ≡ Behind
+    → list_any gives xs ≡ false → state_of e p ≡ Behind []

@@ -22,6 +22,7 @@ use Rattle.follower.specs.declared.side.State.TheVariants.{Level, Behind}
 use Rattle.follower.specs.declared.stage.Stage.{Stage}
 use Rattle.follower.specs.declared.stage.Stage.TheVariants.{Idle, Asked, Running}
 use Rattle.follower.specs.Numbers.{number_of}
+use Rattle.follower.specs.Sides.{held_in}
 use Rattle.follower.specs.Folding.{Reached, reached, caught_up}
 use Rattle.follower.specs.Following.{Following, Step, answered, refused, folded, folded_to, held, overrun, live_by, lived, acked_of, acked, recovered_of, reported, levelled, ended_of, ended, rejected, recovering}
 use Rattle.follower.specs.Owing.{owed, awaited, handed, token_after, BeginsNone, Tied, count, Covers}
@@ -43,8 +44,8 @@ module _ {A : Type 0} (f : Following) where
 module _ (f : Following) where
   live_at : (s : State) (p : Partition) (h : NumberedReport) → On f (live_by s f p h)
   live_at Level p h = on_folded f live.Folded p (number_of h) (fold p h.told f.standings)
-  live_at Behind p h =
-      on_either f (nat_lt (length (at f.sides p).hold) HOLD) (held f p h) (overrun f) (inl refl) (inr refl)
+  live_at (Behind hs) p h =
+      on_either f (nat_lt (length hs) HOLD) (held f p hs h) (overrun f) (inl refl) (inr refl)
 
   live_heard : (h : Heard) → On f (lived f h)
   live_heard (Report p h) =
@@ -85,7 +86,7 @@ module _ (f : Following) where
 
   end_of_on : (p : Partition) (r : ReportResponse) → On f (ended_of f p r)
   end_of_on p ending.Complete =
-      levelled_on p (caught_up p (reached f.standings (at f.sides p).place) (at f.sides p).hold)
+      levelled_on p (caught_up p (reached f.standings (at f.sides p).place) (held_in (at f.sides p).state))
   end_of_on p ending.MessageLimit = inr refl
   end_of_on p ending.ServiceUnavailable = inr refl
 

@@ -1,5 +1,5 @@
 -- What a follower is, and what each of its calls answers and leaves. Assumes nothing.
-use Rattle.std.specs.Prelude.{ℕ, Bool, false, ◌∷◌, [], ◌++◌, length, Ok, Err, Result, Some, None, Option, nat_le, nat_lt, if◌then◌else◌}
+use Rattle.std.specs.Prelude.{ℕ, Bool, false, List, ◌∷◌, [], ◌++◌, length, Ok, Err, Result, Some, None, Option, nat_le, nat_lt, if◌then◌else◌}
 use Rattle.codes.specs.Session.{same_partition}
 use Rattle.codes.specs.declared.session.Partition.{Partition}
 use Rattle.codes.specs.declared.session.AckResponse.{AckResponse}
@@ -28,7 +28,7 @@ use Rattle.follower.specs.declared.stage.Stage.{Stage}
 use Rattle.follower.specs.declared.stage.Stage.TheVariants.{Idle, Asked, Running}
 use Rattle.follower.specs.Numbers.{number_of}
 use Rattle.follower.specs.Folding.{Reached, reached, caught_up}
-use Rattle.follower.specs.Sides.{new_side, fallen}
+use Rattle.follower.specs.Sides.{new_side, fallen, held_in}
 
 -- what a follower knows of its orders, each partition, whether it is up, and its download
 pub record Following : Type 0 where
@@ -70,11 +70,12 @@ module _ {A : Type 0} where
   abbrev pub folded : A → Following → Partition → NumberedReport → Step A
   folded a f p h = folded_to a f p (number_of h) (fold p h.told f.standings)
 
--- one report more is held
-abbrev pub held : Following → Partition → NumberedReport → Step Live
-held f p h =
-    let s = at f.sides p in
-    answered live.Held (record f { sides = with_at f.sides p (record s { hold = s.hold ++ h ∷ [] }) })
+-- one report more is held, behind those that are
+abbrev pub held : Following → Partition → List NumberedReport → NumberedReport → Step Live
+held f p hs h =
+    answered live.Held (record f {
+      sides = with_at f.sides p (record (at f.sides p) { state = Behind (hs ++ h ∷ []) });
+    })
 
 -- as many are held as there is room for: the one refusal that changes something, as a lost line does
 abbrev pub overrun : Following → Step Live
@@ -83,7 +84,7 @@ overrun f = record { answer = Err fault.HoldFull; after = turned false f }
 -- a report above its partition's place: folded where the partition is level, held where it is behind
 abbrev pub live_by : State → Following → Partition → NumberedReport → Step Live
 live_by Level f p h = folded live.Folded f p h
-live_by Behind f p h = if nat_lt (length (at f.sides p).hold) HOLD then held f p h else overrun f
+live_by (Behind hs) f p h = if nat_lt (length hs) HOLD then held f p hs h else overrun f
 
 -- the state of the partition that a message is for
 abbrev pub state_for : Following → Heard → Option State
@@ -136,12 +137,12 @@ abbrev pub levelled : Following → Partition → Result Reached FoldRefusal →
 levelled f p (Err e) = refused (fault.Fold e) f
 levelled f p (Ok r) = answered recovered.Ended (record f {
   standings = r.known;
-  sides = with_at f.sides p (record { place = r.place; state = Level; hold = [] });
+  sides = with_at f.sides p (record { place = r.place; state = Level });
   download = Idle;
 })
 
 abbrev pub completed : Following → Partition → Step Recovered
-completed f p = levelled f p (caught_up p (reached f.standings (at f.sides p).place) (at f.sides p).hold)
+completed f p = levelled f p (caught_up p (reached f.standings (at f.sides p).place) (held_in (at f.sides p).state))
 
 -- the end of a download that runs: where it is not complete, no more changes than that none runs
 abbrev pub ended_of : Following → Partition → ReportResponse → Step Recovered

@@ -2,6 +2,7 @@
 ghost use Rattle.std.specs.Prelude.{◌≡◌, length};
 ghost use Rattle.std.specs.FinMap.{get, len};
 ghost use Rattle.partitions.specs.PerPartition.{at};
+ghost use Rattle.follower.specs.Sides.{held_in, is_level};
 ghost use Rattle.follower.specs.Orders.{FirstFrom};
 
 use crate::ordered::first_from;
@@ -42,18 +43,25 @@ impl Follower {
         self.sides.at(partition).place.get()
     }
 
-    /// Whether a partition is level.
-    pub fn state(&self, partition: Partition) -> State
-        ensures { result ≡ (at self.now.sides partition).state }
+    /// Whether a partition is level or behind, and with what held.
+    pub fn state(&self, partition: Partition) -> &State
+        ensures { result.now ≡ (at self.now.sides partition).state }
     {
-        self.sides.at(partition).state
+        &self.sides.at(partition).state
     }
 
-    /// How many reports a partition holds.
-    pub fn held(&self, partition: Partition) -> usize
-        ensures { result ≡ length (at self.now.sides partition).hold }
+    /// Whether a partition is level.
+    pub fn is_level(&self, partition: Partition) -> bool
+        ensures { result ≡ is_level (at self.now.sides partition).state }
     {
-        self.sides.at(partition).hold.len()
+        self.sides.at(partition).state.is_level()
+    }
+
+    /// How many reports a partition holds; one that is level holds none.
+    pub fn held(&self, partition: Partition) -> usize
+        ensures { result ≡ length (held_in (at self.now.sides partition).state) }
+    {
+        self.sides.at(partition).state.held()
     }
 
     /// Whether the follower is up.

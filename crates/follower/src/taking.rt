@@ -1,7 +1,8 @@
 // What a follower that is up does with what it hears.
-ghost use Rattle.std.specs.Prelude.{◌≡◌, ◌==◌, nat_le, Ok};
+ghost use Rattle.std.specs.Prelude.{◌≡◌, ◌==◌, false, nat_le, Ok};
+ghost use Rattle.std.specs.Option.{option_copied};
 ghost use Rattle.partitions.specs.PerPartition.{at};
-ghost use Rattle.follower.specs.declared.side.State.TheVariants.{Behind};
+ghost use Rattle.follower.specs.Sides.{is_level};
 ghost use Rattle.follower.specs.Numbers.{number_of};
 ghost use Rattle.codes.specs.Session.{same_partition};
 ghost use Rattle.follower.specs.Following.{turned, state_for, lived, live_by, folded, no_download, acked, reported, recovered_of, completed, ended, rejected, recovering};
@@ -33,11 +34,11 @@ impl Follower {
     }
 
     // The state of the partition that a message is for; one without a number is for none.
-    fn state_for(&self, heard: &Heard) -> Option<State>
-        ensures { result ≡ state_for self.now heard.now }
+    fn state_for(&self, heard: &Heard) -> Option<&State>
+        ensures { option_copied result ≡ state_for self.now heard.now }
     {
         match heard {
-            Heard::Report(partition, _) => Some(self.sides.at(*partition).state),
+            Heard::Report(partition, _) => Some(&self.sides.at(*partition).state),
             _ => None,
         }
     }
@@ -66,10 +67,11 @@ impl Follower {
 
     // Holds a report of a partition that is behind; where the hold is full, the line counts as lost.
     fn hold(&mut self, partition: Partition, report: NumberedReport) -> Result<Live, FollowerFault>
-        ensures answer { result ≡ (live_by Behind self.old partition report).answer }
-        ensures after { self.new ≡ (live_by Behind self.old partition report).after }
+        requires { is_level (at self.old.sides partition).state ≡ false }
+        ensures answer { result ≡ (live_by (at self.old.sides partition).state self.old partition report).answer }
+        ensures after { self.new ≡ (live_by (at self.old.sides partition).state self.old partition report).after }
     {
-        match self.sides.at_mut(partition).hold.push(report) {
+        match self.sides.at_mut(partition).state.hold(report) {
             Ok(()) => Ok(Live::Held),
             Err(_) => {
                 self.turn(false);
@@ -90,7 +92,9 @@ impl Follower {
             (Some(State::Level), Heard::Report(partition, report)) => {
                 self.fold(partition, &report, Live::Folded)
             }
-            (Some(State::Behind), Heard::Report(partition, report)) => self.hold(partition, report),
+            (Some(State::Behind(_)), Heard::Report(partition, report)) => {
+                self.hold(partition, report)
+            }
             _ => Ok(Live::Nothing),
         }
     }
@@ -157,10 +161,9 @@ impl Follower {
     {
         self.trial.copy_from(&self.standings);
         let side = self.sides.at_mut(partition);
-        let place = side.hold.fold_into(&mut self.trial, partition, side.place)?;
+        let place = side.fold_held(&mut self.trial, partition)?;
         side.place = place;
         side.state = State::Level;
-        side.hold.clear();
         self.standings.copy_from(&self.trial);
         Ok(self.end())
     }
