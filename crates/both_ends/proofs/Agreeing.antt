@@ -8,12 +8,12 @@ use Rattle.std.proofs.lemmas.Bool.{eqb-true, eq-eqb, or_from}
 use Rattle.codes.specs.declared.session.Partition.{Partition}
 use Rattle.codes.specs.declared.session.Partition.TheVariants.{One, Two, Three}
 use Rattle.configuration.specs.declared.participant.Participant.{Participant}
-use Rattle.both_ends.proofs.Carrying.{Flows}
 use Rattle.both_ends.proofs.Caught.{begins, shown}
 use Rattle.both_ends.proofs.Flights.{Passed}
 use Rattle.both_ends.proofs.Follows.{up_of, to_up, Went, same_ok, ok_err, given_live_keeps, given_recovered_keeps}
-use Rattle.both_ends.proofs.Keeping.{Keeps, Phase, Ready, Up, Still, Staged, Channelled, Sided, SidedBy, Taking, Flowing, channelled_on, keeps_taken}
-use Rattle.both_ends.proofs.Living.{place_in, tallied_as}
+use Rattle.both_ends.proofs.Keeping.{Keeps, Phase, Joined, marks_of, place_in, Still, Staged, Channelled, Taking, channelled_on, keeps_taken}
+use Rattle.both_ends.proofs.Marks.{Whole, SidedBy, fallen_back}
+use Rattle.both_ends.proofs.Living.{tallied_as}
 use Rattle.both_ends.proofs.Refusals.{refused_stays}
 use Rattle.both_ends.proofs.Requested.{request_long}
 use Rattle.both_ends.proofs.Serves.{quietly, real_time, recovery_given, sends_on, recovers_on}
@@ -171,26 +171,28 @@ module _ (c : ℕ) (s : State) (d : Desk) (x : Line) (t : Taking) (k : Keeps c s
   abbrev turned_desk : Bool → Desk
   turned_desk up = record { follower = turned up d.follower; token = pending.Idle }
 
-  turned_flowing : (up : Bool) (y : PerPartition ℕ) (x' : Line) → x'.live ≡ x.live
-      → Flowing c s.venue.kept (session s c).sent (place d) x t y
-      → Flowing c s.venue.kept (session s c).sent (place_in (turned up d.follower)) x' t y
-  turned_flowing up y x' e h = record {
-    within = h.within;
-    flows = subst (λ ms. Flows c s.venue.kept (session s c).sent y ms) (sym e) h.flows;
-    taken = λ p n i. let a = h.taken p n i in let z : place_in (turned up d.follower) p
-        ≡ place d p = turned_place up d.follower p in omega (arith, a, z);
+  -- the marks as they are then, of a connection that the follower is not up on yet
+  turned_joined : (up : Bool) (a : Connection) → d.follower.up ≡ false → Joined c s.venue.kept (session s c) d.follower x t
+      → Joined c s.venue.kept (session s c) (turned up d.follower) (record x { connection = a }) t
+  turned_joined up a dn z = record {
+    y = z.y;
+    b = z.y;
+    parts = parts;
+    taken = λ p n i. let v = z.taken p n i in let e : place_in (turned up d.follower) p
+        ≡ place d p = turned_place up d.follower p in omega (arith, v, e);
+    staged = channelled_on x.opening stage.Idle c s.venue.kept s.venue.kept (place d) (place_in (turned up d.follower)) z.b
+        z.y (download (session s c)) (download (session s c)) x (record x { connection = a }) refl refl (λ e. e) (λ i. i)
+        (subst (λ g. Channelled x.opening g c s.venue.kept (place d) z.b (download (session s c)) x) (k.quiet.idle dn)
+        z.staged);
   }
-
-  turned_still : (up : Bool) (y : PerPartition ℕ) (a : Connection)
-      → Channelled x.opening stage.Idle c s.venue.kept (place d) y (download (session s c)) x
-      → Channelled x.opening stage.Idle c s.venue.kept (place_in (turned up d.follower)) y (download (session s c))
-      (record x { connection = a })
-  turned_still up y a st =
-      channelled_on x.opening stage.Idle c s.venue.kept s.venue.kept (place d) (place_in (turned up d.follower)) y y
-      (download (session s c)) (download (session s c)) x (record x { connection = a }) refl refl (λ e. e) (λ z. z) st
+    where
+      parts : (p : Partition) → Whole c (marks_of s.venue.kept (session s c) (turned up d.follower) x z.y z.y p)
+      parts One = fallen_back c (marks_of s.venue.kept (session s c) d.follower x z.y z.b One) (z.parts One)
+      parts Two = fallen_back c (marks_of s.venue.kept (session s c) d.follower x z.y z.b Two) (z.parts Two)
+      parts Three = fallen_back c (marks_of s.venue.kept (session s c) d.follower x z.y z.b Three) (z.parts Three)
 
   turned_keeps : (up : Bool) (x' : Line) → up_in x'.connection ≡ up
-      → Phase x'.connection c s.venue.kept (session s c) (turned up d.follower) (place_in (turned up d.follower)) x' t
+      → Phase x'.connection c s.venue.kept (session s c) (turned up d.follower) x' t
       → Keeps c s (turned_desk up) x' t
   turned_keeps up x' e ph = record {
     up = e;
@@ -205,40 +207,23 @@ module _ (c : ℕ) (s : State) (d : Desk) (x : Line) (t : Taking) (k : Keeps c s
   }
 
   pub up_keeps : (x' : Line) → after_up x.connection x ≡ Ok x' → Keeps c s (turned_desk true) x' t
-  up_keeps x' ok = by x.connection k.phase ok
+  up_keeps x' ok = by x.connection refl k.phase ok
     where
-      sides : (y : PerPartition ℕ) (p : Partition)
-          → Sided c (at s.venue.kept p) (at (turned true d.follower).sides p) (at y p) (at y p)
-      sides y One = λ j lt le. absurd (omega (arith, lt, le))
-      sides y Two = λ j lt le. absurd (omega (arith, lt, le))
-      sides y Three = λ j lt le. absurd (omega (arith, lt, le))
-
-      ups : Ready c s.venue.kept (session s c) (place d) x t
-          → Up c s.venue.kept (session s c) (turned true d.follower) (place_in (turned true d.follower))
-          (record x { connection = conn.Up }) t
-      ups z = record {
-        y = z.y;
-        b = z.y;
-        flowing = turned_flowing true z.y (record x { connection = conn.Up }) refl z.flowing;
-        bases = z.flowing.within;
-        sides = sides z.y;
-        staged = turned_still true z.y conn.Up z.still;
-      }
-
-      by : (a : Connection) → Phase a c s.venue.kept (session s c) d.follower (place d) x t → after_up a x ≡ Ok x'
+      by : (a : Connection) → x.connection ≡ a → Phase a c s.venue.kept (session s c) d.follower x t → after_up a x ≡ Ok x'
           → Keeps c s (turned_desk true) x' t
-      by conn.Away ph g = ok_err NoLogon x' (Err NoLogon) refl g
-      by conn.Up ph g = ok_err NoLogon x' (Err NoLogon) refl g
-      by conn.Ready ph g =
+      by conn.Away e ph g = ok_err NoLogon x' (Err NoLogon) refl g
+      by conn.Up e ph g = ok_err NoLogon x' (Err NoLogon) refl g
+      by conn.Ready e ph g =
           subst (λ y. Keeps c s (turned_desk true) y t)
           (same_ok (record x { connection = conn.Up }) x' (Ok (record x { connection = conn.Up })) refl g)
-          (turned_keeps true (record x { connection = conn.Up }) refl (ups ph))
+          (turned_keeps true (record x { connection = conn.Up }) refl
+          (turned_joined true conn.Up (sym k.up ∙ ap up_in e) ph))
 
   pub lost_keeps : (x' : Line) → went (record x { connection = lost x.connection }) ≡ Ok x' → Keeps c s (turned_desk false) x' t
   lost_keeps x' ok =
       subst (λ y. Keeps c s (turned_desk false) y t)
       (same_ok left x' (Ok left) refl ok)
-      (turned_keeps false left (down x.connection) (by x.connection k.phase))
+      (turned_keeps false left (down x.connection) (by x.connection refl k.phase))
     where
       left : Line
       left = record x { connection = lost x.connection }
@@ -248,16 +233,11 @@ module _ (c : ℕ) (s : State) (d : Desk) (x : Line) (t : Taking) (k : Keeps c s
       down conn.Ready = refl
       down conn.Up = refl
 
-      by : (a : Connection) → Phase a c s.venue.kept (session s c) d.follower (place d) x t
-          → Phase (lost a) c s.venue.kept (session s c) (turned false d.follower)
-          (place_in (turned false d.follower)) left t
-      by conn.Away ph = tt
-      by conn.Up ph = tt
-      by conn.Ready ph = record {
-        y = ph.y;
-        flowing = turned_flowing false ph.y left refl ph.flowing;
-        still = turned_still false ph.y (lost x.connection) ph.still;
-      }
+      by : (a : Connection) → x.connection ≡ a → Phase a c s.venue.kept (session s c) d.follower x t
+          → Phase (lost a) c s.venue.kept (session s c) (turned false d.follower) left t
+      by conn.Away e ph = tt
+      by conn.Up e ph = tt
+      by conn.Ready e ph = turned_joined false (lost x.connection) (sym k.up ∙ ap up_in e) ph
 
   -- ---- a request
 
@@ -302,7 +282,7 @@ module _ (c : ℕ) (s : State) (d : Desk) (x : Line) (t : Taking) (k : Keeps c s
       → Keeps c s (asked_desk p token) (record x { asked = x.asked ++ m ∷ [] }) t
   asked_for b n p e back token m is =
       let fr = free_of b n p e in
-      let (r, u) = up_of c s.venue.kept (session s c) d.follower (place d) x t x.connection (k.up ∙ fr.up) k.phase in
+      let (r, u) = up_of c s.venue.kept (session s c) d.follower x t x.connection (k.up ∙ fr.up) k.phase in
       let st = subst
       (λ g. Channelled x.opening g c s.venue.kept (place d) u.b (download (session s c)) x) fr.idle u.staged in
       record {
@@ -313,13 +293,12 @@ module _ (c : ℕ) (s : State) (d : Desk) (x : Line) (t : Taking) (k : Keeps c s
         hers = k.hers;
         sound = λ q. sound;
         few = λ q. few;
-        phase = to_up c s.venue.kept (session s c) (asked_desk p token).follower (place d)
+        phase = to_up c s.venue.kept (session s c) (asked_desk p token).follower
             (record x { asked = x.asked ++ m ∷ [] }) t x.connection r (record {
               y = u.y;
               b = u.b;
-              flowing = record { within = u.flowing.within; flows = u.flowing.flows; taken = u.flowing.taken };
-              bases = u.bases;
-              sides = u.sides;
+              parts = u.parts;
+              taken = u.taken;
               staged = asks x.opening u.b st;
             });
       }
@@ -516,14 +495,14 @@ module _ (c : ℕ) (xs : List Done) (w : State) (e : Desk) (l : Line) (k : Keeps
   same_orders : (p : Partition) → state_of e p ≡ Level → AllTaken c w p xs → (n : ℕ) → SameOrders c w e p n
   same_orders p lv all n =
       let up = level_up e p k.quiet lv in
-      let (r, u) = up_of c w.venue.kept (session w c) e.follower (place e) l (λ p n. ⊥ ⊎ Took p n xs) l.connection
+      let (r, u) = up_of c w.venue.kept (session w c) e.follower l (λ p n. ⊥ ⊎ Took p n xs) l.connection
       (k.up ∙ up) k.phase in
       let passed : Passed c (at w.venue.kept p) (place e p) (at u.y p) =
-      subst (λ z. SidedBy z c (at w.venue.kept p) (place e p) (at u.y p) (at u.b p)) lv (u.sides p) in
+      subst (λ z. SidedBy z c (at w.venue.kept p) (place e p) (at u.y p) (at u.b p)) lv (u.parts p).sided in
       record {
         shown = shown w.venue.instruments w.venue.rows w.venue.kept c e.follower.standings (place e)
             (k.sound up).recorded k.known p (λ j lt. above j lt (is_hers c w p j) refl (at u.y p) passed
-            (u.flowing.taken p j)) n;
+            (u.taken p j)) n;
         held = (k.sound up).booked n;
       }
     where

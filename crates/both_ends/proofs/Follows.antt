@@ -1,14 +1,14 @@
 -- That each call of the follower keeps what holds of both ends. Assumes nothing.
 use Rattle.std.specs.List.{list_any}
 use Rattle.std.specs.Str.{bytes_eq}
-use Rattle.std.proofs.Common.{◌≡◌, ◌⊎◌, inl, inr, ℕ, ◌≤◌, Bool, true, false, cond, List, [], ◌∷◌, Some, None, Ok, Err, Option, Result, length, refl, sym, ap, ◌∙◌, subst}
+use Rattle.std.proofs.Common.{◌≡◌, ◌⊎◌, inl, inr, ℕ, ◌≤◌, max, Bool, true, false, cond, List, [], ◌∷◌, Some, None, Ok, Err, Option, Result, length, refl, sym, ap, ◌∙◌, subst}
 use Rattle.codes.specs.declared.session.Partition.{Partition}
 use Rattle.codes.specs.declared.session.Partition.TheVariants.{One, Two, Three}
-use Rattle.both_ends.proofs.Carrying.{held, Brings, Flows}
-use Rattle.both_ends.proofs.Flights.{Next}
-use Rattle.both_ends.proofs.Given.{same_bytes, Stands, Lives, lives, Recovers, acks, failed_acks, rejects, failed_rejects, ends, reports, repeats}
-use Rattle.both_ends.proofs.Keeping.{Keeps, Phase, Ready, Up, Taking, Channelled, Refuses, Refusing, channelled_on, keeps_taken}
-use Rattle.both_ends.proofs.Living.{place_in, Only, or_one, flowing_popped, tallied_as}
+use Rattle.both_ends.proofs.Carrying.{Front, front, reports_of}
+use Rattle.both_ends.proofs.Marks.{Whole, missed, based_anew}
+use Rattle.both_ends.proofs.Given.{same_bytes, Stands, lives, Recovers, acks, failed_acks, rejects, failed_rejects, ends, reports, repeats}
+use Rattle.both_ends.proofs.Keeping.{Keeps, Phase, Joined, marks_of, place_in, Taking, Channelled, Refuses, Refusing, channelled_on, phase_on, keeps_taken}
+use Rattle.both_ends.proofs.Living.{Only, or_one, popped, taken_popped, is_next, with_live, in_front, tallied_as}
 use Rattle.both_ends.specs.Agreement.{is_hers, is_unfit, place, Taken, HeardAs}
 use Rattle.both_ends.specs.Allowed.{Line, next_of, out_of_turn, next_live, given_live, or_lost, repeated, next_report, next_other, given_recovered}
 use Rattle.both_ends.specs.Laws.{is_full}
@@ -40,7 +40,8 @@ use Rattle.both_ends.specs.declared.connection.Connection.TheVariants as conn
 use Rattle.gateway.specs.State.{State, session}
 use Rattle.layout.specs.declared.fault.Fault.{Fault}
 use Rattle.limits.specs.declared.TheConstants.{ORDERS}
-use Rattle.partitions.specs.PerPartition.{at, with_at}
+use Rattle.partitions.proofs.Written.{by_partition}
+use Rattle.partitions.specs.PerPartition.{at}
 use Rattle.partitions.specs.declared.per_partition.PerPartition.{PerPartition}
 use Rattle.sessions.specs.Sessions.{download}
 use Rattle.sessions.specs.declared.session.Session.{Session}
@@ -49,20 +50,17 @@ use Rattle.venue.specs.Books.{Sound}
 
 -- ---- the phases of a connection
 
-module _ (c : ℕ) (k : Kept) (s : Session) (f : Following) (pl : Partition → ℕ) (x : Line) (t : Taking) where
-  pub up_of : (a : Connection) → up_in a ≡ true → Phase a c k s f pl x t → (a ≡ conn.Up) × Up c k s f pl x t
+module _ (c : ℕ) (k : Kept) (s : Session) (f : Following) (x : Line) (t : Taking) where
+  pub up_of : (a : Connection) → up_in a ≡ true → Phase a c k s f x t → (a ≡ conn.Up) × Joined c k s f x t
   up_of conn.Up e h = (refl, h)
   up_of conn.Away e h = absurd cc
   up_of conn.Ready e h = absurd cc
 
-  pub to_up : (a : Connection) → a ≡ conn.Up → Up c k s f pl x t → Phase a c k s f pl x t
-  to_up a e h = subst (λ z. Phase z c k s f pl x t) (sym e) h
+  pub to_up : (a : Connection) → a ≡ conn.Up → Joined c k s f x t → Phase a c k s f x t
+  to_up a e h = subst (λ z. Phase z c k s f x t) (sym e) h
 
-  pub to_ready : (a : Connection) → a ≡ conn.Ready → Ready c k s pl x t → Phase a c k s f pl x t
-  to_ready a e h = subst (λ z. Phase z c k s f pl x t) (sym e) h
-
-  pub to_away : (a : Connection) → a ≡ conn.Away → Phase a c k s f pl x t
-  to_away a e = subst (λ z. Phase z c k s f pl x t) (sym e) tt
+  pub to_away : (a : Connection) → a ≡ conn.Away → Phase a c k s f x t
+  to_away a e = subst (λ z. Phase z c k s f x t) (sym e) tt
 
 -- ---- a call that gives the follower something
 
@@ -124,62 +122,37 @@ module _ (c : ℕ) (s : State) (d : Desk) (x : Line) (t : Taking) (sound : Sound
   unheard h e none false = nothing (refused {A = Live} fault.NotUp f)
       (took (refused {A = Live} fault.NotUp f) (Ok h)) refl refl (λ p n z. z)
 
-  abbrev stands : Up c s.venue.kept (session s c) f (place_in f) x t → Stands c s.venue (session s c) f x t
+  abbrev stands : Joined c s.venue.kept (session s c) f x t → Stands c s.venue (session s c) f x t
   stands u = record { known = k.known; placed = k.placed; up = u }
+
+  -- a report is told of
+  module _ (p : Partition) (h : NumberedReport) where
+    only_told : {A : Type 0} (a : Step A) → Only c s.venue.kept (session s c) p (number_of h) (took a (Ok (Report p h)))
+    only_told {A = A} a q i z = by a.answer z
+      where
+        by : (r : Result A FollowerFault) → Taken r (HeardAs q i (Ok (Report p h))) → (p ≡ q) × (number_of h ≡ i)
+        by (Ok v) g = g
+        by (Err v) g = absurd g
+
+    hers_told : {A : Type 0} (a : Step A) → is_hers c s p (number_of h) ≡ true → (q : Partition) (i : ℕ)
+        → took a (Ok (Report p h)) q i → is_hers c s q i ≡ true
+    hers_told a w q i z =
+        let (e, g) = only_told a q i z in
+        subst (λ r. is_hers c s r i ≡ true) e (subst (λ r. is_hers c s p r ≡ true) g w)
 
   -- a report comes live
   module _ (m : List ℕ) (p : Partition) (h : NumberedReport) (heard : heard_in m ≡ Ok (Report p h)) (rest : List (List ℕ))
-      (front : x.live ≡ m ∷ rest) where
+      (is : x.live ≡ m ∷ rest) where
     abbrev rest_line : Line
     rest_line = record x { live = rest }
 
-    -- it is the owner's, and the next above the mark
-    pub record Comes (y : PerPartition ℕ) : Type 0 where
-      pub n : ℕ
-      pub brings : Brings c (at s.venue.kept p) p n m
-      pub is : h ≡ held n brings.entry
-      pub next : Next c (at s.venue.kept p) (at y p) n
-      pub flows : Flows c s.venue.kept (session s c).sent (with_at y p n) rest
+    in_turn : Front p h x.live rest
+    in_turn = subst (λ ms. Front p h ms rest) (sym is) (front p h m rest heard)
 
-    comes : (y : PerPartition ℕ) → Flows c s.venue.kept (session s c).sent y x.live → Comes y
-    comes y fl = by (subst (λ z. Flows c s.venue.kept (session s c).sent y z) front fl)
-      where
-        part : (i j : Partition) (a b : NumberedReport) (r : Result Heard Fault) → r ≡ Ok (Report i a) → r ≡ Ok (Report j b)
-            → j ≡ i
-        part i j a b r e g = cc
-
-        told : (i j : Partition) (a b : NumberedReport) (r : Result Heard Fault) → r ≡ Ok (Report i a) → r ≡ Ok (Report j b)
-            → a ≡ b
-        told i j a b r e g = cc
-
-        moved_as : (q : Partition) (n : ℕ) → q ≡ p → (b : Brings c (at s.venue.kept q) q n m) → h ≡ held n b.entry
-            → Next c (at s.venue.kept q) (at y q) n → Flows c s.venue.kept (session s c).sent (with_at y q n) rest
-            → Comes y
-        moved_as q n e b i nx fl' =
-            subst (λ z. (b : Brings c (at s.venue.kept z) z n m) → h ≡ held n b.entry
-            → Next c (at s.venue.kept z) (at y z) n → Flows c s.venue.kept (session s c).sent (with_at y z n) rest
-            → Comes y) (sym e)
-            (λ b i nx fl'. record { n = n; brings = b; is = i; next = nx; flows = fl' }) b i nx fl'
-
-        by : Flows c s.venue.kept (session s c).sent y (m ∷ rest) → Comes y
-        by (q, n, b, nx, fl') =
-            moved_as q n (part p q h (held n b.entry) (heard_in m) heard b.heard) b
-            (told p q h (held n b.entry) (heard_in m) heard b.heard) nx fl'
-
-    only : (y : PerPartition ℕ) (w : Comes y) {A : Type 0} (a : Step A)
-        → Only c s.venue.kept (session s c) p w.n (took a (Ok (Report p h)))
-    only y w {A = A} a q i z = by a.answer z
-      where
-        by : (r : Result A FollowerFault) → Taken r (HeardAs q i (Ok (Report p h))) → (p ≡ q) × (w.n ≡ i)
-        by (Ok v) (e, g) = (e, sym (ap number_of w.is) ∙ g)
-        by (Err v) g = absurd g
-
-    hers_on : (y : PerPartition ℕ) (w : Comes y) {A : Type 0} (a : Step A) (q : Partition) (i : ℕ)
+    hers_on : {A : Type 0} (a : Step A) → is_hers c s p (number_of h) ≡ true → (q : Partition) (i : ℕ)
         → or_one c s.venue.kept (session s c) t (took a (Ok (Report p h))) q i → is_hers c s q i ≡ true
-    hers_on y w a q i (inl z) = k.hers q i z
-    hers_on y w a q i (inr z) =
-        let (e, g) = only y w a q i z in
-        subst (λ r. is_hers c s r i ≡ true) e (subst (λ r. is_hers c s p r ≡ true) g w.next.hers)
+    hers_on a w q i (inl z) = k.hers q i z
+    hers_on a w q i (inr z) = hers_told p h a w q i z
 
     -- the follower is not up: the report is gone
     not_up : f.up ≡ false → Goes c s (refused {A = Live} fault.NotUp f) rest_line
@@ -194,7 +167,8 @@ module _ (c : ℕ) (s : State) (d : Desk) (x : Line) (t : Taking) (sound : Sound
         hers = λ q i z. old q i z;
         sound = λ q. sound;
         few = λ q. few;
-        phase = by x.connection (k.up ∙ dn) k.phase;
+        phase = phase_on c s.venue.kept s.venue.kept (session s c) (session s c) f f x rest_line t
+            (or_one c s.venue.kept (session s c) t none) gone x.connection k.phase;
       };
     }
       where
@@ -205,33 +179,46 @@ module _ (c : ℕ) (s : State) (d : Desk) (x : Line) (t : Taking) (sound : Sound
         old q i (inl z) = k.hers q i z
         old q i (inr z) = absurd z
 
-        by : (a : Connection) → up_in a ≡ false → Phase a c s.venue.kept (session s c) f (place d) x t
-            → Phase a c s.venue.kept (session s c) f (place d) rest_line (or_one c s.venue.kept (session s c) t none)
-        by conn.Away e z = tt
-        by conn.Ready e z =
-            let w = comes z.y z.flowing.flows in
+        only : Only c s.venue.kept (session s c) p (number_of h) none
+        only q i z = absurd z
+
+        gone : Joined c s.venue.kept (session s c) f x t
+            → Joined c s.venue.kept (session s c) f rest_line (or_one c s.venue.kept (session s c) t none)
+        gone z =
+            let y' = popped c s.venue.kept (session s c) z.y p h in
+            let fallen = k.quiet.fallen dn in
             record {
-              y = with_at z.y p w.n;
-              flowing = flowing_popped c s.venue.kept (session s c) (place d) x m rest t none z.y p w.n w.next w.flows
-                  (λ q i a. absurd a) z.flowing;
-              still = channelled_on x.opening Idle c s.venue.kept s.venue.kept (place d) (place d) z.y (with_at z.y p w.n)
-                  (download (session s c)) (download (session s c)) x rest_line refl refl (λ g. g) (λ st. st) z.still;
+              y = y';
+              b = y';
+              parts = by_partition (λ q i. Whole c (record (marks_of s.venue.kept (session s c) f rest_line z.y z.y q) {
+                brought = i;
+                base = i;
+              })) z.y p (max (at z.y p) (number_of h))
+                  (missed c (marks_of s.venue.kept (session s c) f x z.y z.b p) h (reports_of p rest)
+                  (in_front c s.venue.kept (session s c) f x rest t none p h z in_turn only) (fallen p))
+                  (λ q ne. based_anew c (marks_of s.venue.kept (session s c) f rest_line z.y z.b q) (fallen q)
+                  (with_live c s.venue.kept (session s c) f x rest t none p h z in_turn only q (reports_of q rest)
+                  (in_turn.others q ne)));
+              taken = taken_popped c s.venue.kept (session s c) (place_in f) t none z.y p h only z.taken;
+              staged = subst (λ g. Channelled x.opening g c s.venue.kept (place_in f) z.b (download (session s c)) x
+                  → Channelled x.opening g c s.venue.kept (place_in f) y' (download (session s c)) rest_line)
+                  (sym (k.quiet.idle dn))
+                  (channelled_on x.opening Idle c s.venue.kept s.venue.kept (place_in f) (place_in f) z.b y'
+                  (download (session s c)) (download (session s c)) x rest_line refl refl (λ g. g) (λ st. st)) z.staged;
             }
-        by conn.Up e z = absurd cc
 
     -- it is up
     is_up : f.up ≡ true → (x' : Line) → or_lost (is_full (lived f (Report p h)).answer) (Ok rest_line) ≡ Ok x'
         → Goes c s (lived f (Report p h)) x' (or_one c s.venue.kept (session s c) t
         (took (lived f (Report p h)) (Ok (Report p h))))
     is_up up x' ok =
-        let (r, u) = up_of c s.venue.kept (session s c) f (place d) x t x.connection (k.up ∙ up) k.phase in
-        let w = comes u.y u.flowing.flows in
+        let (r, u) = up_of c s.venue.kept (session s c) f x t x.connection (k.up ∙ up) k.phase in
         let g = lived f (Report p h) in
-        let done = subst (λ z. Lives c s.venue (session s c) sound few f (lived f (Report p z)) rest_line
-        (or_one c s.venue.kept (session s c) t (took g (Ok (Report p h))))) (sym w.is)
-        (lives c s.venue (session s c) sound few f x m rest t (took g (Ok (Report p h))) p w.n w.brings.entry
-        (stands u) w.brings.stands w.brings.owner w.next w.flows (only u.y w g)) in
-        by r u w done.0 done.1
+        let only = only_told p h g in
+        let nx = is_next c s.venue.kept (session s c) f x rest t (took g (Ok (Report p h))) p h u in_turn only in
+        let done = lives c s.venue (session s c) sound few f x rest t (took g (Ok (Report p h))) p h (stands u) in_turn
+        only in
+        by r nx.1.hers done.0 done.1
       where
         gone : Taking
         gone = took (lived f (Report p h)) (Ok (Report p h))
@@ -243,14 +230,14 @@ module _ (c : ℕ) (s : State) (d : Desk) (x : Line) (t : Taking) (sound : Sound
         up_after : Following → Type 0
         up_after g = g.up ≡ true
 
-        by : x.connection ≡ conn.Up → (u : Up c s.venue.kept (session s c) f (place_in f) x t) (w : Comes u.y)
+        by : x.connection ≡ conn.Up → is_hers c s p (number_of h) ≡ true
             → is_unfit (lived f (Report p h)).answer ≡ false
             → ((is_full (lived f (Report p h)).answer ≡ true) × ((lived f (Report p h)).after ≡ turned false f))
             ⊎ ((is_full (lived f (Report p h)).answer ≡ false) × ((lived f (Report p h)).after.up ≡ f.up)
             × Stands c s.venue (session s c) (lived f (Report p h)).after rest_line
             (or_one c s.venue.kept (session s c) t gone))
             → Goes c s (lived f (Report p h)) x' (or_one c s.venue.kept (session s c) t gone)
-        by r u w fits (inl (full, fell)) =
+        by r w fits (inl (full, fell)) =
             let lx : record rest_line { connection = lost x.connection }
             ≡ x' = same_ok (record rest_line { connection = lost x.connection }) x' (or_lost true (Ok rest_line)) refl
             (subst (λ b. or_lost b (Ok rest_line) ≡ Ok x') full ok) in
@@ -267,11 +254,11 @@ module _ (c : ℕ) (s : State) (d : Desk) (x : Line) (t : Taking) (sound : Sound
                     known = subst (λ (g : Following). Tallied c s.venue.kept g.standings (place_in g)) (sym fell)
                         (tallied_as c s.venue.kept f.standings (place_in f)
                         (place_in (turned false f)) turned_places k.known);
-                    hers = hers_on u.y w (lived f (Report p h));
+                    hers = hers_on (lived f (Report p h)) w;
                     sound = λ q. sound;
                     few = λ q. few;
                     phase = to_away c s.venue.kept (session s c) (lived f (Report p h)).after
-                        (place_in (lived f (Report p h)).after) (record rest_line { connection = lost x.connection })
+                        (record rest_line { connection = lost x.connection })
                         (or_one c s.venue.kept (session s c) t gone) (lost x.connection) (ap lost r);
                   });
             }
@@ -280,7 +267,7 @@ module _ (c : ℕ) (s : State) (d : Desk) (x : Line) (t : Taking) (sound : Sound
             turned_places One = refl
             turned_places Two = refl
             turned_places Three = refl
-        by r u w fits (inr (room, same_up, st)) =
+        by r w fits (inr (room, same_up, st)) =
             let lx : rest_line ≡ x' = same_ok rest_line x' (or_lost false (Ok rest_line)) refl
             (subst (λ b. or_lost b (Ok rest_line) ≡ Ok x') room ok) in
             record {
@@ -292,11 +279,10 @@ module _ (c : ℕ) (s : State) (d : Desk) (x : Line) (t : Taking) (sound : Sound
                     quiet = quiet;
                     placed = st.placed;
                     known = st.known;
-                    hers = hers_on u.y w (lived f (Report p h));
+                    hers = hers_on (lived f (Report p h)) w;
                     sound = λ q. sound;
                     few = λ q. few;
-                    phase = to_up c s.venue.kept (session s c) (lived f (Report p h)).after
-                        (place_in (lived f (Report p h)).after) rest_line
+                    phase = to_up c s.venue.kept (session s c) (lived f (Report p h)).after rest_line
                         (or_one c s.venue.kept (session s c) t gone) x.connection r st.up;
                   });
             }
@@ -394,9 +380,9 @@ module _ (c : ℕ) (s : State) (d : Desk) (x : Line) (t : Taking) (sound : Sound
       hers = λ p n h. by p n h;
       sound = λ q. sound;
       few = λ q. few;
-      phase = to_up c s.venue.kept (session s c) a.after (place_in a.after) y
+      phase = to_up c s.venue.kept (session s c) a.after y
           (or_one c s.venue.kept (session s c) t u) y.connection
-          (eu ∙ (up_of c s.venue.kept (session s c) f (place d) x t x.connection (k.up ∙ up) k.phase).0) st.up;
+          (eu ∙ (up_of c s.venue.kept (session s c) f x t x.connection (k.up ∙ up) k.phase).0) st.up;
     };
   }
     where
@@ -405,10 +391,10 @@ module _ (c : ℕ) (s : State) (d : Desk) (x : Line) (t : Taking) (sound : Sound
       by p n (inr h) = hers p n h
 
   abbrev UpNow : Type 0
-  UpNow = Up c s.venue.kept (session s c) f (place_in f) x t
+  UpNow = Joined c s.venue.kept (session s c) f x t
 
   now_up : f.up ≡ true → UpNow
-  now_up up = (up_of c s.venue.kept (session s c) f (place d) x t x.connection (k.up ∙ up) k.phase).1
+  now_up up = (up_of c s.venue.kept (session s c) f x t x.connection (k.up ∙ up) k.phase).1
 
   abbrev step_on : Heard → Step Recovered
   step_on h = recovered_step f (Ok h)
@@ -447,7 +433,9 @@ module _ (c : ℕ) (s : State) (d : Desk) (x : Line) (t : Taking) (sound : Sound
       hers = λ p n z. old_hers p n z;
       sound = λ q. sound;
       few = λ q. few;
-      phase = by x.connection (k.up ∙ dn) eu k.phase;
+      phase = subst (λ a. Phase a c s.venue.kept (session s c) f y (or_one c s.venue.kept (session s c) t none)) (sym eu)
+          (phase_on c s.venue.kept s.venue.kept (session s c) (session s c) f f x y t
+          (or_one c s.venue.kept (session s c) t none) joined x.connection k.phase);
     };
   }
     where
@@ -461,27 +449,19 @@ module _ (c : ℕ) (s : State) (d : Desk) (x : Line) (t : Taking) (sound : Sound
       old_hers : (p : Partition) (n : ℕ) → or_one c s.venue.kept (session s c) t none p n → is_hers c s p n ≡ true
       old_hers p n z = k.hers p n (old p n z)
 
-      ready : Ready c s.venue.kept (session s c) (place d) x t
-          → Ready c s.venue.kept (session s c) (place d) y (or_one c s.venue.kept (session s c) t none)
-      ready z =
-          record {
-            y = z.y;
-            flowing = record {
-              within = z.flowing.within;
-              flows = subst (λ ms. Flows c s.venue.kept (session s c).sent z.y ms) (sym el) z.flowing.flows;
-              taken = λ p n i. z.flowing.taken p n (old p n i);
-            };
-            still = same z.y z.still;
-          }
-
-      by : (a : Connection) → up_in a ≡ false → y.connection ≡ a
-          → Phase a c s.venue.kept (session s c) f (place d) x t
-          → Phase y.connection c s.venue.kept (session s c) f (place d) y (or_one c s.venue.kept (session s c) t none)
-      by conn.Away e eu z = to_away c s.venue.kept (session s c) f (place d) y
-          (or_one c s.venue.kept (session s c) t none) y.connection eu
-      by conn.Ready e eu z = to_ready c s.venue.kept (session s c) f (place d) y
-          (or_one c s.venue.kept (session s c) t none) y.connection eu (ready z)
-      by conn.Up e eu z = absurd cc
+      joined : Joined c s.venue.kept (session s c) f x t
+          → Joined c s.venue.kept (session s c) f y (or_one c s.venue.kept (session s c) t none)
+      joined z = record {
+        y = z.y;
+        b = z.b;
+        parts = λ p. subst (λ ms. Whole c (record (marks_of s.venue.kept (session s c) f x z.y z.b p) {
+          live = reports_of p ms;
+        })) (sym el) (z.parts p);
+        taken = λ p n i. z.taken p n (old p n i);
+        staged = subst (λ g. Channelled x.opening g c s.venue.kept (place_in f) z.b (download (session s c)) x
+            → Channelled y.opening g c s.venue.kept (place_in f) z.b (download (session s c)) y) (sym (k.quiet.idle dn))
+            (same z.b) z.staged;
+      }
 
   off_same : (h : Heard) (l : Line) → f.up ≡ false → x ≡ l
       → Goes c s (step_on h) l (or_one c s.venue.kept (session s c) t (took (step_on h) (Ok h)))
@@ -550,19 +530,6 @@ module _ (c : ℕ) (s : State) (d : Desk) (x : Line) (t : Taking) (sound : Sound
     abbrev told : Heard
     told = Report p h
 
-    only_told : {A : Type 0} (a : Step A) → Only c s.venue.kept (session s c) p (number_of h) (took a (Ok told))
-    only_told {A = A} a q i z = by a.answer z
-      where
-        by : (r : Result A FollowerFault) → Taken r (HeardAs q i (Ok (Report p h))) → (p ≡ q) × (number_of h ≡ i)
-        by (Ok v) g = g
-        by (Err v) g = absurd g
-
-    hers_told : {A : Type 0} (a : Step A) → is_hers c s p (number_of h) ≡ true → (q : Partition) (i : ℕ)
-        → took a (Ok told) q i → is_hers c s q i ≡ true
-    hers_told a w q i z =
-        let (e, g) = only_told a q i z in
-        subst (λ r. is_hers c s r i ≡ true) e (subst (λ r. is_hers c s p r ≡ true) g w)
-
     abbrev Told : Line → Type 0
     Told y = Recovers c s.venue (session s c) sound few f (recovering f told) y
         (or_one c s.venue.kept (session s c) t (took (recovering f told) (Ok told)))
@@ -574,7 +541,7 @@ module _ (c : ℕ) (s : State) (d : Desk) (x : Line) (t : Taking) (sound : Sound
         → Told (record x { recovered = rest; again = m ∷ x.again })
     comes_next u rest front Awaited i (n, (r, a, z), st) = empty_front m rest front r
     comes_next u rest front Open i st = reports c s.venue (session s c) sound few f x m t
-        (took (recovering f told) (Ok told)) (stands u) p h heard (only_told (recovering f told)) i rest front f.download
+        (took (recovering f told) (Ok told)) (stands u) p h heard (only_told p h (recovering f told)) i rest front f.download
         refl st
     comes_next u rest front Failed i (n, r, a, z) = absurd (subst Refuses heard (refusing_front m rest front r).0)
 
@@ -592,7 +559,7 @@ module _ (c : ℕ) (s : State) (d : Desk) (x : Line) (t : Taking) (sound : Sound
         → Channelled o f.download c s.venue.kept (place_in f) u.b (download (session s c)) x → Told x
     comes_again u w Awaited i (n, (r, a, z), st) = none_again w a
     comes_again u w Open i st = repeats c s.venue (session s c) sound few f x m t (took (recovering f told) (Ok told))
-        (stands u) p h heard (only_told (recovering f told)) i w f.download refl st
+        (stands u) p h heard (only_told p h (recovering f told)) i w f.download refl st
     comes_again u w Failed i (n, r, a, z) = none_again w a
 
     report_came : (o : Option (List (List ℕ))) → next_of m x.recovered ≡ o → (w : Bool) → list_any (bytes_eq m) x.again
@@ -606,7 +573,7 @@ module _ (c : ℕ) (s : State) (d : Desk) (x : Line) (t : Taking) (sound : Sound
         (same_ok y x' (Ok y) refl ok)
         (subst (λ a. Goes c s a y (or_one c s.venue.kept (session s c) t (took a (Ok told)))) (sym (is_on told q))
         (gone_on (recovering f told) (took (recovering f told) (Ok told)) q refl r.0 (quiet_on told q)
-        (hers_told (recovering f told) r.1)))
+        (hers_told p h (recovering f told) r.1)))
     report_came (Some rest) e w i x' false q ok =
         let y : Line = record x { recovered = rest; again = m ∷ x.again } in
         subst (λ z. Goes c s (step_on told) z (or_one c s.venue.kept (session s c) t (took (step_on told) (Ok told))))
@@ -620,7 +587,7 @@ module _ (c : ℕ) (s : State) (d : Desk) (x : Line) (t : Taking) (sound : Sound
         (same_ok x x' (repeated true x) refl (subst (λ z. repeated z x ≡ Ok x') i ok))
         (subst (λ a. Goes c s a x (or_one c s.venue.kept (session s c) t (took a (Ok told)))) (sym (is_on told q))
         (gone_on (recovering f told) (took (recovering f told) (Ok told)) q refl r.0 (quiet_on told q)
-        (hers_told (recovering f told) r.1)))
+        (hers_told p h (recovering f told) r.1)))
     report_came None e false i x' true q ok = not_next RecoveredOutOfTurn x' q (subst (λ z. repeated z x ≡ Ok x') i ok)
     report_came None e w i x' false q ok = off_same told x' q (by w (subst (λ z. repeated z x ≡ Ok x') i ok))
       where

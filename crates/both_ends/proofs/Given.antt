@@ -2,7 +2,7 @@
 use Rattle.std.specs.Prelude.{nat_lt}
 use Rattle.std.specs.List.{list_any}
 use Rattle.std.specs.Str.{bytes_eq}
-use Rattle.std.proofs.Common.{◌≡◌, ◌≢◌, ◌⊎◌, inl, inr, ℕ, ◌<◌, ◌≤◌, max, Bool, true, false, cond, ◌||◌, leb, List, [], ◌∷◌, ◌++◌, Some, None, Ok, Result, length, refl, sym, ap, ◌∙◌, subst, arith}
+use Rattle.std.proofs.Common.{◌≡◌, ◌≢◌, ◌⊎◌, inl, inr, ℕ, ◌<◌, ◌≤◌, max, Bool, true, false, cond, ◌||◌, leb, List, [], ◌∷◌, ◌++◌, None, Ok, length, refl, sym, ap, ◌∙◌, subst, arith}
 use Rattle.std.proofs.lemmas.Bool.{leb-true, leb-false, le-leb}
 use Rattle.std.proofs.lemmas.Slice.Eq.{bytes_eq-Decides}
 use Rattle.codes.specs.declared.session.AckResponse.{AckResponse}
@@ -10,10 +10,11 @@ use Rattle.codes.specs.declared.session.AckResponse.TheVariants.{Successful, Lim
 use Rattle.codes.specs.declared.session.Partition.{Partition}
 use Rattle.codes.specs.declared.session.ReportResponse.{ReportResponse}
 use Rattle.codes.specs.declared.session.ReportResponse.TheVariants as ending
-use Rattle.both_ends.proofs.Carrying.{held, Brings, Flows, Holding, Loads, Over, holding_down}
-use Rattle.both_ends.proofs.Flights.{Passed, Next, next_above, next_either}
-use Rattle.both_ends.proofs.Keeping.{repeats_up, Sided, SidedBy, Staged, Channelled, NoneRuns, Refusing, Repeats, Refuses, Taking, Up, opened}
-use Rattle.both_ends.proofs.Living.{place_in, Placed, after_fold, moves, up_folded, Only, or_one, up_popped, with_hold, hold_places, up_held, tallied_as, reaches}
+use Rattle.both_ends.proofs.Carrying.{Tells, Run, Front, reports_of, Loads, Over, same_heard, heard_apart, run_down, loads_part, loads_next, loads_over, loads_other}
+use Rattle.both_ends.proofs.Marks.{Whole, SidedBy, levelled_to}
+use Rattle.both_ends.proofs.Flights.{Passed, Next, next_up, next_down}
+use Rattle.both_ends.proofs.Keeping.{Known, repeats_up, Staged, Channelled, NoneRuns, Refusing, Repeats, Refuses, Taking, Joined, marks_of, place_in, opened}
+use Rattle.both_ends.proofs.Living.{Placed, after_fold, moves, joined_folded, Only, or_one, is_next, joined_passed, with_hold, hold_places, joined_held, tallied_as, reaches}
 use Rattle.both_ends.specs.Agreement.{is_unfit}
 use Rattle.both_ends.specs.Allowed.{Line}
 use Rattle.both_ends.specs.declared.opening.Opening.TheVariants.{Open, Failed}
@@ -28,7 +29,6 @@ use Rattle.follower.specs.declared.answer.Live.TheVariants as live
 use Rattle.follower.specs.declared.answer.Recovered.{Recovered}
 use Rattle.follower.specs.declared.answer.Recovered.TheVariants as recovered
 use Rattle.follower.specs.declared.fault.FollowerFault.TheVariants as fault
-use Rattle.follower.specs.declared.heard.Heard.{Heard}
 use Rattle.follower.specs.declared.heard.Heard.TheVariants.{Report, Ack, End, Reject}
 use Rattle.follower.specs.declared.heard.NumberedReport.{NumberedReport}
 use Rattle.follower.specs.declared.hold.TheConstants.{HOLD}
@@ -38,7 +38,6 @@ use Rattle.follower.specs.declared.side.State.TheVariants.{Level, Behind}
 use Rattle.follower.specs.declared.stage.Stage.{Stage}
 use Rattle.follower.specs.declared.stage.Stage.TheVariants.{Idle, Asked, Running}
 use Rattle.keyed.specs.Numbers.{under}
-use Rattle.layout.specs.declared.fault.Fault.{Fault}
 use Rattle.limits.specs.declared.TheConstants.{ORDERS}
 use Rattle.partitions.proofs.Written.{at_written, by_partition, or_as_it_was}
 use Rattle.partitions.specs.PerPartition.{at, with_at}
@@ -56,7 +55,7 @@ same_bytes a b h = (bytes_eq-Decides a b).0 h
 pub record Stands (c : ℕ) (v : Books) (s : Session) (f : Following) (x : Line) (t : Taking) : Type 0 where
   pub known : Tallied c v.kept f.standings (place_in f)
   pub placed : Placed c v.kept (place_in f)
-  pub up : Up c v.kept s f (place_in f) x t
+  pub up : Joined c v.kept s f x t
 
 module _ (c : ℕ) (v : Books) (s : Session) (sound : Sound v) (few : length v.rows ≤ ORDERS) where
   -- ---- the real-time channel
@@ -68,21 +67,21 @@ module _ (c : ℕ) (v : Books) (s : Session) (sound : Sound v) (few : length v.r
       × (((is_full a.answer ≡ true) × (a.after ≡ turned false f))
       ⊎ ((is_full a.answer ≡ false) × (a.after.up ≡ f.up) × Stands c v s a.after x t))
 
-  module _ (f : Following) (x : Line) (m : List ℕ) (rest : List (List ℕ)) (t u : Taking) (p : Partition) (n : ℕ)
-      (e : Entry) (a : Stands c v s f x t) (sd : under (at v.kept p) n ≡ Some e) (o : e.owner ≡ c)
-      (next : Next c (at v.kept p) (at a.up.y p) n) (flows : Flows c v.kept s.sent (with_at a.up.y p n) rest)
-      (only : Only c v.kept s p n u) where
+  module _ (f : Following) (x : Line) (rest : List (List ℕ)) (t u : Taking) (p : Partition) (h : NumberedReport)
+      (a : Stands c v s f x t) (fr : Front p h x.live rest) (only : Only c v.kept s p (number_of h) u) where
     abbrev pub after_line : Line
     after_line = record x { live = rest }
 
-    live_folded : (at f.sides p).state ≡ Level → place_in f p < n
-        → Lives f (folded live.Folded f p (held n e)) after_line (or_one c v.kept s t u)
+    live_folded : (at f.sides p).state ≡ Level → place_in f p < number_of h
+        → Lives f (folded live.Folded f p h) after_line (or_one c v.kept s t u)
     live_folded st lt =
+        let n = number_of h in
         let level : Passed c (at v.kept p) (place_in f p) (at a.up.y p) =
-        subst (λ z. SidedBy z c (at v.kept p) (place_in f p) (at a.up.y p) (at a.up.b p)) st (a.up.sides p) in
-        let mv = moves c v sound few f p n e a.known a.placed
-        (next_either c (at v.kept p) (place_in f p) (at a.up.y p) n level next lt) sd o in
-        let moved = up_folded c v.kept s f p n mv.after x t (omega (arith, lt)) a.up in
+        subst (λ z. SidedBy z c (at v.kept p) (place_in f p) (at a.up.y p) (at a.up.b p)) st (a.up.parts p).sided in
+        let (tells, next) = is_next c v.kept s f x rest t u p h a.up fr only in
+        let mv = moves c v sound few f p h a.known a.placed lt
+        (next_down c (at v.kept p) (place_in f p) (at a.up.y p) n level next) tells in
+        let moved = joined_folded c v.kept s f p n mv.after x t (omega (arith, lt)) a.up in
         let here : place_in (after_fold f p n mv.after) p
         ≡ n = ap (λ (z : Side). z.place) (at_written f.sides p (record (at f.sides p) { place = n })) in
         subst (λ r. Lives f (folded_to live.Folded f p n r) after_line (or_one c v.kept s t u)) (sym mv.taken) (
@@ -93,18 +92,17 @@ module _ (c : ℕ) (v : Books) (s : Session) (sound : Sound v) (few : length v.r
             record {
               known = mv.known;
               placed = mv.placed;
-              up = up_popped c v.kept s (after_fold f p n mv.after) x m rest t u p n moved next flows only
-                  (omega (arith, here));
+              up = joined_passed c v.kept s (after_fold f p n mv.after) x rest t u p h moved fr only (omega (arith, here));
             },
           ),
         )
 
     live_held : (hs : List NumberedReport) → (at f.sides p).state ≡ Behind hs → (b : Bool)
-        → Lives f (cond b (held_step f p hs (held n e)) (overrun f)) after_line (or_one c v.kept s t u)
+        → Lives f (cond b (held_step f p hs h) (overrun f)) after_line (or_one c v.kept s t u)
     live_held hs st false = (refl, inl (refl, refl))
     live_held hs st true =
-        let g = with_hold c v.kept s f p (hs ++ held n e ∷ []) in
-        let eq = hold_places c v.kept s f p (hs ++ held n e ∷ []) in (
+        let g = with_hold c v.kept s f x rest t u p h a.up fr only (hs ++ h ∷ []) in
+        let eq = hold_places c v.kept s f x rest t u p h a.up fr only (hs ++ h ∷ []) in (
           refl,
           inr (
             refl,
@@ -112,18 +110,18 @@ module _ (c : ℕ) (v : Books) (s : Session) (sound : Sound v) (few : length v.r
             record {
               known = tallied_as c v.kept f.standings (place_in f) (place_in g) eq a.known;
               placed = λ q. subst (λ z. (z ≡ 0) ⊎ (is_of c (under (at v.kept q) z) ≡ true)) (sym (eq q)) (a.placed q);
-              up = up_held c v.kept s f x m rest t u p n e hs a.up st sd o next flows only;
+              up = joined_held c v.kept s f x rest t u p h a.up fr only hs st;
             },
           ),
         )
 
-    live_stated : (z : Standing) → (at f.sides p).state ≡ z → place_in f p < n
-        → Lives f (live_by z f p (held n e)) after_line (or_one c v.kept s t u)
+    live_stated : (z : Standing) → (at f.sides p).state ≡ z → place_in f p < number_of h
+        → Lives f (live_by z f p h) after_line (or_one c v.kept s t u)
     live_stated Level st lt = live_folded st lt
     live_stated (Behind hs) st lt = live_held hs st (nat_lt (length hs) HOLD)
 
-    live_there : (b : Bool) → leb n (place_in f p) ≡ b
-        → Lives f (cond b (answered live.Already f) (live_by (at f.sides p).state f p (held n e))) after_line
+    live_there : (b : Bool) → leb (number_of h) (place_in f p) ≡ b
+        → Lives f (cond b (answered live.Already f) (live_by (at f.sides p).state f p h)) after_line
         (or_one c v.kept s t u)
     live_there true q = (
       refl,
@@ -133,14 +131,14 @@ module _ (c : ℕ) (v : Books) (s : Session) (sound : Sound v) (few : length v.r
         record {
           known = a.known;
           placed = a.placed;
-          up = up_popped c v.kept s f x m rest t u p n a.up next flows only (leb-true n (place_in f p) q);
+          up = joined_passed c v.kept s f x rest t u p h a.up fr only (leb-true (number_of h) (place_in f p) q);
         },
       ),
     )
-    live_there false q = live_stated (at f.sides p).state refl (leb-false n (place_in f p) q)
+    live_there false q = live_stated (at f.sides p).state refl (leb-false (number_of h) (place_in f p) q)
 
-    pub lives : Lives f (lived f (Report p (held n e))) after_line (or_one c v.kept s t u)
-    lives = live_there (leb n (place_in f p)) refl
+    pub lives : Lives f (lived f (Report p h)) after_line (or_one c v.kept s t u)
+    lives = live_there (leb (number_of h) (place_in f p)) refl
 
   -- ---- the recovery channel
 
@@ -154,93 +152,92 @@ module _ (c : ℕ) (v : Books) (s : Session) (sound : Sound v) (few : length v.r
       → Channelled x'.opening g c v.kept (place_in f) a.up.b (download s) x'
       → Stands c v s (record f { download = g }) x' (or_one c v.kept s t u)
   with_stage f x x' t u g a l took st =
-      let fl = a.up.flowing in
       record {
         known = a.known;
         placed = a.placed;
         up = record {
           y = a.up.y;
           b = a.up.b;
-          flowing = record {
-            within = fl.within;
-            flows = subst (λ z. Flows c v.kept s.sent a.up.y z) (sym l) fl.flows;
-            taken = λ q i h. taken q i h;
-          };
-          bases = a.up.bases;
-          sides = a.up.sides;
+          parts = λ p. subst (λ z. Whole c (record (marks_of v.kept s f x a.up.y a.up.b p) { live = reports_of p z })) (sym l)
+              (a.up.parts p);
+          taken = λ q i h. taken q i h;
           staged = st;
         };
       }
     where
       taken : (q : Partition) (i : ℕ) → or_one c v.kept s t u q i → i ≤ max (place_in f q) (at a.up.y q)
-      taken q i (inl h) = a.up.flowing.taken q i h
+      taken q i (inl h) = a.up.taken q i h
       taken q i (inr h) = took q i h
 
-  -- a report of the download comes, which the place has reached
-  loaded_of : (f : Following) (x : Line) (m : List ℕ) (rest : List (List ℕ)) (t u : Taking) (p : Partition) (n : ℕ)
-      (b : Brings c (at v.kept p) p n m) (only : Only c v.kept s p n u)
-      (a : Stands c v s f x t) → x.opening ≡ Open → f.download ≡ Running p → x.asked ≡ []
-      → Repeats c (at v.kept p) p (place_in f p) x.again → is_of c (under (at v.kept p) n) ≡ true
-      → Loads c (at v.kept p) p (at a.up.b p) (download s) n rest → n ≤ place_in f p
-      → Stands c v s f (record x { recovered = rest; again = m ∷ x.again }) (or_one c v.kept s t u)
-  loaded_of f x m rest t u p n b only a began st k r is l le =
-      with_stage f x (record x { recovered = rest; again = m ∷ x.again }) t u f.download a refl taken_at
-      (opened x.opening f.download c v.kept (place_in f) a.up.b (download s)
-      (record x { recovered = rest; again = m ∷ x.again }) began (subst
-      (λ g. Staged g c v.kept (place_in f) a.up.b (download s)
-      (record x { recovered = rest; again = m ∷ x.again })) (sym st) (k, ((n, b, is, le), r), n, le, l)))
-    where
-      taken_at : (q : Partition) (i : ℕ) → u q i → i ≤ max (place_in f q) (at a.up.y q)
-      taken_at q i h =
-          let (e, z) = only q i h in
-          subst (λ r. i ≤ max (place_in f r) (at a.up.y r)) e (omega (arith, le, z))
-
-  module _ (f : Following) (x : Line) (m : List ℕ) (rest : List (List ℕ)) (t u : Taking) (p : Partition) (n : ℕ)
-      (b : Brings c (at v.kept p) p n m) (only : Only c v.kept s p n u) (began : x.opening ≡ Open) where
+  -- a report of the download that runs comes
+  module _ (f : Following) (x : Line) (m : List ℕ) (rest : List (List ℕ)) (t u : Taking) (p : Partition)
+      (h : NumberedReport) (hd : heard_in m ≡ Ok (Report p h)) (only : Only c v.kept s p (number_of h) u)
+      (began : x.opening ≡ Open) where
     abbrev pub taken_line : Line
     taken_line = record x { recovered = rest; again = m ∷ x.again }
 
-    -- and then one that it may not have reached
+    -- the place has reached it
+    loaded_of : (a : Stands c v s f x t) (z : ℕ) → f.download ≡ Running p → x.asked ≡ []
+        → Repeats c (at v.kept p) p (place_in f p) x.again → Tells c (at v.kept p) h
+        → is_of c (under (at v.kept p) (number_of h)) ≡ true → Loads c (at v.kept p) p (at a.up.b p) (download s) z rest
+        → z ≤ place_in f p → number_of h ≤ place_in f p → Stands c v s f taken_line (or_one c v.kept s t u)
+    loaded_of a z st k r tl is l zl le =
+        let known : Known c (at v.kept p) p (place_in f p) m = record {
+          report = h;
+          heard = hd;
+          tells = tl;
+          hers = is;
+          passed = le;
+        } in
+        with_stage f x taken_line t u f.download a refl taken_at
+        (opened x.opening f.download c v.kept (place_in f) a.up.b (download s) taken_line began (subst
+        (λ g. Staged g c v.kept (place_in f) a.up.b (download s) taken_line) (sym st) (k, (known, r), z, zl, l)))
+      where
+        taken_at : (q : Partition) (i : ℕ) → u q i → i ≤ max (place_in f q) (at a.up.y q)
+        taken_at q i w =
+            let (e, z) = only q i w in
+            subst (λ r. i ≤ max (place_in f r) (at a.up.y r)) e (omega (arith, le, z))
+
+  module _ (f : Following) (x : Line) (m : List ℕ) (rest : List (List ℕ)) (t u : Taking) (p : Partition)
+      (h : NumberedReport) (hd : heard_in m ≡ Ok (Report p h)) (only : Only c v.kept s p (number_of h) u)
+      (began : x.opening ≡ Open) where
+    -- or not yet
     recovered_there : (a : Stands c v s f x t) (z : ℕ) → f.download ≡ Running p → x.asked ≡ []
-        → Repeats c (at v.kept p) p (place_in f p) x.again → z ≤ place_in f p → Next c (at v.kept p) z n
-        → Loads c (at v.kept p) p (at a.up.b p) (download s) n rest
-        → (w : Bool) → leb n (place_in f p) ≡ w
-        → Recovers f (cond w (answered recovered.Already f) (folded recovered.Folded f p (held n b.entry))) taken_line
-        (or_one c v.kept s t u)
-    recovered_there a z st k r zl x' l true q =
-        (refl, refl, loaded_of f x m rest t u p n b only a began st k r x'.hers l (leb-true n (place_in f p) q))
-    recovered_there a z st k r zl x' l false q =
+        → Repeats c (at v.kept p) p (place_in f p) x.again → z ≤ place_in f p → Tells c (at v.kept p) h
+        → Next c (at v.kept p) z (number_of h)
+        → Loads c (at v.kept p) p (at a.up.b p) (download s) (max z (number_of h)) rest
+        → (w : Bool) → leb (number_of h) (place_in f p) ≡ w
+        → Recovers f (cond w (answered recovered.Already f) (folded recovered.Folded f p h))
+        (record x { recovered = rest; again = m ∷ x.again }) (or_one c v.kept s t u)
+    recovered_there a z st k r zl tl nx l true q =
+        let le : number_of h ≤ place_in f p = leb-true (number_of h) (place_in f p) q in (
+          refl,
+          refl,
+          loaded_of f x m rest t u p h hd only began a (max z (number_of h)) st k r tl nx.hers l (omega (arith, zl, le)) le,
+        )
+    recovered_there a z st k r zl tl nx l false q =
+        let n = number_of h in
         let lt : place_in f p < n = leb-false n (place_in f p) q in
-        let mv = moves c v sound few f p n b.entry a.known a.placed
-        (next_above c (at v.kept p) z (place_in f p) n zl lt x') b.stands b.owner in
+        let mv = moves c v sound few f p h a.known a.placed lt (next_up c (at v.kept p) z (place_in f p) n zl nx) tl in
         let g = after_fold f p n mv.after in
         let here : place_in g p ≡ n = ap (λ (y : Side). y.place)
         (at_written f.sides p (record (at f.sides p) { place = n })) in
         let moved : Stands c v s g x t = record {
           known = mv.known;
           placed = mv.placed;
-          up = up_folded c v.kept s f p n
+          up = joined_folded c v.kept s f p n
               mv.after x t (omega (arith, lt)) a.up;
         } in
-        subst (λ y. Recovers f (folded_to recovered.Folded f p n y) taken_line (or_one c v.kept s t u)) (sym mv.taken) (
+        subst (λ y. Recovers f (folded_to recovered.Folded f p n y) (record x { recovered = rest; again = m ∷ x.again })
+        (or_one c v.kept s t u)) (sym mv.taken) (
           refl,
           refl,
-          loaded_of g x m rest t u p n b only moved began st k (repeats_there g r lt here) x'.hers l
-              (omega (arith, here)),
+          loaded_of g x m rest t u p h hd only began moved (max z n) st k
+              (repeats_up c (at v.kept p) p (place_in f p) (place_in g p) x.again (omega (arith, lt, here)) r)
+              tl nx.hers l (omega (arith, zl, lt, here)) (omega (arith, here)),
         )
-      where
-        repeats_there : (g : Following) → Repeats c (at v.kept p) p (place_in f p) x.again → place_in f p < n
-            → place_in g p ≡ n → Repeats c (at v.kept p) p (place_in g p) x.again
-        repeats_there g r lt here =
-            repeats_up c (at v.kept p) p (place_in f p) (place_in g p) x.again (omega (arith, lt, here)) r
 
   -- ---- by what is heard at the front of what is under way
-
-  same_heard : (a b : Heard) (r : Result Heard Fault) → r ≡ Ok a → r ≡ Ok b → a ≡ b
-  same_heard a b r e f = cc
-
-  heard_apart : {X : Type 0} (m : List ℕ) (a b : Heard) → heard_in m ≡ Ok a → heard_in m ≡ Ok b → (a ≡ b → ⊥) → X
-  heard_apart m a b h g ne = absurd (ne (same_heard a b (heard_in m) h g))
 
   no_front : {X : Type 0} (x : Line) (m : List ℕ) (rest : List (List ℕ)) → x.recovered ≡ m ∷ rest → x.recovered ≡ [] → X
   no_front x m rest e f = absurd (let z : m ∷ rest ≡ [] = sym e ∙ f in cc)
@@ -293,14 +290,6 @@ module _ (c : ℕ) (v : Books) (s : Session) (sound : Sound v) (few : length v.r
     ack_granted p InvalidAppId e k z le l = absurd cc
     ack_granted p ServiceUnavailable e k z le l = absurd cc
 
-    -- nothing of a download is at the front but its reports and its end
-    not_of_download : {X : Type 0} (p : Partition) (z : ℕ) (h : Heard) → heard_in m ≡ Ok h
-        → ((r : ReportResponse) → h ≡ End r → ⊥) → ((q : Partition) (i : NumberedReport) → h ≡ Report q i → ⊥)
-        → Loads c (at v.kept p) p (at a.up.b p) (download s) z (m ∷ rest) → X
-    not_of_download p z h g n1 n2 (inl (r, e, e1, e2, w)) = heard_apart m h (End r) g e (n1 r)
-    not_of_download p z h g n1 n2 (inr (n, b, nx, w)) = heard_apart m h (Report p (held n b.entry)) g b.heard
-        (n2 p (held n b.entry))
-
     front_of : (p : Partition) (z : ℕ) → Loads c (at v.kept p) p (at a.up.b p) (download s) z x.recovered
         → Loads c (at v.kept p) p (at a.up.b p) (download s) z (m ∷ rest)
     front_of p z l = subst (λ q. Loads c (at v.kept p) p (at a.up.b p) (download s) z q) front l
@@ -319,7 +308,8 @@ module _ (c : ℕ) (v : Books) (s : Session) (sound : Sound v) (few : length v.r
       where
         inside : {i j : AckResponse} → Ack i ≡ Ack j → i ≡ j
         inside q = cc
-    acks (Running p) (k, r', z, le, l) r h = not_of_download p z (Ack r) h (λ i q. cc) (λ q i w. cc) (front_of p z l)
+    acks (Running p) (k, r', z, le, l) r h = loads_other c (at v.kept p) p (at a.up.b p) (download s) z m rest (front_of p z l) (Ack r) h (λ i q. cc)
+        (λ i w. cc)
 
     -- a Reject
     pub rejects : (g : Stage) → Staged g c v.kept (place_in f) a.up.b (download s) x → heard_in m ≡ Ok Reject
@@ -330,14 +320,14 @@ module _ (c : ℕ) (v : Books) (s : Session) (sound : Sound v) (few : length v.r
     rejects (Asked p) (ag, inr (inl (k, o, inr (m', e, w)))) h = (refl, refl, over k (sym (tail_is m' [] e)) o)
     rejects (Asked p) (ag, inr (inr (k, m', ms, e, h', z', le', l'))) h =
         heard_apart m Reject (Ack Successful) h (ap heard_in (sym (head_is m' ms e)) ∙ h') (λ q. cc)
-    rejects (Running p) (k, r', z, le, l) h = not_of_download p z Reject h (λ i q. cc) (λ q i w. cc) (front_of p z l)
+    rejects (Running p) (k, r', z, le, l) h = loads_other c (at v.kept p) p (at a.up.b p) (download s) z m rest (front_of p z l) Reject h
+        (λ i q. cc) (λ i w. cc)
 
     -- the end of a download
     holds_from : (p : Partition) (st : Standing) (b y place : ℕ) → Passed c (at v.kept p) place (max place b)
-        → SidedBy st c (at v.kept p) place y b → Holding c (at v.kept p) place (held_in st) y
+        → SidedBy st c (at v.kept p) place y b → Run c (at v.kept p) place (held_in st) y
     holds_from p Level b y place ps h = h
-    holds_from p (Behind hs) b y place ps h = holding_down c (at v.kept p) place (max place b) hs y
-        (omega arith) ps h
+    holds_from p (Behind hs) b y place ps h = run_down c (at v.kept p) place (max place b) hs y ps h
 
     passed_to : (l : List Entry) (z k b e : ℕ) → z ≤ k → b ≤ e → Passed c l z e → Passed c l k (max k b)
     passed_to l z k b e zk be h = λ j lt le. h j (omega (arith, zk, lt)) (omega (arith, be, lt, le))
@@ -346,12 +336,12 @@ module _ (c : ℕ) (v : Books) (s : Session) (sound : Sound v) (few : length v.r
     completed_side n = record { place = n; state = Level }
 
     complete : (p : Partition) (z : ℕ) → x.asked ≡ [] → rest ≡ [] → download s ≡ None → z ≤ place_in f p
-        → Over c (at v.kept p) (at a.up.b p) z ending.Complete
+        → (aim : ℕ) → at a.up.b p ≤ aim → Passed c (at v.kept p) z aim
         → Recovers f (completed f p) other_line (or_one c v.kept s t u)
-    complete p z k e o zk (aim, covers, within, passed) =
+    complete p z k e o zk aim covers passed =
         let sd = at f.sides p in
         let ready = holds_from p sd.state (at a.up.b p) (at a.up.y p) sd.place
-        (passed_to (at v.kept p) z sd.place (at a.up.b p) aim zk covers passed) (a.up.sides p) in
+        (passed_to (at v.kept p) z sd.place (at a.up.b p) aim zk covers passed) (a.up.parts p).sided in
         let r = reaches c v sound few f.standings (place_in f) p (held_in sd.state) (at a.up.y p) a.known (a.placed p) ready in
         let n = r.after.place in
         let g : Following = record f {
@@ -361,7 +351,6 @@ module _ (c : ℕ) (v : Books) (s : Session) (sound : Sound v) (few : length v.r
           download = Idle;
         } in
         let ups = or_as_it_was (λ q y. place_in f q ≤ y.place) f.sides p (completed_side n) r.up (λ q. omega arith) in
-        let fl = a.up.flowing in
         subst (λ y. Recovers f (levelled f p y) other_line (or_one c v.kept s t u)) (sym r.done) (
           refl,
           refl,
@@ -375,14 +364,10 @@ module _ (c : ℕ) (v : Books) (s : Session) (sound : Sound v) (few : length v.r
             up = record {
               y = a.up.y;
               b = a.up.b;
-              flowing = record {
-                within = fl.within;
-                flows = fl.flows;
-                taken = λ q i h. taken g ups q i h;
-              };
-              bases = a.up.bases;
-              sides = or_as_it_was (λ q y. Sided c (at v.kept q) y (at a.up.y q) (at a.up.b q)) f.sides p
-                  (completed_side n) r.passed a.up.sides;
+              parts = or_as_it_was (λ q z. Whole c (record (marks_of v.kept s f other_line a.up.y a.up.b q) { side = z }))
+                  f.sides p (completed_side n)
+                  (levelled_to c (marks_of v.kept s f other_line a.up.y a.up.b p) n r.passed (a.up.parts p)) a.up.parts;
+              taken = λ q i h. taken g ups q i h;
               staged = opened x.opening Idle c v.kept (place_in g) a.up.b (download s) other_line began (k, e, refl, o);
             };
           },
@@ -390,25 +375,15 @@ module _ (c : ℕ) (v : Books) (s : Session) (sound : Sound v) (few : length v.r
       where
         taken : (g : Following) → ((q : Partition) → place_in f q ≤ place_in g q) → (q : Partition) (i : ℕ)
             → or_one c v.kept s t u q i → i ≤ max (place_in g q) (at a.up.y q)
-        taken g ups q i (inl h) = let w = a.up.flowing.taken q i h in let le = ups q in omega (arith, w, le)
+        taken g ups q i (inl h) = let w = a.up.taken q i h in let le = ups q in omega (arith, w, le)
         taken g ups q i (inr h) = absurd (none q i h)
 
     ends_by : (p : Partition) (z : ℕ) (r : ReportResponse) → x.asked ≡ [] → rest ≡ [] → download s ≡ None
-        → z ≤ place_in f p → Over c (at v.kept p) (at a.up.b p) z r
+        → z ≤ place_in f p → (y : ℕ) → Over (at a.up.b p) r y → Passed c (at v.kept p) z y
         → Recovers f (ended_of f p r) other_line (or_one c v.kept s t u)
-    ends_by p z ending.Complete k e o zk w = complete p z k e o zk w
-    ends_by p z ending.MessageLimit k e o zk w = (refl, refl, over k e o)
-    ends_by p z ending.ServiceUnavailable k e o zk w = (refl, refl, over k e o)
-
-    ends_at : (p : Partition) (z : ℕ) (r : ReportResponse) → heard_in m ≡ Ok (End r) → x.asked ≡ [] → z ≤ place_in f p
-        → Loads c (at v.kept p) p (at a.up.b p) (download s) z (m ∷ rest)
-        → Recovers f (ended_of f p r) other_line (or_one c v.kept s t u)
-    ends_at p z r h k zk (inl (r', h', e, o, w)) = ends_by p z r k e o zk
-        (subst (λ i. Over c (at v.kept p) (at a.up.b p) z i) (inside (same_heard (End r') (End r) (heard_in m) h' h)) w)
-      where
-        inside : {i j : ReportResponse} → End i ≡ End j → i ≡ j
-        inside q = cc
-    ends_at p z r h k zk (inr (n, b, nx, w)) = heard_apart m (End r) (Report p (held n b.entry)) h b.heard (λ q. cc)
+    ends_by p z ending.Complete k e o zk y over ps = complete p z k e o zk y over ps
+    ends_by p z ending.MessageLimit k e o zk y w ps = (refl, refl, over k e o)
+    ends_by p z ending.ServiceUnavailable k e o zk y w ps = (refl, refl, over k e o)
 
     pub ends : (g : Stage) → Staged g c v.kept (place_in f) a.up.b (download s) x → (r : ReportResponse) → heard_in m
         ≡ Ok (End r) → Recovers f (ended f g r) other_line (or_one c v.kept s t u)
@@ -419,7 +394,10 @@ module _ (c : ℕ) (v : Books) (s : Session) (sound : Sound v) (few : length v.r
         (subst Refuses (ap heard_in (head_is m' [] e) ∙ h) w)
     ends (Asked p) (ag, inr (inr (k, m', ms, e, h', z', le', l'))) r h = heard_apart m (End r) (Ack Successful) h
         (ap heard_in (sym (head_is m' ms e)) ∙ h') (λ q. cc)
-    ends (Running p) (k, r', z, le, l) r h = ends_at p z r h k le (front_of p z l)
+    ends (Running p) (k, r', z, le, l) r h =
+        let (e, o, y, w, within, ps) = loads_over c (at v.kept p) p (at a.up.b p) (download s) z m rest (front_of p z l)
+        r h in
+        ends_by p z r k e o le y w ps
 
   -- ---- on a channel whose first Logon was no message
 
@@ -457,56 +435,28 @@ module _ (c : ℕ) (v : Books) (s : Session) (sound : Sound v) (few : length v.r
 
   -- ---- a report of a download
 
-  abbrev Before : List Entry → Partition → ℕ → List ℕ → Type 0
-  Before l p k m = (n : ℕ) × Brings c l p n m × (is_of c (under l n) ≡ true) × (n ≤ k)
-
   there_before : (l : List Entry) (p : Partition) (k : ℕ) (m : List ℕ) (ms : List (List ℕ)) → Repeats c l p k ms
-      → list_any (bytes_eq m) ms ≡ true → Before l p k m
+      → list_any (bytes_eq m) ms ≡ true → Known c l p k m
   there_before l p k m [] r h = absurd cc
-  there_before l p k m (i ∷ ms) ((n, b, t, le), r) h = by (λ g. there_before l p k m ms r g) (bytes_eq m i) refl h
+  there_before l p k m (i ∷ ms) (w, r) h = by (λ g. there_before l p k m ms r g) (bytes_eq m i) refl h
     where
-      by : (list_any (bytes_eq m) ms ≡ true → Before l p k m) → (w : Bool) → bytes_eq m i ≡ w
-          → (w || list_any (bytes_eq m) ms) ≡ true → Before l p k m
-      by rest true q g = (n, subst (λ j. Brings c l p n j) (sym (same_bytes m i q)) b, t, le)
+      by : (list_any (bytes_eq m) ms ≡ true → Known c l p k m) → (b : Bool) → bytes_eq m i ≡ b
+          → (b || list_any (bytes_eq m) ms) ≡ true → Known c l p k m
+      by rest true q g = subst (λ j. Known c l p k j) (sym (same_bytes m i q)) w
       by rest false q g = rest g
 
   module _ (f : Following) (x : Line) (m : List ℕ) (t u : Taking) (a : Stands c v s f x t) (q : Partition) (h : NumberedReport)
       (hd : heard_in m ≡ Ok (Report q h)) (only : Only c v.kept s q (number_of h) u) (began : x.opening ≡ Open) where
-    -- it is the report of the download's partition under its number
-    abbrev IsIt : Partition → ℕ → Type 0
-    IsIt p n = (b : Brings c (at v.kept p) p n m) × (q ≡ p) × (h ≡ held n b.entry)
-
-    is_it : (p : Partition) (n : ℕ) → Brings c (at v.kept p) p n m → IsIt p n
-    is_it p n b =
-        let e = same_heard (Report q h) (Report p (held n b.entry)) (heard_in m) hd b.heard in
-        (b, part_of q p h (held n b.entry) e, told_of_it q p h (held n b.entry) e)
-      where
-        part_of : (i j : Partition) (y z : NumberedReport) → Report i y ≡ Report j z → i ≡ j
-        part_of i j y z e = cc
-
-        told_of_it : (i j : Partition) (y z : NumberedReport) → Report i y ≡ Report j z → y ≡ z
-        told_of_it i j y z e = cc
-
-    only_it : (p : Partition) (n : ℕ) → IsIt p n → Only c v.kept s p n u
-    only_it p n (b, e, i) r j w = let (y, z) = only r j w in (sym e ∙ y, ap number_of (sym i) ∙ z)
-
-    -- the answer, where it is
-    as_it_is : (p : Partition) (n : ℕ) (i : IsIt p n) (y : Line) (w : Taking)
-        → Recovers f (recovered_of f p (held n i.0.entry)) y w → Recovers f (reported f (Running p) q h) y w
-    as_it_is p n (b, e, i) y w r =
-        subst (λ z. Recovers f (reported f (Running p) z h) y w) (sym e)
-        (subst (λ z. Recovers f (reported f (Running p) p z) y w) (sym i)
-        (subst (λ z. Recovers f (cond z (recovered_of f p (held n b.entry)) (refused fault.Partition f)) y w)
-        (sym (same_self p)) r))
+    -- the answer, where it is of the download's partition
+    of_its : (y : Line) → Recovers f (recovered_of f q h) y (or_one c v.kept s t u)
+        → Recovers f (reported f (Running q) q h) y (or_one c v.kept s t u)
+    of_its y w =
+        subst (λ z. Recovers f (cond z (recovered_of f q h) (refused fault.Partition f)) y (or_one c v.kept s t u))
+        (sym (same_self q)) w
 
     -- and it is the owner's
     abbrev pub HersIt : Type 0
     HersIt = is_of c (under (at v.kept q) (number_of h)) ≡ true
-
-    hers_it : (p : Partition) (n : ℕ) → IsIt p n → is_of c (under (at v.kept p) n) ≡ true → HersIt
-    hers_it p n (b, e, i) w =
-        subst (λ y. is_of c (under (at v.kept y) (number_of h)) ≡ true) (sym e)
-        (subst (λ y. is_of c (under (at v.kept p) y) ≡ true) (sym (ap number_of i)) w)
 
     -- the next under way
     pub reports : (rest : List (List ℕ)) → x.recovered ≡ m ∷ rest → (g : Stage) → f.download ≡ g
@@ -526,19 +476,28 @@ module _ (c : ℕ) (v : Books) (s : Session) (sound : Sound v) (few : length v.r
       where
         head_of : {i j : List ℕ} {is js : List (List ℕ)} → i ∷ is ≡ j ∷ js → i ≡ j
         head_of e = cc
-    reports rest front (Running p) st (k, r, z, zk, l) = by
-        (subst (λ y. Loads c (at v.kept p) p (at a.up.b p) (download s) z y) front l)
+    reports rest front (Running p) st sg = subst
+        (λ i. f.download ≡ Running i → Staged (Running i) c v.kept (place_in f) a.up.b (download s) x
+        → Recovers f (reported f (Running i) q h) (record x { recovered = rest; again = m ∷ x.again })
+        (or_one c v.kept s t u) × HersIt) (part p sg) here st sg
       where
-        by : Loads c (at v.kept p) p (at a.up.b p) (download s) z (m ∷ rest)
-            → Recovers f (reported f (Running p) q h) (record x { recovered = rest; again = m ∷ x.again })
+        front_of : (p : Partition) (z : ℕ) → Loads c (at v.kept p) p (at a.up.b p) (download s) z x.recovered
+            → Loads c (at v.kept p) p (at a.up.b p) (download s) z (m ∷ rest)
+        front_of p z l = subst (λ y. Loads c (at v.kept p) p (at a.up.b p) (download s) z y) front l
+
+        part : (p : Partition) → Staged (Running p) c v.kept (place_in f) a.up.b (download s) x → q ≡ p
+        part p (k, r, z, zk, l) =
+            loads_part c (at v.kept p) p (at a.up.b p) (download s) z m rest (front_of p z l) q h hd
+
+        here : f.download ≡ Running q → Staged (Running q) c v.kept (place_in f) a.up.b (download s) x
+            → Recovers f (reported f (Running q) q h) (record x { recovered = rest; again = m ∷ x.again })
             (or_one c v.kept s t u) × HersIt
-        by (inl (y, g, e1, e2, w)) = heard_apart m (Report q h) (End y) hd g (λ z. cc)
-        by (inr (n, b, nx, l')) =
-            let i = is_it p n b in (
-              as_it_is p n i (record x { recovered = rest; again = m ∷ x.again }) (or_one c v.kept s t u)
-                  (recovered_there f x m rest t u p n i.0 (only_it p n i) began a z st k r zk nx l'
-                  (leb n (place_in f p)) refl),
-              hers_it p n i nx.hers,
+        here st (k, r, z, zk, l) =
+            let (tl, nx, l') = loads_next c (at v.kept q) q (at a.up.b q) (download s) z m rest (front_of q z l) h hd in (
+              of_its (record x { recovered = rest; again = m ∷ x.again })
+                  (recovered_there f x m rest t u q h hd only began a z st k r zk tl nx l' (leb (number_of h) (place_in f q))
+                  refl),
+              nx.hers,
             )
 
     -- one that came before
@@ -549,25 +508,40 @@ module _ (c : ℕ) (v : Books) (s : Session) (sound : Sound v) (few : length v.r
         ≡ true = subst (λ y. list_any (bytes_eq m) y ≡ true) ag w in cc)
     repeats w (Asked p) st (ag, y) = absurd (let z : list_any (bytes_eq m) []
         ≡ true = subst (λ y. list_any (bytes_eq m) y ≡ true) ag w in cc)
-    repeats w (Running p) st (k, r, z, zk, l) =
-        let (n, b, is, le) = there_before (at v.kept p) p (place_in f p) m x.again r w in
-        let i = is_it p n b in
-        let o = only_it p n i in (
-          as_it_is p n i x (or_one c v.kept s t u)
-              (subst (λ y. Recovers f (cond y (answered recovered.Already f)
-              (folded recovered.Folded f p (held n i.0.entry))) x (or_one c v.kept s t u))
-              (sym (le-leb n (place_in f p) le)) (
-                refl,
-                refl,
-                with_stage f x x t u f.download a refl (taken n p o le)
-                    (opened x.opening f.download c v.kept (place_in f) a.up.b (download s) x began
-                    (subst (λ g. Staged g c v.kept (place_in f) a.up.b (download s) x) (sym st) (k, r, z, zk, l))),
-              )),
-          hers_it p n i is,
-        )
+    repeats w (Running p) st sg = subst
+        (λ i. f.download ≡ Running i → Staged (Running i) c v.kept (place_in f) a.up.b (download s) x
+        → Recovers f (reported f (Running i) q h) x (or_one c v.kept s t u) × HersIt) (part p sg) here st sg
       where
-        taken : (n : ℕ) (p : Partition) → Only c v.kept s p n u → n ≤ place_in f p → (r : Partition) (j : ℕ) → u r j
-            → j ≤ max (place_in f r) (at a.up.y r)
-        taken n p o le r j w =
-            let (e, z) = o r j w in
+        taken : number_of h ≤ place_in f q → (r : Partition) (j : ℕ) → u r j → j ≤ max (place_in f r) (at a.up.y r)
+        taken le r j w =
+            let (e, z) = only r j w in
             subst (λ y. j ≤ max (place_in f y) (at a.up.y y)) e (omega (arith, le, z))
+
+        part : (p : Partition) → Staged (Running p) c v.kept (place_in f) a.up.b (download s) x → q ≡ p
+        part p (k, r, z, zk, l) =
+            let b = there_before (at v.kept p) p (place_in f p) m x.again r w in
+            by p b.report (same_heard (Report q h) (Report p b.report) (heard_in m) hd b.heard)
+          where
+            by : (p : Partition) (i : NumberedReport) → Report q h ≡ Report p i → q ≡ p
+            by p i e = cc
+
+        here : f.download ≡ Running q → Staged (Running q) c v.kept (place_in f) a.up.b (download s) x
+            → Recovers f (reported f (Running q) q h) x (or_one c v.kept s t u) × HersIt
+        here st (k, r, z, zk, l) =
+            let b = there_before (at v.kept q) q (place_in f q) m x.again r w in
+            let same = by b.report (same_heard (Report q b.report) (Report q h) (heard_in m) b.heard hd) in
+            let le : number_of h ≤ place_in f q = subst (λ i. number_of i ≤ place_in f q) same b.passed in (
+              of_its x
+                  (subst (λ y. Recovers f (cond y (answered recovered.Already f)
+                  (folded recovered.Folded f q h)) x (or_one c v.kept s t u)) (sym (le-leb (number_of h) (place_in f q) le)) (
+                    refl,
+                    refl,
+                    with_stage f x x t u f.download a refl (taken le)
+                        (opened x.opening f.download c v.kept (place_in f) a.up.b (download s) x began
+                        (subst (λ g. Staged g c v.kept (place_in f) a.up.b (download s) x) (sym st) (k, r, z, zk, l))),
+                  )),
+              subst (λ i. is_of c (under (at v.kept q) (number_of i)) ≡ true) same b.hers,
+            )
+          where
+            by : (i : NumberedReport) → Report q i ≡ Report q h → i ≡ h
+            by i e = cc

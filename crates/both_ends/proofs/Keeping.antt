@@ -1,9 +1,10 @@
 -- What holds of both ends and of the line between them after every call that the line allows. Assumes nothing.
-use Rattle.std.proofs.Common.{◌≡◌, ◌⊎◌, inl, inr, ℕ, ◌≤◌, max, true, List, [], ◌∷◌, ◌++◌, None, Ok, Err, Option, Result, length, refl, sym, ◌∙◌, subst, arith}
+use Rattle.std.proofs.Common.{◌≡◌, ◌⊎◌, inl, inr, ℕ, ◌≤◌, max, true, List, [], ◌∷◌, ◌++◌, append-nil, None, Ok, Err, Option, Result, length, refl, sym, ◌∙◌, subst, arith}
 use Rattle.codes.specs.declared.session.AckResponse.TheVariants.{Successful, LimitReached, InvalidAppId, ServiceUnavailable}
 use Rattle.codes.specs.declared.session.Partition.{Partition}
-use Rattle.both_ends.proofs.Carrying.{Brings, Flows, Holding, Loads, brings_grown, holding_grown, loads_grown, loads_cut}
-use Rattle.both_ends.proofs.Flights.{Passed, there_within, hers_grown, passed_grown}
+use Rattle.both_ends.proofs.Carrying.{Tells, Loads, reports_of, tells_grown, loads_grown, loads_cut}
+use Rattle.both_ends.proofs.Marks.{Marks, Whole}
+use Rattle.both_ends.proofs.Flights.{there_within, hers_grown}
 use Rattle.both_ends.specs.Agreement.{place, is_hers}
 use Rattle.both_ends.specs.Allowed.{Line}
 use Rattle.both_ends.specs.Connecting.{up_in}
@@ -16,13 +17,12 @@ use Rattle.both_ends.specs.Tallied.{Tallied}
 use Rattle.follower.specs.Asking.{request, ReadBack}
 use Rattle.follower.specs.Following.{Following}
 use Rattle.follower.specs.Hearing.{heard_in}
+use Rattle.follower.specs.Numbers.{number_of}
 use Rattle.follower.specs.Quiet.{Quiet}
 use Rattle.follower.specs.declared.heard.Heard.{Heard}
 use Rattle.follower.specs.declared.heard.Heard.TheVariants.{Report, Ack, End, Reject, Nothing}
+use Rattle.follower.specs.declared.heard.NumberedReport.{NumberedReport}
 use Rattle.follower.specs.declared.pending.Pending.{Pending}
-use Rattle.follower.specs.declared.side.Side.{Side}
-use Rattle.follower.specs.declared.side.State.{State as Standing}
-use Rattle.follower.specs.declared.side.State.TheVariants.{Level, Behind}
 use Rattle.follower.specs.declared.stage.Stage.{Stage}
 use Rattle.follower.specs.declared.stage.Stage.TheVariants.{Idle, Asked, Running}
 use Rattle.gateway.specs.State.{State, session}
@@ -41,46 +41,38 @@ use Rattle.sessions.specs.declared.session.Session.{Session}
 use Rattle.store.specs.Kept.{Kept}
 use Rattle.venue.specs.Books.{Sound}
 
--- ---- one partition of a follower
-
--- level: no report of its own is between its place and what is under way; behind: what is held comes before that
-abbrev pub SidedBy : Standing → ℕ → List Entry → ℕ → ℕ → ℕ → Type 0
-SidedBy Level c l place y b = Passed c l place y
-SidedBy (Behind hs) c l place y b = Holding c l (max place b) hs y
-
-abbrev pub Sided : ℕ → List Entry → Side → ℕ → ℕ → Type 0
-Sided c l s y b = SidedBy s.state c l s.place y b
-
-sided_grown_by : (z : Standing) (c : ℕ) (l l' : List Entry) (place y b : ℕ) → Grown l l' → y ≤ length l
-    → SidedBy z c l place y b → SidedBy z c l' place y b
-sided_grown_by Level c l l' place y b g w h = passed_grown c l l' place y g w h
-sided_grown_by (Behind hs) c l l' place y b g w h = holding_grown c l l' (max place b) hs y g w h
-
-pub sided_grown : (c : ℕ) (l l' : List Entry) (s : Side) (y b : ℕ) → Grown l l' → y ≤ length l → Sided c l s y b
-    → Sided c l' s y b
-sided_grown c l l' s y b g w h = sided_grown_by s.state c l l' s.place y b g w h
-
 -- ---- the recovery channel
 
--- reports that came, at or below a place
+-- a message told a report of the owner's, at or below a place
+pub record Known (c : ℕ) (l : List Entry) (p : Partition) (place : ℕ) (m : List ℕ) : Type 0 where
+  pub report : NumberedReport
+  pub heard : heard_in m ≡ Ok (Report p report)
+  pub tells : Tells c l report
+  pub hers : is_of c (under l (number_of report)) ≡ true
+  pub passed : number_of report ≤ place
+
+-- so did all that came since the download began or was last answered
 abbrev pub Repeats : ℕ → List Entry → Partition → ℕ → List (List ℕ) → Type 0
 Repeats c l p place [] = Unit {0}
-Repeats c l p place (m ∷ ms) =
-    ((n : ℕ) × Brings c l p n m × (is_of c (under l n) ≡ true) × (n ≤ place)) × Repeats c l p place ms
+Repeats c l p place (m ∷ ms) = Known c l p place m × Repeats c l p place ms
 
-pub repeats_grown : (c : ℕ) (l l' : List Entry) (p : Partition) (k : ℕ) (ms : List (List ℕ)) → Grown l l'
-    → Repeats c l p k ms → Repeats c l' p k ms
-repeats_grown c l l' p k [] g h = tt
-repeats_grown c l l' p k (m ∷ ms) g ((n, b, t, le), h) = (
-  (n, brings_grown c l l' p n m g (there_within c l n t) b, hers_grown c l l' n g t, le),
-  repeats_grown c l l' p k
-      ms g h,
+pub repeats_on : (c : ℕ) (l l' : List Entry) (p : Partition) (k k' : ℕ) (ms : List (List ℕ)) → Grown l l' → k ≤ k'
+    → Repeats c l p k ms → Repeats c l' p k' ms
+repeats_on c l l' p k k' [] g q h = tt
+repeats_on c l l' p k k' (m ∷ ms) g q (u, h) = (
+  record {
+    report = u.report;
+    heard = u.heard;
+    tells = tells_grown c l l' u.report g (there_within c l (number_of u.report) u.hers) u.tells;
+    hers = hers_grown c l l' (number_of u.report) g u.hers;
+    passed = (let w = u.passed in omega (arith, w, q));
+  },
+  repeats_on c l l' p k k' ms g q h,
 )
 
 pub repeats_up : (c : ℕ) (l : List Entry) (p : Partition) (k k' : ℕ) (ms : List (List ℕ)) → k ≤ k' → Repeats c l p k ms
     → Repeats c l p k' ms
-repeats_up c l p k k' [] q h = tt
-repeats_up c l p k k' (m ∷ ms) q ((n, b, t, le), h) = ((n, b, t, omega (arith, le, q)), repeats_up c l p k k' ms q h)
+repeats_up c l p k k' ms q h = repeats_on c l l p k k' ms ([], sym (append-nil l)) q h
 
 -- what ends a download that is asked
 abbrev pub Refuses : Result Heard Fault → Type 0
@@ -139,7 +131,7 @@ staged_grown (Asked p) c k k' place b o x g (a, h) =
     (a, asked_grown c (at k p) (at k' p) p (at b p) (place p) o x (g p) h)
 staged_grown (Running p) c k k' place b o x g (a, r, z, le, h) = (
   a,
-  repeats_grown c (at k p) (at k' p) p (place p) x.again (g p) r,
+  repeats_on c (at k p) (at k' p) p (place p) (place p) x.again (g p) (omega arith) r,
   z,
   le,
   loads_grown c (at k p) (at k' p) p
@@ -241,35 +233,41 @@ staged_in Failed g c k place b o x e st = absurd cc
 abbrev pub Taking : Type 1
 Taking = Partition → ℕ → Type 0
 
--- what is under way live, and that it is behind all that was taken
-pub record Flowing (c : ℕ) (k : Kept) (sent : PerPartition ℕ) (place : Partition → ℕ) (x : Line) (t : Taking)
-    (y : PerPartition ℕ) : Type 0 where
-  pub within : (p : Partition) → at y p ≤ length (at k p)
-  pub flows : Flows c k sent y x.live
-  pub taken : (p : Partition) (n : ℕ) → t p n → n ≤ max (place p) (at y p)
+-- the marks of a partition: how far the line brought, and had brought at the up, is known to nobody
+abbrev pub marks_of : Kept → Session → Following → Line → PerPartition ℕ → PerPartition ℕ → Partition → Marks
+marks_of k s f x y b p = record {
+  stored = at k p;
+  side = at f.sides p;
+  sent = at s.sent p;
+  live = reports_of p x.live;
+  brought = at y p;
+  base = at b p;
+}
 
--- a connection that the follower is not up on yet
-pub record Ready (c : ℕ) (k : Kept) (s : Session) (place : Partition → ℕ) (x : Line) (t : Taking) : Type 0 where
-  pub y : PerPartition ℕ
-  pub flowing : Flowing c k s.sent place x t y
-  pub still : Channelled x.opening Idle c k place y (download s) x
+-- the number of the last report that was folded in a partition
+abbrev pub place_in : Following → Partition → ℕ
+place_in f p = (at f.sides p).place
 
--- one that it is up on
-pub record Up (c : ℕ) (k : Kept) (s : Session) (f : Following) (place : Partition → ℕ) (x : Line)
-    (t : Taking) : Type 0 where
+-- a connection whose Logon was accepted
+pub record Joined (c : ℕ) (k : Kept) (s : Session) (f : Following) (x : Line) (t : Taking) : Type 0 where
   pub y : PerPartition ℕ
-  -- the marks as they were at the up
   pub b : PerPartition ℕ
-  pub flowing : Flowing c k s.sent place x t y
-  pub bases : (p : Partition) → at b p ≤ length (at k p)
-  pub sides : (p : Partition) → Sided c (at k p) (at f.sides p) (at y p) (at b p)
-  pub staged : Channelled x.opening f.download c k place b (download s) x
+  pub parts : (p : Partition) → Whole c (marks_of k s f x y b p)
+  pub taken : (p : Partition) (n : ℕ) → t p n → n ≤ max (place_in f p) (at y p)
+  pub staged : Channelled x.opening f.download c k (place_in f) b (download s) x
 
 -- what holds while a connection is away, ready or up
-abbrev pub Phase : Connection → ℕ → Kept → Session → Following → (Partition → ℕ) → Line → Taking → Type 0
-Phase conn.Away c k s f place x t = Unit {0}
-Phase conn.Ready c k s f place x t = Ready c k s place x t
-Phase conn.Up c k s f place x t = Up c k s f place x t
+abbrev pub Phase : Connection → ℕ → Kept → Session → Following → Line → Taking → Type 0
+Phase conn.Away c k s f x t = Unit {0}
+Phase conn.Ready c k s f x t = Joined c k s f x t
+Phase conn.Up c k s f x t = Joined c k s f x t
+
+pub phase_on : (c : ℕ) (k k' : Kept) (s s' : Session) (f f' : Following) (x x' : Line) (t t' : Taking)
+    → (Joined c k s f x t → Joined c k' s' f' x' t') → (a : Connection) → Phase a c k s f x t
+    → Phase a c k' s' f' x' t'
+phase_on c k k' s s' f f' x x' t t' on conn.Away h = tt
+phase_on c k k' s s' f f' x x' t t' on conn.Ready h = on h
+phase_on c k k' s s' f f' x x' t t' on conn.Up h = on h
 
 pub record Keeps (c : ℕ) (s : State) (d : Desk) (x : Line) (t : Taking) : Type 0 where
   pub up : up_in x.connection ≡ d.follower.up
@@ -279,7 +277,7 @@ pub record Keeps (c : ℕ) (s : State) (d : Desk) (x : Line) (t : Taking) : Type
   pub hers : (p : Partition) (n : ℕ) → t p n → is_hers c s p n ≡ true
   pub sound : d.follower.up ≡ true → Sound s.venue
   pub few : d.follower.up ≡ true → length s.venue.rows ≤ ORDERS
-  pub phase : Phase x.connection c s.venue.kept (session s c) d.follower (place d) x t
+  pub phase : Phase x.connection c s.venue.kept (session s c) d.follower x t
 
 -- what was taken may be told in other words, and who keeps it does not hang on the token
 pub keeps_taken : (c : ℕ) (s : State) (d : Desk) (x : Line) (t t' : Taking) (token : Pending)
@@ -293,23 +291,7 @@ keeps_taken c s d x t t' token less k = record {
   hers = λ p n h. k.hers p n (less p n h);
   sound = k.sound;
   few = k.few;
-  phase = by x.connection k.phase;
+  phase = phase_on c s.venue.kept s.venue.kept (session s c) (session s c) d.follower d.follower x x t t'
+      (λ h. record { y = h.y; b = h.b; parts = h.parts; taken = λ p n i. h.taken p n (less p n i); staged = h.staged })
+      x.connection k.phase;
 }
-  where
-    flowing : (y : PerPartition ℕ) → Flowing c s.venue.kept (session s c).sent (place d) x t y
-        → Flowing c s.venue.kept (session s c).sent (place d) x t' y
-    flowing y h = record { within = h.within; flows = h.flows; taken = λ p n i. h.taken p n (less p n i) }
-
-    by : (a : Connection) → Phase a c s.venue.kept (session s c) d.follower (place d) x t
-        → Phase a c s.venue.kept (session s c) d.follower (place d) x t'
-    by conn.Away h = tt
-    by conn.Ready h = record { y = h.y; flowing = flowing h.y h.flowing; still = h.still }
-    by conn.Up h =
-        record {
-          y = h.y;
-          b = h.b;
-          flowing = flowing h.y h.flowing;
-          bases = h.bases;
-          sides = h.sides;
-          staged = h.staged;
-        }

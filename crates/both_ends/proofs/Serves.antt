@@ -11,12 +11,13 @@ use Rattle.codes.specs.declared.session.AckResponse.{AckResponse}
 use Rattle.codes.specs.declared.session.AckResponse.TheVariants.{Successful, LimitReached, InvalidAppId, ServiceUnavailable}
 use Rattle.codes.specs.declared.session.Partition.{Partition}
 use Rattle.codes.specs.declared.session.Partition.TheVariants.{One, Two, Three}
-use Rattle.both_ends.proofs.Carrying.{held, Brings, Flows, Ahead, Moves, Sent, Loads, flows_grown, flows_on, flows_more, loads_more, loads_end}
+use Rattle.both_ends.proofs.Carrying.{held, Tells, Sent, Loads, reports_of, Back, back, same_or_not, loads_part_of, loads_more, loads_end}
+use Rattle.both_ends.proofs.Marks.{Marks, Whole, SidedBy, stored_more, sent_past, sent_more}
 use Rattle.both_ends.proofs.Caught.{grows}
 use Rattle.both_ends.proofs.Flights.{Passed, Next, there_within, hers_grown, longer, hers_is}
-use Rattle.both_ends.proofs.Follows.{to_up, to_ready, to_away, next_is, same_ok, ok_err}
+use Rattle.both_ends.proofs.Follows.{next_is, same_ok, ok_err}
 use Rattle.both_ends.proofs.Heard.{report_heard, end_heard, ack_heard, reject_heard, logon_heard, nothing_heard}
-use Rattle.both_ends.proofs.Keeping.{Keeps, Phase, Ready, Up, Staged, Channelled, AskedAs, Waits, Refuses, Taking, Flowing, channelled_on, Refusing, opened, refusing_more, sided_grown, staged_grown, staged_cut, staged_live}
+use Rattle.both_ends.proofs.Keeping.{Keeps, Phase, Joined, marks_of, Staged, Channelled, AskedAs, Waits, Refuses, Taking, channelled_on, phase_on, Refusing, opened, refusing_more, staged_grown, staged_cut, staged_live}
 use Rattle.both_ends.proofs.Sendings.{SentBy, sends, HandedBy, hands}
 use Rattle.both_ends.specs.Agreement.{is_hers, place}
 use Rattle.both_ends.specs.Allowed.{Line, connected, accepted, next_of, after_logon, behind, answered, after_recovery, after_failure, given_recovery, is_failed_logon, is_grant, is_reject, left_reject}
@@ -25,8 +26,6 @@ use Rattle.both_ends.specs.declared.allowed.Breach.TheVariants.{StillUp, NotAske
 use Rattle.both_ends.specs.declared.opening.Opening.{Opening}
 use Rattle.both_ends.specs.declared.opening.Opening.TheVariants.{Awaited, Open, Failed}
 use Rattle.both_ends.specs.Connecting.{up_in}
-use Rattle.both_ends.specs.declared.connection.Connection.{Connection}
-use Rattle.both_ends.specs.declared.connection.Connection.TheVariants as conn
 use Rattle.gateway_runs.specs.declared.call.Reply.{Reply}
 use Rattle.gateway.specs.declared.fault.GatewayFault.{GatewayFault}
 use Rattle.gateway_runs.specs.Runs.{bytes_of, left}
@@ -35,6 +34,7 @@ use Rattle.follower.specs.Following.{Following}
 use Rattle.follower.specs.Hearing.{heard_in}
 use Rattle.follower.specs.declared.heard.Heard.{Heard}
 use Rattle.follower.specs.declared.heard.Heard.TheVariants.{Report, Ack, End, Reject, Nothing}
+use Rattle.follower.specs.declared.heard.NumberedReport.{NumberedReport}
 use Rattle.follower.specs.declared.stage.Stage.{Stage}
 use Rattle.follower.specs.declared.stage.Stage.TheVariants.{Idle, Asked, Running}
 use Rattle.gateway.specs.Calls.{entry_bytes, sent_bytes, recovered_bytes}
@@ -47,7 +47,7 @@ use Rattle.limits.specs.declared.TheConstants.{ORDERS}
 use Rattle.gateway_runs.proofs.Effects.{Stays, Closes, Opens, RealTimeDoes, Grants, RecoveryDoes, SendDoes, RecoverDoes}
 use Rattle.gateway_runs.proofs.Growing.{Grows}
 use Rattle.session_messages.specs.declared.missed_message_request.MissedMessageRequest.{MissedMessageRequest}
-use Rattle.partitions.specs.PerPartition.{at, with_at}
+use Rattle.partitions.specs.PerPartition.{at}
 use Rattle.partitions.specs.declared.per_partition.PerPartition.{PerPartition}
 use Rattle.reports.specs.Tally.{is_of}
 use Rattle.reports.specs.declared.report.Entry.{Entry}
@@ -70,12 +70,21 @@ behind_some ms [] h e = absurd (let (f, g) = nothing_heard in let z : Ok h ≡ E
 behind_some ms (b ∷ m) h e = refl
 
 -- the owner's report under a number is heard in its bytes
+pub record Brought (c : ℕ) (l : List Entry) (p : Partition) (n : ℕ) (m : List ℕ) : Type 0 where
+  pub entry : Entry
+  pub tells : Tells c l (held n entry)
+  pub heard : heard_in m ≡ Ok (Report p (held n entry))
+
 brought : (c : ℕ) (l : List Entry) (p : Partition) (n : ℕ) → is_of c (under l n) ≡ true → EntryTold p n (under l n)
-    → Brings c l p n (entry_bytes p n (under l n))
+    → Brought c l p n (entry_bytes p n (under l n))
 brought c l p n t told =
     let h = hers_is c l n t in
-    subst (λ (o : Option Entry). EntryTold p n o → Brings c l p n (entry_bytes p n o)) (sym h.stands)
-    (λ w. record { entry = h.entry; stands = h.stands; owner = h.owner; heard = report_heard p n h.entry.report w })
+    subst (λ (o : Option Entry). EntryTold p n o → Brought c l p n (entry_bytes p n o)) (sym h.stands)
+    (λ w. record {
+      entry = h.entry;
+      tells = record { entry = h.entry; stands = h.stands; owner = h.owner; told = refl };
+      heard = report_heard p n h.entry.report w;
+    })
     told
 
 -- ---- what does not depend on the call
@@ -105,7 +114,7 @@ module _ (c : ℕ) (s : State) (d : Desk) (x : Line) (t : Taking) (k : Keeps c s
       by (inl e) = inl e
       by (inr h) = inr (hers_grown c (at old p) (at new p) (place d p) (g p) h)
 
-  keeps_on : (x' : Line) → up_in x'.connection ≡ up_in x.connection → Phase x'.connection c new (session w c) f (place d) x' t → Keeps c w d x' t
+  keeps_on : (x' : Line) → up_in x'.connection ≡ up_in x.connection → Phase x'.connection c new (session w c) f x' t → Keeps c w d x' t
   keeps_on x' e ph = record {
     up = e ∙ k.up;
     quiet = k.quiet;
@@ -115,17 +124,6 @@ module _ (c : ℕ) (s : State) (d : Desk) (x : Line) (t : Taking) (k : Keeps c s
     sound = λ q. sound;
     few = λ q. few;
     phase = ph;
-  }
-
-  -- what is under way live stays
-  flowing_on : (sent' : PerPartition ℕ) (y : PerPartition ℕ) (x' : Line) → sent' ≡ (session s c).sent → x'.live
-      ≡ x.live → Flowing c old (session s c).sent (place d) x t y → Flowing c new sent' (place d) x' t y
-  flowing_on sent' y x' e l h = record {
-    within = λ p. let a = h.within p in let b = longer (at old p) (at new p) (g p) in omega (arith, a, b);
-    flows = subst (λ z. Flows c new z y x'.live) (sym e)
-        (subst (λ z. Flows c new (session s c).sent y z) (sym l)
-        (flows_grown c old new (session s c).sent y x.live g h.flows));
-    taken = h.taken;
   }
 
   abbrev Now : Stage → PerPartition ℕ → Type 0
@@ -143,53 +141,36 @@ module _ (c : ℕ) (s : State) (d : Desk) (x : Line) (t : Taking) (k : Keeps c s
       (download (session s c)) x x refl refl (λ e. e)
       (λ z. staged_grown a c old new (place d) b (download (session s c)) x g z) st
 
-  -- so does the rest, but for the recovery channel
-  up_on : (x' : Line) → (session w c).sent ≡ (session s c).sent → x'.live ≡ x.live → Carries x' → Up c old (session s c) f (place d) x t → Up c new (session w c) f (place d) x' t
-  up_on x' e l st u = record {
-    y = u.y;
-    b = u.b;
-    flowing = flowing_on (session w c).sent u.y x' e l u.flowing;
-    bases = λ p. let a = u.bases p in let b = longer (at old p) (at new p) (g p) in omega (arith, a, b);
-    sides = λ p. sided_grown c (at old p) (at new p) (at f.sides p) (at u.y p) (at u.b p) (g p) (u.flowing.within p)
-        (u.sides p);
-    staged = st f.download u.b u.bases (grown f.download u.b u.staged);
-  }
+  -- the marks, but for the store, as the call leaves them
+  abbrev Parts : Line → PerPartition ℕ → PerPartition ℕ → PerPartition ℕ → Type 0
+  Parts x' sent y b = (p : Partition) → Whole c (record (marks_of old (session s c) f x' y b p) { sent = at sent p })
 
-  ready_on : (x' : Line) → (session w c).sent ≡ (session s c).sent → x'.live ≡ x.live → Carries x' → Ready c old (session s c) (place d) x t
-      → Ready c new (session w c) (place d) x' t
-  ready_on x' e l st r = record {
-    y = r.y;
-    flowing = flowing_on
-        (session w c).sent r.y x' e l r.flowing;
-    still = st Idle r.y r.flowing.within (grown Idle r.y r.still);
-  }
-
-  -- by the phase, where the line goes on
-  goes_on : (x' : Line) → x'.connection ≡ x.connection
-      → (Ready c old (session s c) (place d) x t → Ready c new (session w c) (place d) x' t)
-      → (Up c old (session s c) f (place d) x t → Up c new (session w c) f (place d) x' t)
-      → Keeps c w d x' t
-  goes_on x' same on_ready on_up = keeps_on x' (ap up_in same) (by x.connection same k.phase)
+  -- by what it makes of them and of the recovery channel, where the line goes on
+  goes_on : (x' : Line) (sent' : PerPartition ℕ) → x'.connection ≡ x.connection → (session w c).sent ≡ sent'
+      → ((y b : PerPartition ℕ) → Parts x (session s c).sent y b → Parts x' sent' y b) → Carries x' → Keeps c w d x' t
+  goes_on x' sent' same es moved st = keeps_on x' (ap up_in same)
+      (subst (λ a. Phase a c new (session w c) f x' t) (sym same)
+      (phase_on c old new (session s c) (session w c) f f x x' t t on x.connection k.phase))
     where
-      by : (a : Connection) → x'.connection ≡ a → Phase a c old (session s c) f (place d) x t
-          → Phase x'.connection c new (session w c) f (place d) x' t
-      by conn.Away e z = to_away c new (session w c) f (place d) x' t x'.connection e
-      by conn.Ready e z = to_ready c new (session w c) f (place d) x' t x'.connection e (on_ready z)
-      by conn.Up e z = to_up c new (session w c) f (place d) x' t x'.connection e (on_up z)
+      on : Joined c old (session s c) f x t → Joined c new (session w c) f x' t
+      on u = record {
+        y = u.y;
+        b = u.b;
+        parts = λ p. subst (λ z. Whole c (record (marks_of new (session w c) f x' u.y u.b p) { sent = at z p })) (sym es)
+            (stored_more c (record (marks_of old (session s c) f x' u.y u.b p) { sent = at sent' p }) (at new p) (g p)
+            (moved u.y u.b u.parts p));
+        taken = u.taken;
+        staged = st f.download u.b (λ p. (u.parts p).based) (grown f.download u.b u.staged);
+      }
 
   -- the session stays, or its channels are closed
   pub quietly : Stays (session s c) (session w c) ⊎ Closes (session s c) (session w c) → Keeps c w d x t
-  quietly (inl (es, ed)) = goes_on x refl (ready_on x es refl on) (up_on x es refl on)
-    where
-      on : Carries x
-      on a b bases st = subst (λ o. Channelled x.opening a c new (place d) b o x) (sym ed) st
-  quietly (inr (es, ed)) = goes_on x refl (ready_on x es refl on) (up_on x es refl on)
-    where
-      on : Carries x
-      on a b bases st =
-          subst (λ o. Channelled x.opening a c new (place d) b o x) (sym ed)
-          (channelled_on x.opening a c new new (place d) (place d) b b (download (session s c)) None x x refl refl
-          (λ e. refl) (λ z. staged_cut a c new (place d) b (download (session s c)) x z) st)
+  quietly (inl (es, ed)) = goes_on x (session s c).sent refl es (λ y b h. h)
+      (λ a b bases st. subst (λ o. Channelled x.opening a c new (place d) b o x) (sym ed) st)
+  quietly (inr (es, ed)) = goes_on x (session s c).sent refl es (λ y b h. h) (λ a b bases st.
+      subst (λ o. Channelled x.opening a c new (place d) b o x) (sym ed)
+      (channelled_on x.opening a c new new (place d) (place d) b b (download (session s c)) None x x refl refl
+      (λ e. refl) (λ z. staged_cut a c new (place d) b (download (session s c)) x z) st))
 
   -- ---- a Logon is accepted
 
@@ -209,17 +190,27 @@ module _ (c : ℕ) (s : State) (d : Desk) (x : Line) (t : Taking) (k : Keeps c s
           let a = longer (at old p) (at new p) (g p) in let z : at (lasts old) p
           ≡ length (at old p) = last p in omega (arith, a, z)
 
-      ready : Ready c new (session w c) (place d) connected t
+      dn : f.up ≡ false
+      dn = sym k.up ∙ e
+
+      ready : Joined c new (session w c) f connected t
       ready = record {
         y = lasts old;
-        flowing = record {
-          within = none;
-          flows = λ p. subst (λ z. Ahead c (at new p) (at (lasts old) p) (at z p)) (sym es)
-              (record { from = omega arith; within = none p; passed = λ j lt le. absurd (omega (arith, lt, le)) });
-          taken = λ p n h. let a = there_within c (at old p) n (k.hers p n h) in let z : at (lasts old) p
-              ≡ length (at old p) = last p in omega (arith, a, z);
-        };
-        still = (tt, (refl, refl, ed), (refl, refl, refl, ed));
+        b = lasts old;
+        parts = λ p. subst (λ z. Whole c (record (marks_of new (session w c) f connected (lasts old) (lasts old) p) {
+          sent = at z p;
+        })) (sym es) (record {
+          within = none p;
+          ahead = none p;
+          based = none p;
+          run = λ j lt le. absurd (omega (arith, lt, le));
+          sided = subst (λ z. SidedBy z c (at new p) (place d p) (at (lasts old) p) (at (lasts old) p))
+              (sym (k.quiet.fallen dn p)) (λ j lt le. absurd (omega (arith, lt, le)));
+        });
+        taken = λ p n h. let a = there_within c (at old p) n (k.hers p n h) in let z : at (lasts old) p
+            ≡ length (at old p) = last p in omega (arith, a, z);
+        staged = subst (λ i. Channelled connected.opening i c new (place d) (lasts old) (download (session w c)) connected)
+            (sym (k.quiet.idle dn)) (tt, (refl, refl, ed), (refl, refl, refl, ed));
       }
 
   pub real_time : (bytes : List ℕ) → RealTimeDoes old bytes (session s c) (session w c) → (b : Bool)
@@ -237,78 +228,51 @@ module _ (c : ℕ) (s : State) (d : Desk) (x : Line) (t : Taking) (k : Keeps c s
       → Keeps c w d (record x { live = behind x.live bytes }) t
   sent_nothing bytes e h = subst (λ z. Keeps c w d (record x { live = behind x.live z }) t) (sym e) h
 
-  sent_within : (p : Partition) → (y : PerPartition ℕ) (ms : List (List ℕ)) → Flows c old (session s c).sent y ms
-      → at (session s c).sent p ≤ length (at old p)
-  sent_within p y [] h = (h p).within
-  sent_within p y (m ∷ ms) (q, n, b, nx, h) = sent_within p (with_at y q n) ms h
-
-  -- the marks moved on, and nothing was sent
-  marks_moved : (sent' y : PerPartition ℕ) → (session w c).sent ≡ sent'
-      → ((p : Partition) → Moves c (at old p) (at (session s c).sent p) (at sent' p))
-      → Flowing c old (session s c).sent (place d) x t y → Flowing c new (session w c).sent (place d) x t y
-  marks_moved sent' y e mv h = record {
-    within = λ p. let a = h.within p in let b = longer (at old p) (at new p) (g p) in omega (arith, a, b);
-    flows = subst (λ z. Flows c new z y x.live) (sym e)
-        (flows_grown c old new sent' y x.live g (flows_on c old (session s c).sent sent' y x.live mv h.flows));
-    taken = h.taken;
-  }
-
   -- a report was sent
-  report_sent : (sent' y : PerPartition ℕ) (q : Partition) (n : ℕ) (m : List ℕ) → (session w c).sent ≡ sent'
-      → Sent c old (session s c).sent sent' q n → Brings c (at old q) q n m
-      → Flowing c old (session s c).sent (place d) x t y
-      → Flowing c new (session w c).sent (place d) (record x { live = x.live ++ m ∷ [] }) t y
-  report_sent sent' y q n m e st b h = record {
-    within = λ p. let a = h.within p in let b' = longer (at old p) (at new p) (g p) in omega (arith, a, b');
-    flows = subst (λ z. Flows c new z y (x.live ++ m ∷ [])) (sym e)
-        (flows_grown c old new sent' y (x.live ++ m ∷ []) g
-        (flows_more c old (session s c).sent sent' y x.live q n m st b h.flows));
-    taken = h.taken;
-  }
+  report_sent : (sent' y b : PerPartition ℕ) (q : Partition) (n : ℕ) (m : List ℕ) (i : Entry)
+      → Sent c old (session s c).sent sent' q n → heard_in m ≡ Ok (Report q (held n i)) → Tells c (at old q) (held n i)
+      → Parts x (session s c).sent y b → Parts (record x { live = x.live ++ m ∷ [] }) sent' y b
+  report_sent sent' y b q n m i st hd tl h p = by (same_or_not q p)
+    where
+      to : Back q (held n i) x.live m
+      to = back q (held n i) x.live m hd
+
+      marks : Partition → List NumberedReport → ℕ → Marks
+      marks p hs n = record (marks_of old (session s c) f x y b p) { live = hs; sent = n }
+
+      here : Whole c (marks q (reports_of q (x.live ++ m ∷ [])) (at sent' q))
+      here =
+          subst (λ hs. Whole c (marks q hs (at sent' q))) (sym to.here)
+          (subst (λ z. Whole c (marks q (reports_of q x.live ++ held n i ∷ []) z)) (sym st.mark)
+          (sent_more c (marks_of old (session s c) f x y b q) (held n i) tl st.next (h q)))
+
+      by : (q ≡ p) ⊎ (q ≢ p) → Whole c (marks p (reports_of p (x.live ++ m ∷ [])) (at sent' p))
+      by (inl e) = subst (λ u. Whole c (marks u (reports_of u (x.live ++ m ∷ [])) (at sent' u))) e here
+      by (inr ne) =
+          let mv = st.others p ne in
+          subst (λ hs. Whole c (marks p hs (at sent' p))) (sym (to.others p ne))
+          (sent_past c (marks_of old (session s c) f x y b p) (at sent' p) mv.within mv.passed (h p))
 
   -- by what was sent, one thing under way live more or none
-  goes_live : (ms : List (List ℕ)) → download (session w c) ≡ download (session s c)
-      → ((y : PerPartition ℕ) → Flowing c old (session s c).sent (place d) x t y
-      → Flowing c new (session w c).sent (place d) (record x { live = ms }) t y)
+  goes_live : (ms : List (List ℕ)) (sent' : PerPartition ℕ) → (session w c).sent ≡ sent'
+      → download (session w c) ≡ download (session s c)
+      → ((y b : PerPartition ℕ) → Parts x (session s c).sent y b → Parts (record x { live = ms }) sent' y b)
       → Keeps c w d (record x { live = ms }) t
-  goes_live ms ed on = goes_on (record x { live = ms }) refl on_ready on_up
-    where
-      carry : Carries (record x { live = ms })
-      carry a b bases st =
-          subst (λ o. Channelled x.opening a c new (place d) b o (record x { live = ms })) (sym ed)
-          (channelled_on x.opening a c new new (place d) (place d) b b (download (session s c))
-          (download (session s c)) x (record x { live = ms }) refl refl (λ e. e)
-          (λ z. staged_live a c new (place d) b (download (session s c)) x ms z) st)
-
-      on_ready : Ready c old (session s c) (place d) x t
-          → Ready c new (session w c) (place d) (record x { live = ms }) t
-      on_ready r =
-          record {
-            y = r.y;
-            flowing = on r.y r.flowing;
-            still = carry Idle r.y r.flowing.within (grown Idle r.y r.still);
-          }
-
-      on_up : Up c old (session s c) f (place d) x t → Up c new (session w c) f (place d) (record x { live = ms }) t
-      on_up u = record {
-        y = u.y;
-        b = u.b;
-        flowing = on u.y u.flowing;
-        bases = λ p. let a = u.bases p in let b = longer (at old p) (at new p) (g p) in omega (arith, a, b);
-        sides = λ p. sided_grown c (at old p) (at new p) (at f.sides p) (at u.y p) (at u.b p) (g p)
-            (u.flowing.within p) (u.sides p);
-        staged = carry f.download u.b u.bases (grown f.download u.b u.staged);
-      }
+  goes_live ms sent' es ed moved = goes_on (record x { live = ms }) sent' refl es moved (λ a b bases st.
+      subst (λ o. Channelled x.opening a c new (place d) b o (record x { live = ms })) (sym ed)
+      (channelled_on x.opening a c new new (place d) (place d) b b (download (session s c))
+      (download (session s c)) x (record x { live = ms }) refl refl (λ e. e)
+      (λ z. staged_live a c new (place d) b (download (session s c)) x ms z) st))
 
   sends_by : (o : Option (Partition × ℕ)) (sent' : PerPartition ℕ) (bytes : List ℕ)
-      → ((y : PerPartition ℕ) → Flowing c old (session s c).sent (place d) x t y
-      → SentBy c old (session s c).sent sent' o)
+      → ((y b : PerPartition ℕ) → Parts x (session s c).sent y b → SentBy c old (session s c).sent sent' o)
       → bytes ≡ sent_bytes old o → (session w c).sent ≡ sent' → download (session w c) ≡ download (session s c)
       → SentTold old o
       → Keeps c w d (record x { live = behind x.live bytes }) t
   sends_by None sent' bytes by e es ed told =
       subst (λ z. Keeps c w d (record x { live = behind x.live z }) t) (sym e)
-      (goes_live x.live ed (λ y h. marks_moved sent' y es (by y h) h))
+      (goes_live x.live sent' es ed (λ y b h p. let mv = by y b h p in
+      sent_past c (marks_of old (session s c) f x y b p) (at sent' p) mv.within mv.passed (h p)))
   sends_by (Some (q, n)) sent' bytes by e es ed told =
       subst (λ z. Keeps c w d (record x { live = behind x.live z }) t) (sym e) (all (under (at old q) n) refl told)
     where
@@ -316,26 +280,25 @@ module _ (c : ℕ) (s : State) (d : Desk) (x : Line) (t : Taking) (k : Keeps c s
           → Keeps c w d (record x { live = behind x.live (entry_bytes q n (under (at old q) n)) }) t
       all None z tl =
           subst (λ (i : Option Entry). Keeps c w d (record x { live = behind x.live (entry_bytes q n i) }) t) (sym z)
-          (goes_live x.live ed (λ y h. absurd (none y h)))
+          (goes_live x.live sent' es ed (λ y b h. absurd (none y b h)))
         where
-          none : (y : PerPartition ℕ) → Flowing c old (session s c).sent (place d) x t y → ⊥
-          none y h =
-              let a = (by y h).next.hers in let b : is_of c None
+          none : (y b : PerPartition ℕ) → Parts x (session s c).sent y b → ⊥
+          none y b h =
+              let a = (by y b h).next.hers in let b : is_of c None
               ≡ true = subst (λ (i : Option Entry). is_of c i ≡ true) z a in cc
       all (Some i) z tl =
           let m = entry_bytes q n (under (at old q) n) in
           let hd : heard_in m ≡ Ok (Report q (held n i)) = ap
           (λ (j : Option Entry). heard_in (entry_bytes q n j)) z ∙ report_heard q n i.report tl in
           subst (λ ms. Keeps c w d (record x { live = ms }) t) (sym (behind_some x.live m (Report q (held n i)) hd))
-          (goes_live (x.live ++ m ∷ []) ed (λ y h. report_sent sent' y q n m es (by y h) (brings y h m hd) h))
+          (goes_live (x.live ++ m ∷ []) sent' es ed (λ y b h. report_sent sent' y b q n m i (by y b h) hd (tells y b h) h))
         where
-          brings : (y : PerPartition ℕ) → Flowing c old (session s c).sent (place d) x t y → (m : List ℕ) → heard_in m
-              ≡ Ok (Report q (held n i)) → Brings c (at old q) q n m
-          brings y h m hd = record {
+          tells : (y b : PerPartition ℕ) → Parts x (session s c).sent y b → Tells c (at old q) (held n i)
+          tells y b h = record {
             entry = i;
             stands = z;
-            owner = eqb-true i.owner c (subst (λ (j : Option Entry). is_of c j ≡ true) z (by y h).next.hers);
-            heard = hd;
+            owner = eqb-true i.owner c (subst (λ (j : Option Entry). is_of c j ≡ true) z (by y b h).next.hers);
+            told = refl;
           }
 
   pub sends_on : (room : ℕ) (bytes : List ℕ) → SendDoes s c room bytes (session w c) → SendTold room c s
@@ -343,7 +306,7 @@ module _ (c : ℕ) (s : State) (d : Desk) (x : Line) (t : Taking) (k : Keeps c s
   sends_on room bytes (inl (e, h)) told = sent_nothing bytes e (quietly (inl h))
   sends_on room bytes (inr (e, es, ed, fault)) told =
       sends_by (next_to_send old c (session s c).sent) (sent_after old c (session s c).sent) bytes
-      (λ y h. sends c old (session s c).sent (λ p. sent_within p y x.live h.flows)) e es ed (told fault)
+      (λ y b h. sends c old (session s c).sent (λ p. (h p).ahead)) e es ed (told fault)
 
   -- ---- the recovery channel
 
@@ -351,9 +314,7 @@ module _ (c : ℕ) (s : State) (d : Desk) (x : Line) (t : Taking) (k : Keeps c s
   goes_recovered : (rec ask : List (List ℕ)) → (session w c).sent ≡ (session s c).sent
       → Carries (record x { recovered = rec; asked = ask }) → Keeps c w d (record x { recovered = rec; asked = ask }) t
   goes_recovered rec ask es on =
-      goes_on (record x { recovered = rec; asked = ask }) refl
-      (ready_on (record x { recovered = rec; asked = ask }) es refl on)
-      (up_on (record x { recovered = rec; asked = ask }) es refl on)
+      goes_on (record x { recovered = rec; asked = ask }) (session s c).sent refl es (λ y b h. h) on
 
   no_asked : {X : Type 0} (m : List ℕ) (rest : List (List ℕ)) → x.asked ≡ m ∷ rest → x.asked ≡ [] → X
   no_asked m rest e h = absurd (let z : m ∷ rest ≡ [] = sym e ∙ h in cc)
@@ -449,16 +410,21 @@ module _ (c : ℕ) (s : State) (d : Desk) (x : Line) (t : Taking) (k : Keeps c s
               hd,
               z,
               le,
-              inr (
-                begun q i.last.value (length (at old q)),
-                ed,
-                record {
-                  partition = part;
-                  last = asks.1;
-                  covers = subst (λ y. b ≤ length (at old y)) (sym part) bases;
-                  within = subst (λ y. length (at old q) ≤ length (at new y)) part (longer (at old q) (at new q) (g q));
-                },
-              ),
+              record {
+                to = z;
+                within = (let a = place_within p in let b' = longer (at old p) (at new p) (g p) in omega (arith, a, b', le));
+                run = λ j lt q'. absurd (omega (arith, lt, q'));
+                delivery = inr (
+                  begun q i.last.value (length (at old q)),
+                  ed,
+                  record {
+                    partition = part;
+                    last = asks.1;
+                    covers = subst (λ y. b ≤ length (at old y)) (sym part) bases;
+                    within = subst (λ y. length (at old q) ≤ length (at new y)) part (longer (at old q) (at new q) (g q));
+                  },
+                );
+              },
             ))
           where
             partition_as : (p q : Partition) → partition_of (pos (partition_code p)) ≡ Some q → q ≡ p
@@ -530,13 +496,6 @@ module _ (c : ℕ) (s : State) (d : Desk) (x : Line) (t : Taking) (k : Keeps c s
 
   -- ---- what a download hands out
 
-  loads_of : (p : Partition) (b z : ℕ) (q : Download) (rec : List (List ℕ)) → Loads c (at new p) p b (Some q) z rec
-      → q.partition ≡ p
-  loads_of p b z q [] (inl e) = absurd cc
-  loads_of p b z q [] (inr (i, e, r)) = let same : q ≡ i = cc in ap (λ (u : Download). u.partition) same ∙ r.partition
-  loads_of p b z q (m ∷ rec) (inl (r, h, e1, e2, v)) = absurd cc
-  loads_of p b z q (m ∷ rec) (inr (n, h, nx, l)) = loads_of p b n q rec l
-
   -- the download that is under way goes on
   abbrev Loading : List (List ℕ) → Type 0
   Loading ms = (p : Partition) (b z : ℕ) (rec : List (List ℕ)) → Loads c (at new p) p b (download (session s c)) z rec
@@ -592,7 +551,7 @@ module _ (c : ℕ) (s : State) (d : Desk) (x : Line) (t : Taking) (k : Keeps c s
       ld : Loading (end_bytes r ∷ [])
       ld p b z rec l =
           let l' = subst (λ o. Loads c (at new p) p b o z rec) e l in
-          let part = loads_of p b z q rec l' in
+          let part = loads_part_of c (at new p) p b q z rec l' in
           subst (λ o. Loads c (at new p) p b o z (rec ++ end_bytes r ∷ [])) (sym ed)
           (loads_end c (at new p) p b q z rec r (end_bytes r)
           (λ y. subst (λ u. Passed c (at new u) q.last q.target) part (h y)) (end_heard r) l')
@@ -608,14 +567,16 @@ module _ (c : ℕ) (s : State) (d : Desk) (x : Line) (t : Taking) (k : Keeps c s
       none : download (session s c) ≡ None → ⊥
       none z = let y : Some q ≡ None = sym e ∙ z in cc
 
-      ld : Brings c (at new p) p n m → Loading (m ∷ [])
+      ld : Brought c (at new p) p n m → Loading (m ∷ [])
       ld b u y z rec l =
           let l' = subst (λ o. Loads c (at new u) u y o z rec) e l in
-          let part = loads_of u y z q rec l' in
+          let part = loads_part_of c (at new u) u y q z rec l' in
           let here : p ≡ u = is ∙ part in
+          let (hd, tl) = subst (λ v. (heard_in m ≡ Ok (Report v (held n b.entry))) × Tells c (at new v) (held n b.entry))
+          here (b.heard, b.tells) in
           subst (λ o. Loads c (at new u) u y o z (rec ++ m ∷ [])) (sym ed)
-          (loads_more c (at new u) u y q i z rec n m fu (subst (λ v. Next c (at new v) q.last n) part nx)
-          (subst (λ v. Brings c (at new v) v n m) here b) l')
+          (loads_more c (at new u) u y q i z rec m (held n b.entry) fu (subst (λ v. Next c (at new v) q.last n) part nx) hd
+          tl l')
 
   -- nothing runs, or a download
   hands_on : (o : Option Download) → download (session s c) ≡ o → (session w c).sent ≡ (session s c).sent
@@ -673,25 +634,15 @@ module _ (c : ℕ) (s : State) (d : Desk) (x : Line) (t : Taking) (k : Keeps c s
     hers = k.hers;
     sound = k.sound;
     few = k.few;
-    phase = by x.connection k.phase;
+    phase = phase_on c s.venue.kept s.venue.kept (session s c) (session s c) d.follower d.follower x
+        (record x { opening = o; recovered = rec }) t t (λ z. record {
+          y = z.y;
+          b = z.b;
+          parts = z.parts;
+          taken = z.taken;
+          staged = on d.follower.download z.b z.staged;
+        }) x.connection k.phase;
   }
-    where
-      flowing : (z : PerPartition ℕ) → Flowing c s.venue.kept (session s c).sent (place d) x t z
-          → Flowing c s.venue.kept (session s c).sent (place d) (record x { opening = o; recovered = rec }) t z
-      flowing z h = record { within = h.within; flows = h.flows; taken = h.taken }
-
-      by : (a : Connection) → Phase a c s.venue.kept (session s c) d.follower (place d) x t
-          → Phase a c s.venue.kept (session s c) d.follower (place d) (record x { opening = o; recovered = rec }) t
-      by conn.Away z = tt
-      by conn.Ready z = record { y = z.y; flowing = flowing z.y z.flowing; still = on Idle z.y z.still }
-      by conn.Up z = record {
-        y = z.y;
-        b = z.b;
-        flowing = flowing z.y z.flowing;
-        bases = z.bases;
-        sides = z.sides;
-        staged = on d.follower.download z.b z.staged;
-      }
 
   opens_channel : x.opening ≡ Awaited → Keeps c s d (record x { opening = Open }) t
   opens_channel i = reopened Open x.recovered (λ a b st. by a b x.opening i st)
