@@ -11,7 +11,7 @@ use Rattle.configuration.specs.declared.participant.Participant.{Participant}
 use Rattle.both_ends.proofs.Caught.{begins, shown}
 use Rattle.both_ends.proofs.Flights.{Passed}
 use Rattle.both_ends.proofs.Follows.{up_of, to_up, Went, same_ok, ok_err, given_live_keeps, given_recovered_keeps}
-use Rattle.both_ends.proofs.Keeping.{Keeps, Phase, Joined, marks_of, place_in, Still, Staged, Channelled, Taking, channelled_on, keeps_taken}
+use Rattle.both_ends.proofs.Keeping.{Keeps, Phase, Joined, marks_of, place_in, Still, Staged, Channelled, Taking, channelled_on, idle_where, keeps_taken}
 use Rattle.both_ends.proofs.Marks.{Whole, SidedBy, fallen_back}
 use Rattle.both_ends.proofs.Living.{tallied_as}
 use Rattle.both_ends.proofs.Refusals.{refused_stays}
@@ -29,7 +29,8 @@ use Rattle.both_ends.specs.declared.call.Done.{Done}
 use Rattle.both_ends.specs.declared.call.Done.TheVariants as done
 use Rattle.follower.proofs.Quiets.{up_quiet, stays_quiet}
 use Rattle.follower.specs.Asking.{request, ReadBack, is_free, asking_of, asking, partition_of, asks_of}
-use Rattle.follower.specs.Following.{Following, turned, live_step, recovered_step}
+use Rattle.follower.specs.Following.{Following, is_up, download_of, turned, live_step, recovered_step}
+use Rattle.follower.specs.Lines.{up_on, stage_on, turned_line}
 use Rattle.follower.specs.Hearing.{heard_in}
 use Rattle.follower.specs.Owing.{owed, token_after}
 use Rattle.follower.specs.Quiet.{Quiet}
@@ -40,6 +41,7 @@ use Rattle.follower.specs.declared.pending.Pending.TheVariants as pending
 use Rattle.wire.specs.declared.message.TheConstants.{BUFFER}
 use Rattle.follower.specs.declared.side.State.TheVariants.{Level, Behind}
 use Rattle.follower.specs.declared.stage.Stage.{Stage}
+use Rattle.follower.specs.declared.line.Line.TheVariants as line
 use Rattle.follower.specs.declared.stage.Stage.TheVariants as stage
 use Rattle.both_ends.specs.Connecting.{lost, up_in}
 use Rattle.both_ends.specs.declared.connection.Connection.{Connection}
@@ -161,6 +163,14 @@ module _ (c : ℕ) (s : State) (d : Desk) (x : Line) (t : Taking) (k : Keeps c s
 
 -- ---- up and lost
 
+turned_up : (up : Bool) → up_on (turned_line up) ≡ up
+turned_up true = refl
+turned_up false = refl
+
+turned_stage : (up : Bool) → stage_on (turned_line up) ≡ stage.Idle
+turned_stage true = refl
+turned_stage false = refl
+
 turned_place : (up : Bool) (f : Following) (p : Partition) → place_in (turned up f) p ≡ place_in f p
 turned_place up f One = refl
 turned_place up f Two = refl
@@ -172,7 +182,7 @@ module _ (c : ℕ) (s : State) (d : Desk) (x : Line) (t : Taking) (k : Keeps c s
   turned_desk up = record { follower = turned up d.follower; token = pending.Idle }
 
   -- the marks as they are then, of a connection that the follower is not up on yet
-  turned_joined : (up : Bool) (a : Connection) → d.follower.up ≡ false → Joined c s.venue.kept (session s c) d.follower x t
+  turned_joined : (up : Bool) (a : Connection) → is_up d.follower ≡ false → Joined c s.venue.kept (session s c) d.follower x t
       → Joined c s.venue.kept (session s c) (turned up d.follower) (record x { connection = a }) t
   turned_joined up a dn z = record {
     y = z.y;
@@ -180,10 +190,12 @@ module _ (c : ℕ) (s : State) (d : Desk) (x : Line) (t : Taking) (k : Keeps c s
     parts = parts;
     taken = λ p n i. let v = z.taken p n i in let e : place_in (turned up d.follower) p
         ≡ place d p = turned_place up d.follower p in omega (arith, v, e);
-    staged = channelled_on x.opening stage.Idle c s.venue.kept s.venue.kept (place d) (place_in (turned up d.follower)) z.b
+    staged = subst (λ g. Channelled x.opening g c s.venue.kept (place_in (turned up d.follower)) z.y
+        (download (session s c)) (record x { connection = a })) (sym (turned_stage up))
+        (channelled_on x.opening stage.Idle c s.venue.kept s.venue.kept (place d) (place_in (turned up d.follower)) z.b
         z.y (download (session s c)) (download (session s c)) x (record x { connection = a }) refl refl (λ e. e) (λ i. i)
-        (subst (λ g. Channelled x.opening g c s.venue.kept (place d) z.b (download (session s c)) x) (k.quiet.idle dn)
-        z.staged);
+        (subst (λ g. Channelled x.opening g c s.venue.kept (place d) z.b (download (session s c)) x)
+        (idle_where d.follower.line dn) z.staged));
   }
     where
       parts : (p : Partition) → Whole c (marks_of s.venue.kept (session s c) (turned up d.follower) x z.y z.y p)
@@ -195,7 +207,7 @@ module _ (c : ℕ) (s : State) (d : Desk) (x : Line) (t : Taking) (k : Keeps c s
       → Phase x'.connection c s.venue.kept (session s c) (turned up d.follower) x' t
       → Keeps c s (turned_desk up) x' t
   turned_keeps up x' e ph = record {
-    up = e;
+    up = e ∙ sym (turned_up up);
     quiet = stays_quiet.turns d.follower up;
     placed = λ p. subst (λ z. (z ≡ 0) ⊎ (is_hers c s p z ≡ true)) (sym (turned_place up d.follower p)) (k.placed p);
     known = tallied_as c s.venue.kept d.follower.standings (place d) (place_in (turned up d.follower))
@@ -242,12 +254,12 @@ module _ (c : ℕ) (s : State) (d : Desk) (x : Line) (t : Taking) (k : Keeps c s
   -- ---- a request
 
   abbrev asked_desk : Partition → Pending → Desk
-  asked_desk p token = record { follower = record d.follower { download = stage.Asked p }; token = token }
+  asked_desk p token = record { follower = record d.follower { line = line.Up (stage.Asked p) }; token = token }
 
   -- a request is asked only of a follower that is up and has asked nothing
   pub record Free (p : Partition) : Type 0 where
-    pub up : d.follower.up ≡ true
-    pub idle : d.follower.download ≡ stage.Idle
+    pub up : is_up d.follower ≡ true
+    pub idle : download_of d.follower ≡ stage.Idle
 
   free_of : (b : List ℕ) (n : ℕ) (p : Partition) → asking d.follower d.token n (length b) ≡ Ok p → Free p
   free_of b n p e = by (nat_lt (length b) BUFFER) e
@@ -257,24 +269,24 @@ module _ (c : ℕ) (s : State) (d : Desk) (x : Line) (t : Taking) (k : Keeps c s
       idle_of (stage.Asked q) o h = absurd cc
       idle_of (stage.Running q) o h = absurd cc
 
-      by_free : (b : Bool) (q : Partition) → is_free d.follower.download (owed d.token) ≡ b
-          → cond b (Ok q) (Err OutOfTurn) ≡ Ok p → d.follower.download ≡ stage.Idle
-      by_free true q h z = idle_of d.follower.download (owed d.token) h
+      by_free : (b : Bool) (q : Partition) → is_free (download_of d.follower) (owed d.token) ≡ b
+          → cond b (Ok q) (Err OutOfTurn) ≡ Ok p → download_of d.follower ≡ stage.Idle
+      by_free true q h z = idle_of (download_of d.follower) (owed d.token) h
       by_free false q h z = absurd cc
 
-      by_partition : (o : Option Partition) → asking_of d.follower d.token o ≡ Ok p → d.follower.download ≡ stage.Idle
+      by_partition : (o : Option Partition) → asking_of d.follower d.token o ≡ Ok p → download_of d.follower ≡ stage.Idle
       by_partition None z = absurd cc
-      by_partition (Some q) z = by_free (is_free d.follower.download (owed d.token)) q refl z
+      by_partition (Some q) z = by_free (is_free (download_of d.follower) (owed d.token)) q refl z
 
-      by_up : (u : Bool) → d.follower.up ≡ u → cond u (asking_of d.follower d.token (partition_of n)) (Err NotUp)
+      by_up : (u : Bool) → is_up d.follower ≡ u → cond u (asking_of d.follower d.token (partition_of n)) (Err NotUp)
           ≡ Ok p → Free p
       by_up true q z = record { up = q; idle = by_partition (partition_of n) z }
       by_up false q z = absurd cc
 
-      by : (b : Bool) → cond b (Err Buffer) (cond d.follower.up (asking_of d.follower d.token (partition_of n))
+      by : (b : Bool) → cond b (Err Buffer) (cond (is_up d.follower) (asking_of d.follower d.token (partition_of n))
           (Err NotUp)) ≡ Ok p → Free p
       by true z = absurd cc
-      by false z = by_up d.follower.up refl z
+      by false z = by_up (is_up d.follower) refl z
 
   asked_for : (b : List ℕ) (n : ℕ) (p : Partition) → asking d.follower d.token n (length b) ≡ Ok p
       → ReadBack p (at d.follower.sides p).place → (token : Pending) → (m : List ℕ) → m
@@ -286,7 +298,7 @@ module _ (c : ℕ) (s : State) (d : Desk) (x : Line) (t : Taking) (k : Keeps c s
       let st = subst
       (λ g. Channelled x.opening g c s.venue.kept (place d) u.b (download (session s c)) x) fr.idle u.staged in
       record {
-        up = k.up;
+        up = k.up ∙ fr.up;
         quiet = quiet fr.up;
         placed = k.placed;
         known = k.known;
@@ -317,8 +329,8 @@ module _ (c : ℕ) (s : State) (d : Desk) (x : Line) (t : Taking) (k : Keeps c s
       asks Open b st = waits b st
       asks Failed b (n, r, ag, e) = (tt, r, ag, e)
 
-      quiet : d.follower.up ≡ true → Quiet (asked_desk p token).follower
-      quiet up = up_quiet (asked_desk p token).follower up
+      quiet : is_up d.follower ≡ true → Quiet (asked_desk p token).follower
+      quiet up = up_quiet (asked_desk p token).follower refl
 
   pub ask_keeps : (n : ℕ) (r : Asked) (e : Desk) → r.answer
       ≡ (asks_of d.follower d.token r.before.items (asking d.follower d.token n (length r.before.items))).answer → r.after.items
@@ -484,10 +496,10 @@ begun c ps v = record {
 -- ---- the end
 
 -- a follower that is level somewhere is up
-level_up : (d : Desk) (p : Partition) → Quiet d.follower → state_of d p ≡ Level → d.follower.up ≡ true
-level_up d p q l = by d.follower.up refl
+level_up : (d : Desk) (p : Partition) → Quiet d.follower → state_of d p ≡ Level → is_up d.follower ≡ true
+level_up d p q l = by (is_up d.follower) refl
   where
-    by : (b : Bool) → d.follower.up ≡ b → d.follower.up ≡ true
+    by : (b : Bool) → is_up d.follower ≡ b → is_up d.follower ≡ true
     by true e = e
     by false e = absurd (let z : Level ≡ Behind [] = sym l ∙ q.fallen e p in cc)
 

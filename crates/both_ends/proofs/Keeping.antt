@@ -1,5 +1,5 @@
 -- What holds of both ends and of the line between them after every call that the line allows. Assumes nothing.
-use Rattle.std.proofs.Common.{◌≡◌, ◌⊎◌, inl, inr, ℕ, ◌≤◌, max, true, List, [], ◌∷◌, ◌++◌, append-nil, None, Ok, Err, Option, Result, length, refl, sym, ◌∙◌, subst, arith}
+use Rattle.std.proofs.Common.{◌≡◌, ◌⊎◌, inl, inr, ℕ, ◌≤◌, max, true, false, List, [], ◌∷◌, ◌++◌, append-nil, None, Ok, Err, Option, Result, length, refl, sym, ◌∙◌, subst, arith}
 use Rattle.codes.specs.declared.session.AckResponse.TheVariants.{Successful, LimitReached, InvalidAppId, ServiceUnavailable}
 use Rattle.codes.specs.declared.session.Partition.{Partition}
 use Rattle.both_ends.proofs.Carrying.{Tells, Loads, reports_of, tells_grown, loads_grown, loads_cut}
@@ -15,7 +15,7 @@ use Rattle.both_ends.specs.declared.opening.Opening.TheVariants.{Awaited, Open, 
 use Rattle.both_ends.specs.Runs.{Desk}
 use Rattle.both_ends.specs.Tallied.{Tallied}
 use Rattle.follower.specs.Asking.{request, ReadBack}
-use Rattle.follower.specs.Following.{Following}
+use Rattle.follower.specs.Following.{Following, is_up, download_of}
 use Rattle.follower.specs.Hearing.{heard_in}
 use Rattle.follower.specs.Numbers.{number_of}
 use Rattle.follower.specs.Quiet.{Quiet}
@@ -23,6 +23,9 @@ use Rattle.follower.specs.declared.heard.Heard.{Heard}
 use Rattle.follower.specs.declared.heard.Heard.TheVariants.{Report, Ack, End, Reject, Nothing}
 use Rattle.follower.specs.declared.heard.NumberedReport.{NumberedReport}
 use Rattle.follower.specs.declared.pending.Pending.{Pending}
+use Rattle.follower.specs.Lines.{up_on, stage_on}
+use Rattle.follower.specs.declared.line.Line.{Line as Connected}
+use Rattle.follower.specs.declared.line.Line.TheVariants as line
 use Rattle.follower.specs.declared.stage.Stage.{Stage}
 use Rattle.follower.specs.declared.stage.Stage.TheVariants.{Idle, Asked, Running}
 use Rattle.gateway.specs.State.{State, session}
@@ -233,6 +236,13 @@ staged_in Failed g c k place b o x e st = absurd cc
 abbrev pub Taking : Type 1
 Taking = Partition → ℕ → Type 0
 
+-- one number more was taken, in one partition
+abbrev pub Only : Partition → ℕ → Taking → Type 0
+Only p n t = (q : Partition) (i : ℕ) → t q i → (p ≡ q) × (n ≡ i)
+
+abbrev pub or_one : Taking → Taking → Taking
+or_one t u q i = t q i ⊎ u q i
+
 -- the marks of a partition: how far the line brought, and had brought at the up, is known to nobody
 abbrev pub marks_of : Kept → Session → Following → Line → PerPartition ℕ → PerPartition ℕ → Partition → Marks
 marks_of k s f x y b p = record {
@@ -254,7 +264,7 @@ pub record Joined (c : ℕ) (k : Kept) (s : Session) (f : Following) (x : Line) 
   pub b : PerPartition ℕ
   pub parts : (p : Partition) → Whole c (marks_of k s f x y b p)
   pub taken : (p : Partition) (n : ℕ) → t p n → n ≤ max (place_in f p) (at y p)
-  pub staged : Channelled x.opening f.download c k (place_in f) b (download s) x
+  pub staged : Channelled x.opening (download_of f) c k (place_in f) b (download s) x
 
 -- what holds while a connection is away, ready or up
 abbrev pub Phase : Connection → ℕ → Kept → Session → Following → Line → Taking → Type 0
@@ -269,14 +279,23 @@ phase_on c k k' s s' f f' x x' t t' on conn.Away h = tt
 phase_on c k k' s s' f f' x x' t t' on conn.Ready h = on h
 phase_on c k k' s s' f f' x x' t t' on conn.Up h = on h
 
+-- by type, a follower that is not up has no download, and one that is has the one that it says
+pub idle_where : (l : Connected) → up_on l ≡ false → stage_on l ≡ Idle
+idle_where line.Away e = refl
+idle_where (line.Up g) e = absurd cc
+
+pub line_is : (l : Connected) → up_on l ≡ true → l ≡ line.Up (stage_on l)
+line_is line.Away e = absurd cc
+line_is (line.Up g) e = refl
+
 pub record Keeps (c : ℕ) (s : State) (d : Desk) (x : Line) (t : Taking) : Type 0 where
-  pub up : up_in x.connection ≡ d.follower.up
+  pub up : up_in x.connection ≡ is_up d.follower
   pub quiet : Quiet d.follower
   pub placed : (p : Partition) → (place d p ≡ 0) ⊎ (is_hers c s p (place d p) ≡ true)
   pub known : Tallied c s.venue.kept d.follower.standings (place d)
   pub hers : (p : Partition) (n : ℕ) → t p n → is_hers c s p n ≡ true
-  pub sound : d.follower.up ≡ true → Sound s.venue
-  pub few : d.follower.up ≡ true → length s.venue.rows ≤ ORDERS
+  pub sound : is_up d.follower ≡ true → Sound s.venue
+  pub few : is_up d.follower ≡ true → length s.venue.rows ≤ ORDERS
   pub phase : Phase x.connection c s.venue.kept (session s c) d.follower x t
 
 -- what was taken may be told in other words, and who keeps it does not hang on the token

@@ -16,7 +16,7 @@ use Rattle.both_ends.specs.declared.call.Done.{Done}
 use Rattle.both_ends.specs.declared.call.Done.TheVariants as done
 use Rattle.follower.specs.Asking.{asks, asks_of, asking}
 use Rattle.follower.specs.Folding.{Reached, reached, caught_up}
-use Rattle.follower.specs.Following.{Following, Step, turned, answered, folded, folded_to, held, overrun, live_by, lived, acked, acked_of, recovered_of, reported, levelled, ended, ended_of, rejected, recovering, live_step, recovered_step, refused}
+use Rattle.follower.specs.Following.{Following, is_up, download_of, Step, turned, answered, folded, folded_to, held, overrun, live_by, lived, acked, acked_of, recovered_of, reported, levelled, ended, ended_of, rejected, recovering, live_step, recovered_step, refused}
 use Rattle.follower.specs.Hearing.{heard_in}
 use Rattle.follower.specs.Numbers.{number_of}
 use Rattle.follower.specs.Sides.{is_level, held_in}
@@ -113,14 +113,14 @@ module _ (p : Partition) where
 
   live_so : (f : Following) (h : Result Heard Fault) → Lives p f (live_step f h)
   live_so f (Err e) = inl refl
-  live_so f (Ok h) = if_up f.up f h
+  live_so f (Ok h) = if_up (is_up f) f h
 
 -- ---- the recovery channel
 
 -- the complete end of its download makes a partition level
 record Levelled (p : Partition) (f : Following) (h : Heard) (a : Step Recovered) : Type 0 where
   pub complete : h ≡ End ending.Complete
-  pub runs : f.download ≡ Running p
+  pub runs : download_of f ≡ Running p
   pub ends : a.answer ≡ Ok recovered.Ended
   pub level : state_in a.after p ≡ Level
 
@@ -149,7 +149,7 @@ module _ (p : Partition) where
       (either {A = Recovered} p f (nat_le (number_of h) (at f.sides q).place) (answered recovered.Already f)
       (folded recovered.Folded f q h) refl (folded_same p recovered.Folded f q (number_of h) _)) refl
 
-  levelled_so : (f : Following) (q : Partition) (r : Result Reached FoldRefusal) → f.download ≡ Running q
+  levelled_so : (f : Following) (q : Partition) (r : Result Reached FoldRefusal) → download_of f ≡ Running q
       → Recovers p f (End ending.Complete) (levelled f q r)
   levelled_so f q (Err e) d = inl refl
   levelled_so f q (Ok r) d = by
@@ -161,14 +161,14 @@ module _ (p : Partition) where
       by (inl e) = inl e
       by (inr (e, l)) = inr (record { complete = refl; runs = d ∙ ap Running e; ends = refl; level = l })
 
-  ended_so : (f : Following) (q : Partition) (r : ReportResponse) → f.download ≡ Running q
+  ended_so : (f : Following) (q : Partition) (r : ReportResponse) → download_of f ≡ Running q
       → Recovers p f (End r) (ended_of f q r)
   ended_so f q ending.Complete d =
       levelled_so f q (caught_up q (reached f.standings (at f.sides q).place) (held_in (state_in f q))) d
   ended_so f q ending.MessageLimit d = inl refl
   ended_so f q ending.ServiceUnavailable d = inl refl
 
-  end_so : (f : Following) (s : Stage) (r : ReportResponse) → f.download ≡ s → Recovers p f (End r) (ended f s r)
+  end_so : (f : Following) (s : Stage) (r : ReportResponse) → download_of f ≡ s → Recovers p f (End r) (ended f s r)
   end_so f Idle r d = inl refl
   end_so f (Asked q) r d = inl refl
   end_so f (Running q) r d = ended_so f q r d
@@ -179,10 +179,10 @@ module _ (p : Partition) where
   rejected_same f (Running q) = refl
 
   recovering_so : (f : Following) (h : Heard) → Recovers p f h (recovering f h)
-  recovering_so f (Report q h) = inl (reported_same f f.download q h)
-  recovering_so f (Ack r) = inl (ack_same f f.download r)
-  recovering_so f (End r) = end_so f f.download r refl
-  recovering_so f Reject = inl (rejected_same f f.download)
+  recovering_so f (Report q h) = inl (reported_same f (download_of f) q h)
+  recovering_so f (Ack r) = inl (ack_same f (download_of f) r)
+  recovering_so f (End r) = end_so f (download_of f) r refl
+  recovering_so f Reject = inl (rejected_same f (download_of f))
   recovering_so f Nothing = inl refl
 
   if_recovering : (b : Bool) (f : Following) (h : Heard)
@@ -193,7 +193,7 @@ module _ (p : Partition) where
   recovered_so : (f : Following) (r : Result Heard Fault)
       → Same p f (recovered_step f r).after ⊎ ((h : Heard) × (r ≡ Ok h) × Levelled p f h (recovered_step f r))
   recovered_so f (Err e) = inl refl
-  recovered_so f (Ok h) = elim (if_recovering f.up f h) [ inl e ↦ inl e | inr l ↦ inr (h, refl, l) ]
+  recovered_so f (Ok h) = elim (if_recovering (is_up f) f h) [ inl e ↦ inl e | inr l ↦ inr (h, refl, l) ]
 
 -- asking leaves the partitions
 asked_sides : (f : Following) (t : Pending) (out : List ℕ) (r : Result Partition FollowerFault)

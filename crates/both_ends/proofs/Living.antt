@@ -10,11 +10,11 @@ use Rattle.both_ends.proofs.Marks.{Whole, folded_to, comes_next, passed_by, held
 use Rattle.both_ends.proofs.Caught.{Folded, folds}
 use Rattle.both_ends.proofs.Flights.{Passed, Next}
 use Rattle.follower.specs.Numbers.{number_of}
-use Rattle.both_ends.proofs.Keeping.{Taking, Joined, marks_of, place_in, channelled_on, staged_up, staged_live}
+use Rattle.both_ends.proofs.Keeping.{Taking, Only, or_one, Joined, marks_of, place_in, channelled_on, staged_up, staged_live}
 use Rattle.both_ends.specs.Allowed.{Line}
 use Rattle.both_ends.specs.Tallied.{there, Tallied}
 use Rattle.follower.specs.Folding.{Reached, reached, moved, caught_one, caught_next}
-use Rattle.follower.specs.Following.{Following}
+use Rattle.follower.specs.Following.{Following, download_of}
 use Rattle.follower.specs.declared.heard.NumberedReport.{NumberedReport}
 use Rattle.follower.specs.declared.side.Side.{Side}
 use Rattle.follower.specs.declared.side.State.TheVariants.{Behind}
@@ -84,6 +84,34 @@ module _ (c : ℕ) (v : Books) (sound : Sound v) (few : length v.rows ≤ ORDERS
         placed = or_as_it_was P f.sides p (to_place f p n) (inr x.hers) pl;
       }
 
+-- ---- a report comes: the marks and the hold that it moves
+
+-- what the line brought of its partition moves to it
+abbrev pub popped : PerPartition ℕ → Partition → NumberedReport → PerPartition ℕ
+popped y p h = with_at y p (max (at y p) (number_of h))
+
+pub taken_popped : (place : Partition → ℕ) (t u : Taking) (y : PerPartition ℕ) (p : Partition) (h : NumberedReport)
+    → Only p (number_of h) u → ((q : Partition) (i : ℕ) → t q i → i ≤ max (place q) (at y q)) → (q : Partition) (i : ℕ)
+    → or_one t u q i → i ≤ max (place q) (at (popped y p h) q)
+taken_popped place t u y p h only was q i (inl a) =
+    let v = was q i a in
+    let g = or_as_it_was (λ r z. at y r ≤ z) y p (max (at y p) (number_of h)) (omega arith) (λ r. omega arith) q in
+    omega (arith, v, g)
+taken_popped place t u y p h only was q i (inr a) =
+    let (e, z) = only q i a in
+    subst (λ r. i ≤ max (place r) (at (popped y p h) r)) e
+    (let v : at (popped y p h) p ≡ max (at y p) (number_of h) = at_written y p (max (at y p) (number_of h)) in omega
+    (arith, v, z))
+
+-- its hold is another
+abbrev pub with_hold : Following → Partition → List NumberedReport → Following
+with_hold f p hs = record f { sides = with_at f.sides p (record (at f.sides p) { state = Behind hs }) }
+
+pub hold_places : (f : Following) (p : Partition) (hs : List NumberedReport) (q : Partition) → place_in (with_hold f p hs) q
+    ≡ place_in f q
+hold_places f p hs =
+    or_as_it_was (λ q y. y.place ≡ place_in f q) f.sides p (record (at f.sides p) { state = Behind hs }) refl (λ q. refl)
+
 -- ---- a fold moves nothing else
 
 module _ (c : ℕ) (k : Kept) (s : Session) where
@@ -101,40 +129,16 @@ module _ (c : ℕ) (k : Kept) (s : Session) where
         parts = or_as_it_was (λ q z. Whole c (record (marks_of k s f x u.y u.b q) { side = z })) f.sides p (to_place f p n)
             (folded_to c (marks_of k s f x u.y u.b p) n le (u.parts p)) u.parts;
         taken = λ q i h. let a = u.taken q i h in let z = up q in omega (arith, a, z);
-        staged = channelled_on x.opening f.download c k k (place_in f) (place_in (after_fold f p n w)) u.b u.b (download s)
+        staged = channelled_on x.opening (download_of f) c k k (place_in f) (place_in (after_fold f p n w)) u.b u.b (download s)
             (download s) x x refl refl (λ e. e)
-            (λ st. staged_up f.download c k (place_in f) (place_in (after_fold f p n w)) u.b (download s) x up st)
+            (λ st. staged_up (download_of f) c k (place_in f) (place_in (after_fold f p n w)) u.b (download s) x up st)
             u.staged;
       }
 
   -- ---- the next report under way comes
 
-  -- one number more was taken, in one partition
-  abbrev pub Only : Partition → ℕ → Taking → Type 0
-  Only p n t = (q : Partition) (i : ℕ) → t q i → (p ≡ q) × (n ≡ i)
-
-  abbrev pub or_one : Taking → Taking → Taking
-  or_one t u q i = t q i ⊎ u q i
-
-  -- what the line brought of its partition moves to it
-  abbrev pub popped : PerPartition ℕ → Partition → NumberedReport → PerPartition ℕ
-  popped y p h = with_at y p (max (at y p) (number_of h))
-
-  pub taken_popped : (place : Partition → ℕ) (t u : Taking) (y : PerPartition ℕ) (p : Partition) (h : NumberedReport)
-      → Only p (number_of h) u → ((q : Partition) (i : ℕ) → t q i → i ≤ max (place q) (at y q)) → (q : Partition) (i : ℕ)
-      → or_one t u q i → i ≤ max (place q) (at (popped y p h) q)
-  taken_popped place t u y p h only was q i (inl a) =
-      let v = was q i a in
-      let g = or_as_it_was (λ r z. at y r ≤ z) y p (max (at y p) (number_of h)) (omega arith) (λ r. omega arith) q in
-      omega (arith, v, g)
-  taken_popped place t u y p h only was q i (inr a) =
-      let (e, z) = only q i a in
-      subst (λ r. i ≤ max (place r) (at (popped y p h) r)) e
-      (let v : at (popped y p h) p ≡ max (at y p) (number_of h) = at_written y p (max (at y p) (number_of h)) in omega
-      (arith, v, z))
-
-  module _ (f : Following) (x : Line) (rest : List (List ℕ)) (t u : Taking) (p : Partition) (h : NumberedReport)
-      (a : Joined c k s f x t) (fr : Front p h x.live rest) (only : Only p (number_of h) u) where
+  module _ (f : Following) (x : Line) (rest : List (List ℕ)) (t : Taking) (p : Partition) (h : NumberedReport)
+      (a : Joined c k s f x t) (fr : Front p h x.live rest) where
     -- the marks of a partition, but for what is under way
     pub with_live : (q : Partition) (hs : List NumberedReport) → reports_of q x.live ≡ hs
         → Whole c (record (marks_of k s f x a.y a.b q) { live = hs })
@@ -148,8 +152,9 @@ module _ (c : ℕ) (k : Kept) (s : Session) where
     is_next = comes_next c (marks_of k s f x a.y a.b p) h (reports_of p rest) in_front
 
     -- the place has reached it
-    pub joined_passed : number_of h ≤ place_in f p → Joined c k s f (record x { live = rest }) (or_one t u)
-    joined_passed le = record {
+    pub joined_passed : (u : Taking) → Only p (number_of h) u → number_of h ≤ place_in f p
+        → Joined c k s f (record x { live = rest }) (or_one t u)
+    joined_passed u only le = record {
       y = popped a.y p h;
       b = a.b;
       parts = by_partition (λ q z. Whole c (record (marks_of k s f (record x { live = rest }) a.y a.b q) { brought = z }))
@@ -157,29 +162,21 @@ module _ (c : ℕ) (k : Kept) (s : Session) where
           (passed_by c (marks_of k s f x a.y a.b p) h (reports_of p rest) in_front le)
           (λ q ne. with_live q (reports_of q rest) (fr.others q ne));
       taken = taken_popped (place_in f) t u a.y p h only a.taken;
-      staged = channelled_on x.opening f.download c k k (place_in f) (place_in f) a.b a.b (download s) (download s) x
+      staged = channelled_on x.opening (download_of f) c k k (place_in f) (place_in f) a.b a.b (download s) (download s) x
           (record x { live = rest }) refl refl (λ e. e)
-          (λ st. staged_live f.download c k (place_in f) a.b (download s) x rest st) a.staged;
+          (λ st. staged_live (download_of f) c k (place_in f) a.b (download s) x rest st) a.staged;
     }
 
     other_mark : (n : ℕ) (q : Partition) → p ≢ q → at (with_at a.y p n) q ≡ at a.y q
     other_mark n = by_partition (λ q z. p ≢ q → z ≡ at a.y q) a.y p n (λ ne. absurd (ne refl)) (λ q ne z. refl)
 
     -- it is held
-    abbrev pub with_hold : List NumberedReport → Following
-    with_hold hs = record f { sides = with_at f.sides p (record (at f.sides p) { state = Behind hs }) }
-
-    pub hold_places : (hs : List NumberedReport) (q : Partition) → place_in (with_hold hs) q ≡ place_in f q
-    hold_places hs =
-        or_as_it_was (λ q y. y.place ≡ place_in f q) f.sides p (record (at f.sides p) { state = Behind hs }) refl
-        (λ q. refl)
-
-    pub joined_held : (hs : List NumberedReport) → (at f.sides p).state ≡ Behind hs
-        → Joined c k s (with_hold (hs ++ h ∷ [])) (record x { live = rest }) (or_one t u)
-    joined_held hs e =
+    pub joined_held : (u : Taking) → Only p (number_of h) u → (hs : List NumberedReport) → (at f.sides p).state ≡ Behind hs
+        → Joined c k s (with_hold f p (hs ++ h ∷ [])) (record x { live = rest }) (or_one t u)
+    joined_held u only hs e =
         let more = hs ++ h ∷ [] in
-        let g = with_hold more in
-        let same = hold_places more in
+        let g = with_hold f p more in
+        let same = hold_places f p more in
         let mark = max (at a.y p) (number_of h) in
         let x' : Line = record x { live = rest } in
         record {
@@ -197,10 +194,10 @@ module _ (c : ℕ) (k : Kept) (s : Session) where
           taken = λ q i w. let v = taken_popped (place_in f) t u a.y p h only a.taken q i w in let z : place_in g q
               ≡ place_in f q = same q in omega (arith, v, z);
           staged =
-              channelled_on x.opening f.download c k k (place_in f) (place_in g) a.b a.b (download s) (download s) x x'
+              channelled_on x.opening (download_of f) c k k (place_in f) (place_in g) a.b a.b (download s) (download s) x x'
               refl refl (λ e. e)
-              (λ st. staged_live f.download c k (place_in g) a.b (download s) x rest
-              (staged_up f.download c k (place_in f) (place_in g) a.b (download s) x
+              (λ st. staged_live (download_of f) c k (place_in g) a.b (download s) x rest
+              (staged_up (download_of f) c k (place_in f) (place_in g) a.b (download s) x
               (λ q. let z : place_in g q ≡ place_in f q = same q in omega (arith, z)) st)) a.staged;
         }
 

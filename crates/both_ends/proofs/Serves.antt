@@ -17,7 +17,7 @@ use Rattle.both_ends.proofs.Caught.{grows}
 use Rattle.both_ends.proofs.Flights.{Passed, Next, there_within, hers_grown, longer, hers_is}
 use Rattle.both_ends.proofs.Follows.{next_is, same_ok, ok_err}
 use Rattle.both_ends.proofs.Heard.{report_heard, end_heard, ack_heard, reject_heard, logon_heard, nothing_heard}
-use Rattle.both_ends.proofs.Keeping.{Keeps, Phase, Joined, marks_of, Staged, Channelled, AskedAs, Waits, Refuses, Taking, channelled_on, phase_on, Refusing, opened, refusing_more, staged_grown, staged_cut, staged_live}
+use Rattle.both_ends.proofs.Keeping.{Keeps, Phase, Joined, marks_of, Staged, Channelled, AskedAs, Waits, Refuses, Taking, channelled_on, phase_on, idle_where, Refusing, opened, refusing_more, staged_grown, staged_cut, staged_live}
 use Rattle.both_ends.proofs.Sendings.{SentBy, sends, HandedBy, hands}
 use Rattle.both_ends.specs.Agreement.{is_hers, place}
 use Rattle.both_ends.specs.Allowed.{Line, connected, accepted, next_of, after_logon, behind, answered, after_recovery, after_failure, given_recovery, is_failed_logon, is_grant, is_reject, left_reject}
@@ -30,7 +30,7 @@ use Rattle.gateway_runs.specs.declared.call.Reply.{Reply}
 use Rattle.gateway.specs.declared.fault.GatewayFault.{GatewayFault}
 use Rattle.gateway_runs.specs.Runs.{bytes_of, left}
 use Rattle.follower.specs.Asking.{request, IsRequest}
-use Rattle.follower.specs.Following.{Following}
+use Rattle.follower.specs.Following.{Following, is_up, download_of}
 use Rattle.follower.specs.Hearing.{heard_in}
 use Rattle.follower.specs.declared.heard.Heard.{Heard}
 use Rattle.follower.specs.declared.heard.Heard.TheVariants.{Report, Ack, End, Reject, Nothing}
@@ -160,7 +160,7 @@ module _ (c : ℕ) (s : State) (d : Desk) (x : Line) (t : Taking) (k : Keeps c s
             (stored_more c (record (marks_of old (session s c) f x' u.y u.b p) { sent = at sent' p }) (at new p) (g p)
             (moved u.y u.b u.parts p));
         taken = u.taken;
-        staged = st f.download u.b (λ p. (u.parts p).based) (grown f.download u.b u.staged);
+        staged = st (download_of f) u.b (λ p. (u.parts p).based) (grown (download_of f) u.b u.staged);
       }
 
   -- the session stays, or its channels are closed
@@ -190,7 +190,7 @@ module _ (c : ℕ) (s : State) (d : Desk) (x : Line) (t : Taking) (k : Keeps c s
           let a = longer (at old p) (at new p) (g p) in let z : at (lasts old) p
           ≡ length (at old p) = last p in omega (arith, a, z)
 
-      dn : f.up ≡ false
+      dn : is_up f ≡ false
       dn = sym k.up ∙ e
 
       ready : Joined c new (session w c) f connected t
@@ -210,7 +210,7 @@ module _ (c : ℕ) (s : State) (d : Desk) (x : Line) (t : Taking) (k : Keeps c s
         taken = λ p n h. let a = there_within c (at old p) n (k.hers p n h) in let z : at (lasts old) p
             ≡ length (at old p) = last p in omega (arith, a, z);
         staged = subst (λ i. Channelled connected.opening i c new (place d) (lasts old) (download (session w c)) connected)
-            (sym (k.quiet.idle dn)) (tt, (refl, refl, ed), (refl, refl, refl, ed));
+            (sym (idle_where f.line dn)) (tt, (refl, refl, ed), (refl, refl, refl, ed));
       }
 
   pub real_time : (bytes : List ℕ) → RealTimeDoes old bytes (session s c) (session w c) → (b : Bool)
@@ -640,7 +640,7 @@ module _ (c : ℕ) (s : State) (d : Desk) (x : Line) (t : Taking) (k : Keeps c s
           b = z.b;
           parts = z.parts;
           taken = z.taken;
-          staged = on d.follower.download z.b z.staged;
+          staged = on (download_of d.follower) z.b z.staged;
         }) x.connection k.phase;
   }
 

@@ -6,6 +6,7 @@ use Rattle.codes.specs.declared.session.ReportResponse.TheVariants.{Complete}
 use Rattle.both_ends.specs.Runs.{Desk, Does, Runs, fresh}
 use Rattle.both_ends.specs.declared.call.Done.{Done}
 use Rattle.both_ends.specs.declared.call.Done.TheVariants as done
+use Rattle.follower.specs.Following.{download_of}
 use Rattle.follower.specs.Hearing.{heard_in}
 use Rattle.follower.specs.declared.answer.Live.{Live}
 use Rattle.follower.specs.declared.answer.Recovered.TheVariants.{Ended}
@@ -53,7 +54,7 @@ IsEnded x = ⊥
 pub record Completes (d : Desk) (p : Partition) (x : Done) : Type 0 where
   pub complete : IsComplete x
   pub ends : IsEnded x
-  pub runs : d.follower.download ≡ Running p
+  pub runs : download_of d.follower ≡ Running p
 
 -- nothing else makes a partition level
 abbrev pub LevelByDownload : Type 0

@@ -20,7 +20,6 @@ use Rattle.follower.specs.declared.heard.Heard.{Heard}
 use Rattle.follower.specs.declared.heard.Heard.TheVariants.{Report, Ack, End, Reject, Nothing}
 use Rattle.follower.specs.declared.hold.TheConstants.{HOLD}
 use Rattle.follower.specs.declared.pending.Pending.{Pending}
-use Rattle.wire.specs.declared.message.TheConstants.{BUFFER}
 use Rattle.follower.specs.declared.side.State.{State}
 use Rattle.follower.specs.declared.side.State.TheVariants.{Level, Behind}
 use Rattle.follower.specs.declared.stage.Stage.{Stage}
@@ -28,19 +27,19 @@ use Rattle.follower.specs.declared.stage.Stage.TheVariants.{Idle, Asked, Running
 use Rattle.follower.specs.Numbers.{number_of}
 use Rattle.follower.specs.Sides.{held_in}
 use Rattle.follower.specs.Folding.{Reached, reached, caught_up}
-use Rattle.follower.specs.Following.{Following, Step, start, turned, answered, refused, folded, folded_to, held, overrun, live_by, lived, acked_of, acked, recovered_of, reported, levelled, ended_of, ended, rejected, recovering, live_step, recovered_step}
-use Rattle.follower.specs.Asking.{asks_of, asks, asking, asking_of, partition_of}
+use Rattle.follower.specs.Following.{Following, is_up, download_of, Step, start, turned, answered, refused, folded, folded_to, held, overrun, live_by, lived, acked_of, acked, recovered_of, reported, levelled, ended_of, ended, rejected, recovering, live_step, recovered_step}
+use Rattle.follower.specs.Asking.{asks_of, asks, asking}
 use Rattle.follower.specs.Quiet.{Quiet, StaysQuiet}
 
 -- a follower that is up
-pub up_quiet : (f : Following) → f.up ≡ true → Quiet f
-up_quiet f u = record { idle = λ d. no d; fallen = λ d. no d }
+pub up_quiet : (f : Following) → is_up f ≡ true → Quiet f
+up_quiet f u = record { fallen = λ d. no d }
   where
-    no : {X : Type 0} → f.up ≡ false → X
+    no : {X : Type 0} → is_up f ≡ false → X
     no d = absurd (let z : true ≡ false = sym u ∙ d in cc)
 
 turns : (f : Following) (up : Bool) → Quiet (turned up f)
-turns f up = record { idle = λ d. refl; fallen = λ d p. fallen p }
+turns f up = record { fallen = λ d p. fallen p }
   where
     fallen : (p : Partition) → (at (turned up f).sides p).state ≡ Behind []
     fallen One = refl
@@ -55,7 +54,7 @@ either : {A : Type 0} (b : Bool) (x y : Step A) → Leaves x → Leaves y → Le
 either true x y p q = p
 either false x y p q = q
 
-module _ (f : Following) (u : f.up ≡ true) where
+module _ (f : Following) (u : is_up f ≡ true) where
   folds : {A : Type 0} (a : A) (p : Partition) (n : ℕ) (r : Result Knowledge FoldRefusal) → Leaves (folded_to a f p n r)
   folds a p n (Err e) = up_quiet _ u
   folds a p n (Ok k) = up_quiet _ u
@@ -75,10 +74,10 @@ module _ (f : Following) (u : f.up ≡ true) where
   live_heard Nothing = up_quiet _ u
 
   ack_of : (p : Partition) (r : AckResponse) → Leaves (acked_of f p r)
-  ack_of p Successful = up_quiet _ u
-  ack_of p LimitReached = up_quiet _ u
-  ack_of p InvalidAppId = up_quiet _ u
-  ack_of p ServiceUnavailable = up_quiet _ u
+  ack_of p Successful = up_quiet _ refl
+  ack_of p LimitReached = up_quiet _ refl
+  ack_of p InvalidAppId = up_quiet _ refl
+  ack_of p ServiceUnavailable = up_quiet _ refl
 
   ack : (s : Stage) (r : AckResponse) → Leaves (acked f s r)
   ack Idle r = up_quiet _ u
@@ -99,13 +98,13 @@ module _ (f : Following) (u : f.up ≡ true) where
 
   level : (p : Partition) (r : Result Reached FoldRefusal) → Leaves (levelled f p r)
   level p (Err e) = up_quiet _ u
-  level p (Ok r) = up_quiet _ u
+  level p (Ok r) = up_quiet _ refl
 
   end_of : (p : Partition) (r : ReportResponse) → Leaves (ended_of f p r)
   end_of p ending.Complete =
       level p (caught_up p (reached f.standings (at f.sides p).place) (held_in (at f.sides p).state))
-  end_of p ending.MessageLimit = up_quiet _ u
-  end_of p ending.ServiceUnavailable = up_quiet _ u
+  end_of p ending.MessageLimit = up_quiet _ refl
+  end_of p ending.ServiceUnavailable = up_quiet _ refl
 
   end : (s : Stage) (r : ReportResponse) → Leaves (ended f s r)
   end Idle r = up_quiet _ u
@@ -114,46 +113,38 @@ module _ (f : Following) (u : f.up ≡ true) where
 
   reject : (s : Stage) → Leaves (rejected f s)
   reject Idle = up_quiet _ u
-  reject (Asked p) = up_quiet _ u
-  reject (Running p) = up_quiet _ u
+  reject (Asked p) = up_quiet _ refl
+  reject (Running p) = up_quiet _ refl
 
   recovered_heard : (h : Heard) → Leaves (recovering f h)
-  recovered_heard (Report p h) = report f.download p h
-  recovered_heard (Ack r) = ack f.download r
-  recovered_heard (End r) = end f.download r
-  recovered_heard Reject = reject f.download
+  recovered_heard (Report p h) = report (download_of f) p h
+  recovered_heard (Ack r) = ack (download_of f) r
+  recovered_heard (End r) = end (download_of f) r
+  recovered_heard Reject = reject (download_of f)
   recovered_heard Nothing = up_quiet _ u
 
 -- a step of a follower that may be down
-taken : {A : Type 0} (f : Following) (b : Bool) (x y : Step A) → f.up ≡ b → (f.up ≡ true → Leaves x) → Leaves y
+taken : {A : Type 0} (f : Following) (b : Bool) (x y : Step A) → is_up f ≡ b → (is_up f ≡ true → Leaves x) → Leaves y
     → Leaves (cond b x y)
 taken f true x y e p q = p e
 taken f false x y e p q = q
 
 lives : (f : Following) (h : Result Heard Fault) → Quiet f → Quiet (live_step f h).after
 lives f (Err e) quiet = quiet
-lives f (Ok h) quiet = taken f f.up (lived f h) (refused fault.NotUp f) refl (λ u. live_heard f u h) quiet
+lives f (Ok h) quiet = taken f (is_up f) (lived f h) (refused fault.NotUp f) refl (λ u. live_heard f u h) quiet
 
 recovers : (f : Following) (h : Result Heard Fault) → Quiet f → Quiet (recovered_step f h).after
 recovers f (Err e) quiet = quiet
 recovers f (Ok h) quiet =
-    taken f f.up (recovering f h) (refused fault.NotUp f) refl (λ u. recovered_heard f u h) quiet
+    taken f (is_up f) (recovering f h) (refused fault.NotUp f) refl (λ u. recovered_heard f u h) quiet
 
--- what is asked is asked by a follower that is up
-asked_up : (f : Following) (t : Pending) (out : List ℕ) (r : Result Partition FollowerFault) → Quiet f
-    → ((p : Partition) → r ≡ Ok p → f.up ≡ true) → Quiet (asks_of f t out r).after
-asked_up f t out (Err e) quiet up = quiet
-asked_up f t out (Ok p) quiet up = up_quiet _ (up p refl)
-
-room_up : (f : Following) (t : Pending) (n : ℕ) (short b : Bool) (p : Partition) → f.up ≡ b
-    → cond short (Err fault.Buffer) (cond b (asking_of f t (partition_of n)) (Err fault.NotUp)) ≡ Ok p → f.up ≡ true
-room_up f t n true b p e h = absurd cc
-room_up f t n false true p e h = e
-room_up f t n false false p e h = absurd cc
+asked : (f : Following) (t : Pending) (out : List ℕ) (r : Result Partition FollowerFault) → Quiet f
+    → Quiet (asks_of f t out r).after
+asked f t out (Err e) quiet = quiet
+asked f t out (Ok p) quiet = up_quiet _ refl
 
 asks_on : (f : Following) (t : Pending) (n : ℕ) (out : List ℕ) → Quiet f → Quiet (asks f t n out).after
-asks_on f t n out quiet =
-    asked_up f t out (asking f t n (length out)) quiet (λ p e. room_up f t n (nat_lt (length out) BUFFER) f.up p refl e)
+asks_on f t n out quiet = asked f t out (asking f t n (length out)) quiet
 
 begins : Quiet start
 begins = turns start false

@@ -6,14 +6,12 @@ use Rattle.partitions.specs.PerPartition.{at}
 use Rattle.follower.specs.declared.heard.Heard.{Heard}
 use Rattle.follower.specs.declared.pending.Pending.{Pending}
 use Rattle.follower.specs.declared.side.State.TheVariants.{Behind}
-use Rattle.follower.specs.declared.stage.Stage.TheVariants.{Idle}
 use Rattle.follower.specs.Asking.{asks}
-use Rattle.follower.specs.Following.{Following, start, turned, live_step, recovered_step}
+use Rattle.follower.specs.Following.{Following, is_up, start, turned, live_step, recovered_step}
 
--- not up: no partition is level or holds a report, and there is no download
+-- not up: no partition is level or holds a report
 pub record Quiet (f : Following) : Type 0 where
-  pub idle : f.up ≡ false → f.download ≡ Idle
-  pub fallen : f.up ≡ false → (p : Partition) → (at f.sides p).state ≡ Behind []
+  pub fallen : is_up f ≡ false → (p : Partition) → (at f.sides p).state ≡ Behind []
 
 pub record StaysQuiet : Type 0 where
   pub begins : Quiet start

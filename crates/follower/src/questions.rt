@@ -2,6 +2,7 @@
 ghost use Rattle.std.specs.Prelude.{◌≡◌, length};
 ghost use Rattle.std.specs.FinMap.{get, len};
 ghost use Rattle.partitions.specs.PerPartition.{at};
+ghost use Rattle.follower.specs.Following.{is_up, download_of};
 ghost use Rattle.follower.specs.Sides.{held_in, is_level};
 ghost use Rattle.follower.specs.Orders.{FirstFrom};
 
@@ -66,15 +67,15 @@ impl Follower {
 
     /// Whether the follower is up.
     pub fn is_up(&self) -> bool
-        ensures { result ≡ self.now.up }
+        ensures { result ≡ is_up self.now }
     {
-        self.up
+        self.line.is_up()
     }
 
-    /// The download that is asked or runs.
+    /// The download that is asked or runs; none where the follower is not up.
     pub fn download(&self) -> Stage
-        ensures { result ≡ self.now.download }
+        ensures { result ≡ download_of self.now }
     {
-        self.stage
+        self.line.download()
     }
 }
