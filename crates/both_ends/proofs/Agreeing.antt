@@ -11,8 +11,8 @@ use Rattle.configuration.specs.declared.participant.Participant.{Participant}
 use Rattle.both_ends.proofs.Caught.{begins, shown}
 use Rattle.both_ends.proofs.Flights.{Passed}
 use Rattle.both_ends.proofs.Follows.{up_of, to_up, Went, same_ok, ok_err, given_live_keeps, given_recovered_keeps}
-use Rattle.both_ends.proofs.Keeping.{Keeps, Phase, Joined, marks_of, place_in, Still, Staged, Channelled, Taking, channelled_on, idle_where, keeps_taken}
-use Rattle.both_ends.proofs.Marks.{Whole, SidedBy, fallen_back}
+use Rattle.both_ends.proofs.Keeping.{Keeps, Phase, Joined, marks_of, place_in, Still, Staged, Channelled, Taking, AskedAs, channelled_on, idle_where, unloads, keeps_taken}
+use Rattle.both_ends.proofs.Marks.{Whole, SidedBy, Load, asked_from, reloaded, asked, fallen_back}
 use Rattle.both_ends.proofs.Living.{tallied_as}
 use Rattle.both_ends.proofs.Refusals.{refused_stays}
 use Rattle.both_ends.proofs.Requested.{request_long}
@@ -58,7 +58,8 @@ use Rattle.gateway_runs.specs.Runs.{bytes_of}
 use Rattle.gateway_runs.specs.declared.call.Done.{Done as VenueDone}
 use Rattle.gateway_runs.specs.declared.call.Done.TheVariants as call
 use Rattle.gateway_runs.specs.declared.call.Reply.{Reply}
-use Rattle.partitions.specs.PerPartition.{at}
+use Rattle.partitions.proofs.Written.{at_written, or_as_it_was}
+use Rattle.partitions.specs.PerPartition.{at, with_at}
 use Rattle.partitions.specs.declared.per_partition.PerPartition.{PerPartition}
 use Rattle.sessions.specs.Sessions.{download}
 use Rattle.sessions.specs.declared.session.Channel.TheVariants.{Recovery}
@@ -187,21 +188,21 @@ module _ (c : ℕ) (s : State) (d : Desk) (x : Line) (t : Taking) (k : Keeps c s
   turned_joined up a dn z = record {
     y = z.y;
     b = z.y;
+    ds = unloads z.y;
     parts = parts;
     taken = λ p n i. let v = z.taken p n i in let e : place_in (turned up d.follower) p
         ≡ place d p = turned_place up d.follower p in omega (arith, v, e);
-    staged = subst (λ g. Channelled x.opening g c s.venue.kept (place_in (turned up d.follower)) z.y
-        (download (session s c)) (record x { connection = a })) (sym (turned_stage up))
-        (channelled_on x.opening stage.Idle c s.venue.kept s.venue.kept (place d) (place_in (turned up d.follower)) z.b
-        z.y (download (session s c)) (download (session s c)) x (record x { connection = a }) refl refl (λ e. e) (λ i. i)
-        (subst (λ g. Channelled x.opening g c s.venue.kept (place d) z.b (download (session s c)) x)
-        (idle_where d.follower.line dn) z.staged));
+    staged = subst (λ g. Channelled x.opening g (unloads z.y) (download (session s c)) (record x { connection = a }))
+        (sym (turned_stage up))
+        (channelled_on x.opening stage.Idle z.ds (unloads z.y) (download (session s c)) (download (session s c)) x
+        (record x { connection = a }) refl refl (λ e. e) (λ i. i)
+        (subst (λ g. Channelled x.opening g z.ds (download (session s c)) x) (idle_where d.follower.line dn) z.staged));
   }
     where
-      parts : (p : Partition) → Whole c (marks_of s.venue.kept (session s c) (turned up d.follower) x z.y z.y p)
-      parts One = fallen_back c (marks_of s.venue.kept (session s c) d.follower x z.y z.b One) (z.parts One)
-      parts Two = fallen_back c (marks_of s.venue.kept (session s c) d.follower x z.y z.b Two) (z.parts Two)
-      parts Three = fallen_back c (marks_of s.venue.kept (session s c) d.follower x z.y z.b Three) (z.parts Three)
+      parts : (p : Partition) → Whole c (marks_of s.venue.kept (session s c) (turned up d.follower) x z.y z.y (unloads z.y) p)
+      parts One = fallen_back c (marks_of s.venue.kept (session s c) d.follower x z.y z.b z.ds One) (z.parts One)
+      parts Two = fallen_back c (marks_of s.venue.kept (session s c) d.follower x z.y z.b z.ds Two) (z.parts Two)
+      parts Three = fallen_back c (marks_of s.venue.kept (session s c) d.follower x z.y z.b z.ds Three) (z.parts Three)
 
   turned_keeps : (up : Bool) (x' : Line) → up_in x'.connection ≡ up
       → Phase x'.connection c s.venue.kept (session s c) (turned up d.follower) x' t
@@ -295,8 +296,8 @@ module _ (c : ℕ) (s : State) (d : Desk) (x : Line) (t : Taking) (k : Keeps c s
   asked_for b n p e back token m is =
       let fr = free_of b n p e in
       let (r, u) = up_of c s.venue.kept (session s c) d.follower x t x.connection (k.up ∙ fr.up) k.phase in
-      let st = subst
-      (λ g. Channelled x.opening g c s.venue.kept (place d) u.b (download (session s c)) x) fr.idle u.staged in
+      let st = subst (λ g. Channelled x.opening g u.ds (download (session s c)) x) fr.idle u.staged in
+      let now = asked_from (place d p) (at u.b p) in
       record {
         up = k.up ∙ fr.up;
         quiet = quiet fr.up;
@@ -309,25 +310,31 @@ module _ (c : ℕ) (s : State) (d : Desk) (x : Line) (t : Taking) (k : Keeps c s
             (record x { asked = x.asked ++ m ∷ [] }) t x.connection r (record {
               y = u.y;
               b = u.b;
-              parts = u.parts;
+              ds = with_at u.ds p now;
+              parts = or_as_it_was (λ q z. Whole c (record (marks_of s.venue.kept (session s c) d.follower x u.y u.b u.ds q) {
+                load = z;
+              })) u.ds p now
+                  (reloaded c (marks_of s.venue.kept (session s c) d.follower x u.y u.b u.ds p) now
+                  (asked c (at s.venue.kept p) (place d p) (at u.b p) (u.parts p).based)
+                  (u.parts p)) u.parts;
               taken = u.taken;
-              staged = asks x.opening u.b st;
+              staged = asks x.opening u.ds (with_at u.ds p now) (sym (at_written u.ds p now)) st;
             });
       }
     where
-      waits : (b : PerPartition ℕ) → Still (download (session s c)) x
-          → Staged (stage.Asked p) c s.venue.kept (place d) b (download (session s c))
-          (record x { asked = x.asked ++ m ∷ [] })
-      waits b (a, r, ag, e) =
-          (ag, inl (place d p, ap (λ ms. ms ++ m ∷ []) a ∙ ap (λ y. y ∷ []) is, back, omega arith, r, e))
+      waits : (b : ℕ) (ds : PerPartition Load) → asked_from (place d p) b ≡ at ds p → Still (download (session s c)) x
+          → Staged (stage.Asked p) ds (download (session s c)) (record x { asked = x.asked ++ m ∷ [] })
+      waits b ds now (a, r, ag, e) =
+          let (g, w) = subst (λ z. (z.again ≡ []) × AskedAs p z (download (session s c)) (record x { asked = x.asked ++ m ∷ [] }))
+          now (refl, inl (ap (λ ms. ms ++ m ∷ []) a ∙ ap (λ y. y ∷ []) is, back, r, e)) in
+          (ag, g, w)
 
-      asks : (o : Opening) (b : PerPartition ℕ)
-          → Channelled o stage.Idle c s.venue.kept (place d) b (download (session s c)) x
-          → Channelled o (stage.Asked p) c s.venue.kept (place d) b (download (session s c))
-          (record x { asked = x.asked ++ m ∷ [] })
-      asks Awaited b (n, un, st) = (tt, un, waits b st)
-      asks Open b st = waits b st
-      asks Failed b (n, r, ag, e) = (tt, r, ag, e)
+      asks : {b : ℕ} (o : Opening) (ds ds' : PerPartition Load) → asked_from (place d p) b ≡ at ds' p
+          → Channelled o stage.Idle ds (download (session s c)) x
+          → Channelled o (stage.Asked p) ds' (download (session s c)) (record x { asked = x.asked ++ m ∷ [] })
+      asks {b} Awaited ds ds' now (n, un, st) = (tt, un, waits b ds' now st)
+      asks {b} Open ds ds' now st = waits b ds' now st
+      asks {b} Failed ds ds' now (n, r, ag, e) = (tt, r, ag, e)
 
       quiet : is_up d.follower ≡ true → Quiet (asked_desk p token).follower
       quiet up = up_quiet (asked_desk p token).follower refl

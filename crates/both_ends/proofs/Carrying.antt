@@ -6,7 +6,7 @@ use Rattle.codes.specs.declared.session.Partition.{Partition}
 use Rattle.codes.specs.declared.session.Partition.TheVariants.{One, Two, Three}
 use Rattle.codes.specs.declared.session.ReportResponse.{ReportResponse}
 use Rattle.codes.specs.declared.session.ReportResponse.TheVariants as ending
-use Rattle.both_ends.proofs.Flights.{Passed, Next, next_within, stays_under, passed_grown, next_grown, longer, passed_on, next_down, next_up}
+use Rattle.both_ends.proofs.Flights.{Passed, Next, next_within, stays_under, passed_grown, next_grown, passed_on, next_down, next_up}
 use Rattle.follower.specs.Hearing.{heard_in}
 use Rattle.follower.specs.Numbers.{number_of}
 use Rattle.follower.specs.declared.heard.Heard.{Heard}
@@ -201,33 +201,31 @@ pub record Sent (c : ℕ) (k : Kept) (sent sent' : PerPartition ℕ) (q : Partit
 
 -- ---- the recovery channel
 
--- the end of a download: complete only at a mark that covers another
-abbrev pub Over : ℕ → ReportResponse → ℕ → Type 0
-Over b ending.Complete y = b ≤ y
-Over b ending.MessageLimit y = Unit {0}
-Over b ending.ServiceUnavailable y = Unit {0}
+-- the end of a download: complete only where it went as far as it was to
+abbrev pub Over : ReportResponse → ℕ → ℕ → Type 0
+Over ending.Complete y aim = y ≡ aim
+Over ending.MessageLimit y aim = Unit {0}
+Over ending.ServiceUnavailable y aim = Unit {0}
 
 -- a download of a partition that has handed out all up to a mark
-pub record Runs (p : Partition) (l : List Entry) (b : ℕ) (d : Download) (y : ℕ) : Type 0 where
+pub record Runs (p : Partition) (d : Download) (y aim : ℕ) : Type 0 where
   pub partition : d.partition ≡ p
   pub last : d.last ≡ y
-  pub covers : b ≤ d.target
-  pub within : d.target ≤ length l
+  pub target : d.target ≡ aim
 
--- the reports of a partition, up to a mark, and behind them the end of its download, or what is left of it
-abbrev pub Delivery : List Entry → Partition → ℕ → Option Download → List (List ℕ) → ℕ → Type 0
-Delivery l p b o [] y = (o ≡ None) ⊎ ((d : Download) × (o ≡ Some d) × Runs p l b d y)
-Delivery l p b o (m ∷ ms) y =
-    ((r : ReportResponse) × (heard_in m ≡ Ok (End r)) × (ms ≡ []) × (o ≡ None) × Over b r y)
-    ⊎ ((h : NumberedReport) × (heard_in m ≡ Ok (Report p h)) × Delivery l p b o ms y)
+-- messages that are the reports of a partition, up to a mark, and behind them the end of its download, or what is left of it
+abbrev pub Delivery : Partition → Option Download → List (List ℕ) → List NumberedReport → ℕ → ℕ → Type 0
+Delivery p o [] hs y aim = (hs ≡ []) × ((o ≡ None) ⊎ ((d : Download) × (o ≡ Some d) × Runs p d y aim))
+Delivery p o (m ∷ ms) hs y aim =
+    ((r : ReportResponse) × (heard_in m ≡ Ok (End r)) × (ms ≡ []) × (o ≡ None) × (hs ≡ []) × Over r y aim)
+    ⊎ ((h : NumberedReport) × (is : List NumberedReport) × (heard_in m ≡ Ok (Report p h)) × (hs ≡ h ∷ is)
+    × Delivery p o ms is y aim)
 
--- what is under way of a download: a run from a number on
-pub record Loads (c : ℕ) (l : List Entry) (p : Partition) (b : ℕ) (o : Option Download) (from : ℕ)
-    (ms : List (List ℕ)) : Type 0 where
-  pub to : ℕ
-  pub within : to ≤ length l
-  pub run : Run c l from (reports_of p ms) to
-  pub delivery : Delivery l p b o ms to
+-- messages that are reports of a partition
+abbrev pub OfPart : Partition → List (List ℕ) → List NumberedReport → Type 0
+OfPart p [] hs = hs ≡ []
+OfPart p (m ∷ ms) hs =
+    (h : NumberedReport) × (is : List NumberedReport) × (heard_in m ≡ Ok (Report p h)) × (hs ≡ h ∷ is) × OfPart p ms is
 
 same_some : {A : Type 0} (a b : A) → Some a ≡ Some b → a ≡ b
 same_some a b e = cc
@@ -238,174 +236,111 @@ same_heard a b r e f = cc
 pub heard_apart : {X : Type 0} (m : List ℕ) (a b : Heard) → heard_in m ≡ Ok a → heard_in m ≡ Ok b → (a ≡ b → ⊥) → X
 heard_apart m a b h g ne = absurd (ne (same_heard a b (heard_in m) h g))
 
-module _ (l : List Entry) (p : Partition) (b : ℕ) where
-  delivery_grown : (l' : List Entry) (o : Option Download) (ms : List (List ℕ)) (y : ℕ) → Grown l l' → Delivery l p b o ms y
-      → Delivery l' p b o ms y
-  delivery_grown l' o [] y g (inl e) = inl e
-  delivery_grown l' o [] y g (inr (d, e, r)) = inr (
-    d,
-    e,
-    record {
-      partition = r.partition;
-      last = r.last;
-      covers = r.covers;
-      within = (let a = longer l l' g in let w = r.within in omega (arith, a, w));
-    },
-  )
-  delivery_grown l' o (m ∷ ms) y g (inl h) = inl h
-  delivery_grown l' o (m ∷ ms) y g (inr (h, e, q)) = inr (h, e, delivery_grown l' o ms y g q)
-
-  delivery_cut : (o : Option Download) (ms : List (List ℕ)) (y : ℕ) → Delivery l p b o ms y → Delivery l p b None ms y
-  delivery_cut o [] y h = inl refl
-  delivery_cut o (m ∷ ms) y (inl (r, h, e, z, v)) = inl (r, h, e, refl, v)
-  delivery_cut o (m ∷ ms) y (inr (h, e, q)) = inr (h, e, delivery_cut o ms y q)
-
-  -- the download that runs has handed out what is under way
-  delivery_runs : (d : Download) (ms : List (List ℕ)) (y : ℕ) → Delivery l p b (Some d) ms y → Runs p l b d y
-  delivery_runs d [] y (inl e) = absurd (none-some d (sym e))
-  delivery_runs d [] y (inr (d', e, r)) = subst (λ u. Runs p l b u y) (sym (same_some d d' e)) r
-  delivery_runs d (m ∷ ms) y (inl (r, h, e, z, v)) = absurd (none-some d (sym z))
-  delivery_runs d (m ∷ ms) y (inr (h, e, q)) = delivery_runs d ms y q
-
-  -- something comes behind it
-  delivery_then : (d : Download) (o : Option Download) (ms : List (List ℕ)) (m : List ℕ) (y z : ℕ)
-      → Delivery l p b o (m ∷ []) z → Delivery l p b (Some d) ms y → Delivery l p b o (ms ++ m ∷ []) z
-  delivery_then d o [] m y z h q = h
-  delivery_then d o (i ∷ ms) m y z h (inl (r, g, e, n, v)) = absurd (none-some d (sym n))
-  delivery_then d o (i ∷ ms) m y z h (inr (j, e, q)) = inr (j, e, delivery_then d o ms m y z h q)
-
-pub loads_grown : (c : ℕ) (l l' : List Entry) (p : Partition) (b : ℕ) (o : Option Download) (from : ℕ)
-    (ms : List (List ℕ)) → Grown l l' → Loads c l p b o from ms → Loads c l' p b o from ms
-loads_grown c l l' p b o from ms g h = record {
-  to = h.to;
-  within = (let a = longer l l' g in let w = h.within in omega (arith, a, w));
-  run = run_grown c l l' from (reports_of p ms) h.to g h.within h.run;
-  delivery = delivery_grown l p b l' o ms h.to g h.delivery;
-}
-
--- what runs is of its partition
-pub loads_part_of : (c : ℕ) (l : List Entry) (p : Partition) (b : ℕ) (d : Download) (from : ℕ) (ms : List (List ℕ))
-    → Loads c l p b (Some d) from ms → d.partition ≡ p
-loads_part_of c l p b d from ms h = (delivery_runs l p b d ms h.to h.delivery).partition
-
--- the line is cut: nothing more comes behind what is under way
-pub loads_cut : (c : ℕ) (l : List Entry) (p : Partition) (b : ℕ) (o : Option Download) (from : ℕ) (ms : List (List ℕ))
-    → Loads c l p b o from ms → Loads c l p b None from ms
-loads_cut c l p b o from ms h =
-    record { to = h.to; within = h.within; run = h.run; delivery = delivery_cut l p b o ms h.to h.delivery }
-
 -- the download hands out the owner's next report
 pub record Further (d d' : Download) (n : ℕ) : Type 0 where
   pub partition : d'.partition ≡ d.partition
   pub target : d'.target ≡ d.target
   pub last : d'.last ≡ n
 
-pub loads_more : (c : ℕ) (l : List Entry) (p : Partition) (b : ℕ) (d d' : Download) (from : ℕ) (ms : List (List ℕ))
-    (m : List ℕ) (h : NumberedReport) → Further d d' (number_of h) → Next c l d.last (number_of h)
-    → heard_in m ≡ Ok (Report p h) → Tells c l h → Loads c l p b (Some d) from ms
-    → Loads c l p b (Some d') from (ms ++ m ∷ [])
-loads_more c l p b d d' from ms m h f x e t q =
-    let r = delivery_runs l p b d ms q.to q.delivery in
-    let next : Next c l q.to (number_of h) = subst (λ u. Next c l u (number_of h)) r.last x in
-    record {
-      to = number_of h;
-      within = next_within c l q.to (number_of h) next;
-      run = subst (λ hs. Run c l from hs (number_of h)) (sym (reports_behind p ms m (h ∷ []) (told_here p m h e)))
-          (run_last c l from (reports_of p ms) q.to h t next q.run);
-      delivery = delivery_then l p b d (Some d') ms m q.to (number_of h) (inr (
+module _ (p : Partition) where
+  -- the line is cut: nothing more comes behind what is under way
+  pub delivery_cut : (o : Option Download) (ms : List (List ℕ)) (hs : List NumberedReport) (y aim : ℕ)
+      → Delivery p o ms hs y aim → Delivery p None ms hs y aim
+  delivery_cut o [] hs y aim (e, h) = (e, inl refl)
+  delivery_cut o (m ∷ ms) hs y aim (inl (r, h, e, z, n, v)) = inl (r, h, e, refl, n, v)
+  delivery_cut o (m ∷ ms) hs y aim (inr (h, is, e, n, q)) = inr (h, is, e, n, delivery_cut o ms is y aim q)
+
+  -- the download that runs has handed out what is under way
+  pub delivery_runs : (d : Download) (ms : List (List ℕ)) (hs : List NumberedReport) (y aim : ℕ)
+      → Delivery p (Some d) ms hs y aim → Runs p d y aim
+  delivery_runs d [] hs y aim (n, inl e) = absurd (none-some d (sym e))
+  delivery_runs d [] hs y aim (n, inr (d', e, r)) = subst (λ u. Runs p u y aim) (sym (same_some d d' e)) r
+  delivery_runs d (m ∷ ms) hs y aim (inl (r, h, e, z, n, v)) = absurd (none-some d (sym z))
+  delivery_runs d (m ∷ ms) hs y aim (inr (h, is, e, n, q)) = delivery_runs d ms is y aim q
+
+  -- it hands out a report
+  pub delivery_more : (d d' : Download) (ms : List (List ℕ)) (hs : List NumberedReport) (y aim : ℕ) (m : List ℕ)
+      (h : NumberedReport) → Further d d' (number_of h) → heard_in m ≡ Ok (Report p h) → Delivery p (Some d) ms hs y aim
+      → Delivery p (Some d') (ms ++ m ∷ []) (hs ++ h ∷ []) (number_of h) aim
+  delivery_more d d' [] hs y aim m h f g (n, q) =
+      let r = delivery_runs d [] hs y aim (n, q) in
+      inr (
         h,
-        e,
-        inr (
-          d',
+        [],
+        g,
+        ap (λ z. z ++ h ∷ []) n,
+        (
           refl,
-          record {
-            partition = f.partition ∙ r.partition;
-            last = f.last;
-            covers = subst (λ u. b ≤ u) (sym f.target) r.covers;
-            within = subst (λ u. u ≤ length l) (sym f.target) r.within;
-          },
+          inr (
+            d',
+            refl,
+            record {
+              partition = f.partition ∙ r.partition;
+              last = f.last;
+              target = f.target ∙ r.target;
+            },
+          ),
         ),
-      )) q.delivery;
-    }
-
--- the download ends
-pub loads_end : (c : ℕ) (l : List Entry) (p : Partition) (b : ℕ) (d : Download) (from : ℕ) (ms : List (List ℕ))
-    (r : ReportResponse) (m : List ℕ) → (r ≡ ending.Complete → Passed c l d.last d.target) → heard_in m ≡ Ok (End r)
-    → Loads c l p b (Some d) from ms → Loads c l p b None from (ms ++ m ∷ [])
-loads_end c l p b d from ms r m f e q = by r f e
-  where
-    runs : Runs p l b d q.to
-    runs = delivery_runs l p b d ms q.to q.delivery
-
-    at_mark : (r : ReportResponse) → heard_in m ≡ Ok (End r) → (y : ℕ) → y ≤ length l → Over b r y
-        → Run c l from (reports_of p ms) y → Loads c l p b None from (ms ++ m ∷ [])
-    at_mark r e y w over run = record {
-      to = y;
-      within = w;
-      run = subst (λ hs. Run c l from hs y)
-          (sym (reports_behind p ms m [] (ap (told_to p) e) ∙ append-nil (reports_of p ms))) run;
-      delivery = delivery_then l p b d None ms m q.to y (inl (r, e, refl, refl, over)) q.delivery;
-    }
-
-    by : (r : ReportResponse) → (r ≡ ending.Complete → Passed c l d.last d.target) → heard_in m ≡ Ok (End r)
-        → Loads c l p b None from (ms ++ m ∷ [])
-    by ending.Complete f e = at_mark ending.Complete e d.target runs.within runs.covers
-        (run_on c l from (reports_of p ms) q.to d.target (subst (λ u. Passed c l u d.target) runs.last (f refl)) q.run)
-    by ending.MessageLimit f e = at_mark ending.MessageLimit e q.to q.within tt q.run
-    by ending.ServiceUnavailable f e = at_mark ending.ServiceUnavailable e q.to q.within tt q.run
-
--- ---- what is at the front of it
-
-module _ (c : ℕ) (l : List Entry) (p : Partition) (b : ℕ) (o : Option Download) (from : ℕ) (m : List ℕ)
-    (ms : List (List ℕ)) (q : Loads c l p b o from (m ∷ ms)) where
-  -- a report is of its partition
-  pub loads_part : (u : Partition) (h : NumberedReport) → heard_in m ≡ Ok (Report u h) → u ≡ p
-  loads_part u h e = by q.delivery
-    where
-      part : (i : NumberedReport) → Report u h ≡ Report p i → u ≡ p
-      part i z = cc
-
-      by : Delivery l p b o (m ∷ ms) q.to → u ≡ p
-      by (inl (r, g, n, z, over)) = heard_apart m (Report u h) (End r) e g (λ i. cc)
-      by (inr (i, g, w)) = part i (same_heard (Report u h) (Report p i) (heard_in m) e g)
-
-  -- and the next
-  pub loads_next : (h : NumberedReport) → heard_in m ≡ Ok (Report p h)
-      → Tells c l h × Next c l from (number_of h) × Loads c l p b o (max from (number_of h)) ms
-  loads_next h e = by q.delivery
-    where
-      by : Delivery l p b o (m ∷ ms) q.to
-          → Tells c l h × Next c l from (number_of h) × Loads c l p b o (max from (number_of h)) ms
-      by (inl (r, g, n, z, over)) = heard_apart m (Report p h) (End r) e g (λ i. cc)
-      by (inr (i, g, w)) =
-          let r = subst (λ hs. Run c l from hs q.to) (ap (λ z. z ++ reports_of p ms) (told_here p m h e)) q.run in
-          (r.0, r.1, record { to = q.to; within = q.within; run = r.2; delivery = w })
-
-  -- its end is the last
-  pub loads_over : (r : ReportResponse) → heard_in m ≡ Ok (End r)
-      → (ms ≡ []) × (o ≡ None) × (y : ℕ) × Over b r y × (y ≤ length l) × Passed c l from y
-  loads_over r e = by q.delivery
-    where
-      same : (i : ReportResponse) → End i ≡ End r → i ≡ r
-      same i z = cc
-
-      by : Delivery l p b o (m ∷ ms) q.to
-          → (ms ≡ []) × (o ≡ None) × (y : ℕ) × Over b r y × (y ≤ length l) × Passed c l from y
-      by (inl (i, g, n, z, over)) = (
-        n,
-        z,
-        q.to,
-        subst (λ j. Over b j q.to) (same i (same_heard (End i) (End r) (heard_in m) g e)) over,
-        q.within,
-        subst (λ hs. Run c l from hs q.to) (ap (λ j. told_to p j ++ reports_of p ms) e ∙ ap (reports_of p) n) q.run,
       )
-      by (inr (i, g, w)) = heard_apart m (End r) (Report p i) e g (λ j. cc)
+  delivery_more d d' (i ∷ ms) hs y aim m h f g (inl (r, a, e, z, n, v)) = absurd (none-some d (sym z))
+  delivery_more d d' (i ∷ ms) hs y aim m h f g (inr (j, is, e, n, q)) =
+      inr (j, is ++ h ∷ [], e, ap (λ z. z ++ h ∷ []) n, delivery_more d d' ms is y aim m h f g q)
 
-  -- and nothing else is there
-  pub loads_other : {X : Type 0} (h : Heard) → heard_in m ≡ Ok h → ((r : ReportResponse) → h ≡ End r → ⊥)
-      → ((i : NumberedReport) → h ≡ Report p i → ⊥) → X
-  loads_other {X} h e n1 n2 = by q.delivery
-    where
-      by : Delivery l p b o (m ∷ ms) q.to → X
-      by (inl (r, g, n, z, over)) = heard_apart m h (End r) e g (n1 r)
-      by (inr (i, g, w)) = heard_apart m h (Report p i) e g (n2 i)
+  -- it ends
+  pub delivery_end : (d : Download) (ms : List (List ℕ)) (hs : List NumberedReport) (y z aim : ℕ) (m : List ℕ)
+      (r : ReportResponse) → heard_in m ≡ Ok (End r) → Over r z aim → Delivery p (Some d) ms hs y aim
+      → Delivery p None (ms ++ m ∷ []) hs z aim
+  delivery_end d [] hs y z aim m r g v (n, q) = inl (r, g, refl, refl, n, v)
+  delivery_end d (i ∷ ms) hs y z aim m r g v (inl (r', a, e, n, u, w)) = absurd (none-some d (sym n))
+  delivery_end d (i ∷ ms) hs y z aim m r g v (inr (j, is, e, n, q)) =
+      inr (j, is, e, n, delivery_end d ms is y z aim m r g v q)
+
+  -- ---- what is at the front of it
+
+  module _ (o : Option Download) (m : List ℕ) (ms : List (List ℕ)) (hs : List NumberedReport) (y aim : ℕ)
+      (q : Delivery p o (m ∷ ms) hs y aim) where
+    -- a report is of its partition
+    pub delivery_part : (u : Partition) (h : NumberedReport) → heard_in m ≡ Ok (Report u h) → u ≡ p
+    delivery_part u h e = by q
+      where
+        part : (i : NumberedReport) → Report u h ≡ Report p i → u ≡ p
+        part i z = cc
+
+        by : Delivery p o (m ∷ ms) hs y aim → u ≡ p
+        by (inl (r, g, n, z, w, v)) = heard_apart m (Report u h) (End r) e g (λ i. cc)
+        by (inr (i, is, g, n, w)) = part i (same_heard (Report u h) (Report p i) (heard_in m) e g)
+
+    -- and the first of those under way
+    pub delivery_next : (h : NumberedReport) → heard_in m ≡ Ok (Report p h)
+        → (is : List NumberedReport) × (hs ≡ h ∷ is) × Delivery p o ms is y aim
+    delivery_next h e = by q
+      where
+        told : (i : NumberedReport) → Report p i ≡ Report p h → i ≡ h
+        told i z = cc
+
+        by : Delivery p o (m ∷ ms) hs y aim → (is : List NumberedReport) × (hs ≡ h ∷ is) × Delivery p o ms is y aim
+        by (inl (r, g, n, z, w, v)) = heard_apart m (Report p h) (End r) e g (λ i. cc)
+        by (inr (i, is, g, n, w)) =
+            (is, n ∙ ap (λ z. z ∷ is) (told i (same_heard (Report p i) (Report p h) (heard_in m) g e)), w)
+
+    -- its end is the last
+    pub delivery_over : (r : ReportResponse) → heard_in m ≡ Ok (End r)
+        → (ms ≡ []) × (o ≡ None) × (hs ≡ []) × Over r y aim
+    delivery_over r e = by q
+      where
+        same : (i : ReportResponse) → End i ≡ End r → i ≡ r
+        same i z = cc
+
+        by : Delivery p o (m ∷ ms) hs y aim → (ms ≡ []) × (o ≡ None) × (hs ≡ []) × Over r y aim
+        by (inl (i, g, n, z, w, v)) =
+            (n, z, w, subst (λ j. Over j y aim) (same i (same_heard (End i) (End r) (heard_in m) g e)) v)
+        by (inr (i, is, g, n, w)) = heard_apart m (End r) (Report p i) e g (λ j. cc)
+
+    -- and nothing else is there
+    pub delivery_other : {X : Type 0} (h : Heard) → heard_in m ≡ Ok h → ((r : ReportResponse) → h ≡ End r → ⊥)
+        → ((i : NumberedReport) → h ≡ Report p i → ⊥) → X
+    delivery_other {X} h e n1 n2 = by q
+      where
+        by : Delivery p o (m ∷ ms) hs y aim → X
+        by (inl (r, g, n, z, w, v)) = heard_apart m h (End r) e g (n1 r)
+        by (inr (i, is, g, n, w)) = heard_apart m h (Report p i) e g (n2 i)

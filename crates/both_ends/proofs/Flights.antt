@@ -1,5 +1,5 @@
 -- The numbers of an owner's reports: which comes next, what was passed, and what grows. Assumes nothing.
-use Rattle.std.proofs.Common.{◌≡◌, ◌⊎◌, inl, inr, ℕ, zero, suc, ◌<◌, ◌≤◌, true, false, List, [], ◌∷◌, ◌++◌, Some, None, Option, length, refl, sym, ap, ◌∙◌, subst, arith}
+use Rattle.std.proofs.Common.{◌≡◌, ◌⊎◌, inl, inr, ℕ, zero, suc, ◌<◌, ◌≤◌, true, false, List, [], ◌∷◌, ◌++◌, append-nil, Some, None, Option, length, refl, sym, ap, ◌∙◌, subst, arith}
 use Rattle.std.proofs.lemmas.Bool.{cases_lt, eqb-true}
 use Rattle.keyed.specs.Numbers.{under}
 use Rattle.reports.specs.declared.report.Entry.{Entry}
@@ -45,6 +45,9 @@ next_grown c l l' a n g h =
       hers = hers_grown c l l' n g h.hers;
       between = λ j lt le. ap (is_of c) (stays_under l l' j g (omega (arith, le, w))) ∙ h.between j lt le;
     }
+
+pub same : (l : List Entry) → Grown l l
+same l = ([], sym (append-nil l))
 
 pub longer : (l l' : List Entry) → Grown l l' → length l ≤ length l'
 longer l l' (more, e) = subst (λ (xs : List Entry). length l ≤ length xs) (sym e) (by l)

@@ -5,11 +5,11 @@ use Rattle.std.proofs.Common.{◌≡◌, ◌⊎◌, inl, inr, ℕ, ◌≤◌, ma
 use Rattle.codes.specs.declared.session.Partition.{Partition}
 use Rattle.codes.specs.declared.session.Partition.TheVariants.{One, Two, Three}
 use Rattle.both_ends.proofs.Carrying.{Front, front, reports_of}
-use Rattle.both_ends.proofs.Marks.{Whole, missed, based_anew}
+use Rattle.both_ends.proofs.Marks.{Whole, Load, unloaded, missed, based_anew}
 use Rattle.both_ends.proofs.Given.{same_bytes, Stands, lives, Recovers, acks, failed_acks, rejects, failed_rejects, ends, reports, repeats}
-use Rattle.both_ends.proofs.Keeping.{Only, or_one, Keeps, Phase, Joined, marks_of, place_in, Taking, Channelled, Refuses, Refusing, channelled_on, phase_on, idle_where, keeps_taken}
+use Rattle.both_ends.proofs.Keeping.{Only, or_one, Keeps, Phase, Joined, marks_of, place_in, Taking, Channelled, Refuses, Refusing, channelled_on, phase_on, idle_where, unloads, at_unloads, keeps_taken}
 use Rattle.both_ends.proofs.Living.{popped, taken_popped, is_next, with_live, in_front, tallied_as}
-use Rattle.both_ends.specs.Agreement.{is_hers, is_unfit, place, Taken, HeardAs}
+use Rattle.both_ends.specs.Agreement.{is_hers, is_unfit, Taken, HeardAs}
 use Rattle.both_ends.specs.Allowed.{Line, next_of, out_of_turn, next_live, given_live, or_lost, repeated, next_report, next_other, given_recovered}
 use Rattle.both_ends.specs.Laws.{is_full}
 use Rattle.both_ends.specs.Runs.{Desk}
@@ -198,20 +198,25 @@ module _ (c : ℕ) (s : State) (d : Desk) (x : Line) (t : Taking) (sound : Sound
             record {
               y = y';
               b = y';
-              parts = by_partition (λ q i. Whole c (record (marks_of s.venue.kept (session s c) f rest_line z.y z.y q) {
-                brought = i;
-                base = i;
-              })) z.y p (max (at z.y p) (number_of h))
-                  (missed c (marks_of s.venue.kept (session s c) f x z.y z.b p) h (reports_of p rest)
+              ds = unloads y';
+              parts = λ q. subst (λ i. Whole c (record (marks_of s.venue.kept (session s c) f rest_line y' y' z.ds q) {
+                load = i;
+              })) (sym (at_unloads y' q)) (by_partition (λ q i. Whole c
+                  (record (marks_of s.venue.kept (session s c) f rest_line z.y z.y z.ds q) {
+                    brought = i;
+                    base = i;
+                    load = unloaded i;
+                  })) z.y p (max (at z.y p) (number_of h))
+                  (missed c (marks_of s.venue.kept (session s c) f x z.y z.b z.ds p) h (reports_of p rest)
                   (in_front c s.venue.kept (session s c) f x rest t p h z in_turn) (fallen p))
-                  (λ q ne. based_anew c (marks_of s.venue.kept (session s c) f rest_line z.y z.b q) (fallen q)
+                  (λ q ne. based_anew c (marks_of s.venue.kept (session s c) f rest_line z.y z.b z.ds q) (fallen q)
                   (with_live c s.venue.kept (session s c) f x rest t p h z in_turn q (reports_of q rest)
-                  (in_turn.others q ne)));
+                  (in_turn.others q ne))) q);
               taken = taken_popped (place_in f) t none z.y p h only z.taken;
-              staged = subst (λ g. Channelled x.opening g c s.venue.kept (place_in f) z.b (download (session s c)) x
-                  → Channelled x.opening g c s.venue.kept (place_in f) y' (download (session s c)) rest_line)
+              staged = subst (λ g. Channelled x.opening g z.ds (download (session s c)) x
+                  → Channelled x.opening g (unloads y') (download (session s c)) rest_line)
                   (sym (idle_where f.line dn))
-                  (channelled_on x.opening Idle c s.venue.kept s.venue.kept (place_in f) (place_in f) z.b y'
+                  (channelled_on x.opening Idle z.ds (unloads y')
                   (download (session s c)) (download (session s c)) x rest_line refl refl (λ g. g) (λ st. st)) z.staged;
             }
 
@@ -410,8 +415,8 @@ module _ (c : ℕ) (s : State) (d : Desk) (x : Line) (t : Taking) (sound : Sound
   quiet_on : (h : Heard) → is_up f ≡ true → Quiet (recovering f h).after
   quiet_on h up = subst (λ (a : Step Recovered). Quiet a.after) (is_on h up) (stays_quiet.recovers f (Ok h) k.quiet)
 
-  abbrev StillAt : PerPartition ℕ → Line → Type 0
-  StillAt b y = Channelled y.opening Idle c s.venue.kept (place d) b (download (session s c)) y
+  abbrev StillAt : PerPartition Load → Line → Type 0
+  StillAt b y = Channelled y.opening Idle b (download (session s c)) y
 
   empty_front : {X : Type 0} (m : List ℕ) (rest : List (List ℕ)) → x.recovered ≡ m ∷ rest → x.recovered ≡ [] → X
   empty_front m rest e z = absurd (let y : m ∷ rest ≡ [] = sym e ∙ z in cc)
@@ -422,7 +427,7 @@ module _ (c : ℕ) (s : State) (d : Desk) (x : Line) (t : Taking) (sound : Sound
 
   -- a follower that is not up takes nothing, and has nothing under way on the recovery channel; or no connection counts
   off_still : (y : Line) (h : Heard) → is_up f ≡ false → y.connection ≡ x.connection → y.live ≡ x.live
-      → ((b : PerPartition ℕ) → StillAt b x → StillAt b y)
+      → ((b : PerPartition Load) → StillAt b x → StillAt b y)
       → Goes c s (refused {A = Recovered} fault.NotUp f) y
       (or_one t (took (refused {A = Recovered} fault.NotUp f) (Ok h)))
   off_still y h dn eu el same = record {
@@ -456,13 +461,14 @@ module _ (c : ℕ) (s : State) (d : Desk) (x : Line) (t : Taking) (sound : Sound
       joined z = record {
         y = z.y;
         b = z.b;
-        parts = λ p. subst (λ ms. Whole c (record (marks_of s.venue.kept (session s c) f x z.y z.b p) {
+        ds = z.ds;
+        parts = λ p. subst (λ ms. Whole c (record (marks_of s.venue.kept (session s c) f x z.y z.b z.ds p) {
           live = reports_of p ms;
         })) (sym el) (z.parts p);
         taken = λ p n i. z.taken p n (old p n i);
-        staged = subst (λ g. Channelled x.opening g c s.venue.kept (place_in f) z.b (download (session s c)) x
-            → Channelled y.opening g c s.venue.kept (place_in f) z.b (download (session s c)) y) (sym (idle_where f.line dn))
-            (same z.b) z.staged;
+        staged = subst (λ g. Channelled x.opening g z.ds (download (session s c)) x
+            → Channelled y.opening g z.ds (download (session s c)) y) (sym (idle_where f.line dn))
+            (same z.ds) z.staged;
       }
 
   off_same : (h : Heard) (l : Line) → is_up f ≡ false → x ≡ l
@@ -477,7 +483,7 @@ module _ (c : ℕ) (s : State) (d : Desk) (x : Line) (t : Taking) (sound : Sound
   taken_none (Err e) h = h
 
   abbrev ChannelledUp : Opening → UpNow → Type 0
-  ChannelledUp o u = Channelled o (download_of f) c s.venue.kept (place_in f) u.up.b (download (session s c)) x
+  ChannelledUp o u = Channelled o (download_of f) u.up.ds (download (session s c)) x
 
   -- what comes of something that is no report and the next under way
   abbrev Others : Heard → List (List ℕ) → Taking → Type 0
@@ -517,14 +523,14 @@ module _ (c : ℕ) (s : State) (d : Desk) (x : Line) (t : Taking) (sound : Sound
       front : x.recovered ≡ m ∷ rest
       front = next_is m x.recovered rest e
 
-      popped : (b : PerPartition ℕ) (o : Opening) → x.opening ≡ o
-          → Channelled o Idle c s.venue.kept (place d) b (download (session s c)) x
-          → Channelled x.opening Idle c s.venue.kept (place d) b (download (session s c))
+      popped : (b : PerPartition Load) (o : Opening) → x.opening ≡ o
+          → Channelled o Idle b (download (session s c)) x
+          → Channelled x.opening Idle b (download (session s c))
           (record x { recovered = rest; again = [] })
       popped b Awaited i (n, (r, a, z), st) = empty_front m rest front r
       popped b Open i (a, r, g, z) = empty_front m rest front r
       popped b Failed i (n, r, a, z) =
-          subst (λ o. Channelled o Idle c s.venue.kept (place d) b (download (session s c))
+          subst (λ o. Channelled o Idle b (download (session s c))
           (record x { recovered = rest; again = [] })) (sym i) (n, (refusing_front m rest front r).1, refl, z)
 
   -- a report comes next, or again
@@ -539,7 +545,7 @@ module _ (c : ℕ) (s : State) (d : Desk) (x : Line) (t : Taking) (sound : Sound
 
     -- where a Logon was no message only refusals are under way
     comes_next : (u : UpNow) (rest : List (List ℕ)) → x.recovered ≡ m ∷ rest → (o : Opening) → x.opening ≡ o
-        → Channelled o (download_of f) c s.venue.kept (place_in f) u.up.b (download (session s c)) x
+        → Channelled o (download_of f) u.up.ds (download (session s c)) x
         → Told (record x { recovered = rest; again = m ∷ x.again })
     comes_next u rest front Awaited i (n, (r, a, z), st) = empty_front m rest front r
     comes_next u rest front Open i st = reports c s.venue (session s c) sound few f x m t
@@ -547,8 +553,8 @@ module _ (c : ℕ) (s : State) (d : Desk) (x : Line) (t : Taking) (sound : Sound
         refl st
     comes_next u rest front Failed i (n, r, a, z) = absurd (subst Refuses heard (refusing_front m rest front r).0)
 
-    none_next : {X : Type 0} (b : PerPartition ℕ) (rest : List (List ℕ)) → x.recovered ≡ m ∷ rest → (o : Opening)
-        → Channelled o Idle c s.venue.kept (place d) b (download (session s c)) x → X
+    none_next : {X : Type 0} (b : PerPartition Load) (rest : List (List ℕ)) → x.recovered ≡ m ∷ rest → (o : Opening)
+        → Channelled o Idle b (download (session s c)) x → X
     none_next b rest front Awaited (n, (r, a, z), st) = empty_front m rest front r
     none_next b rest front Open (a, r, g, z) = empty_front m rest front r
     none_next b rest front Failed (n, r, a, z) = absurd (subst Refuses heard (refusing_front m rest front r).0)
@@ -558,7 +564,7 @@ module _ (c : ℕ) (s : State) (d : Desk) (x : Line) (t : Taking) (sound : Sound
         = subst (λ y. list_any (bytes_eq m) y ≡ true) a w in cc)
 
     comes_again : (u : UpNow) → list_any (bytes_eq m) x.again ≡ true → (o : Opening) → x.opening ≡ o
-        → Channelled o (download_of f) c s.venue.kept (place_in f) u.up.b (download (session s c)) x → Told x
+        → Channelled o (download_of f) u.up.ds (download (session s c)) x → Told x
     comes_again u w Awaited i (n, (r, a, z), st) = none_again w a
     comes_again u w Open i st = repeats c s.venue (session s c) sound few f x m t (took (recovering f told) (Ok told))
         u p h heard (only_told p h (recovering f told)) i w (download_of f) refl st

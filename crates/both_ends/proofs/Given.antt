@@ -10,10 +10,10 @@ use Rattle.codes.specs.declared.session.AckResponse.TheVariants.{Successful, Lim
 use Rattle.codes.specs.declared.session.Partition.{Partition}
 use Rattle.codes.specs.declared.session.ReportResponse.{ReportResponse}
 use Rattle.codes.specs.declared.session.ReportResponse.TheVariants as ending
-use Rattle.both_ends.proofs.Carrying.{Tells, Run, Front, reports_of, Loads, Over, same_heard, heard_apart, run_down, loads_part, loads_next, loads_over, loads_other}
-use Rattle.both_ends.proofs.Marks.{Whole, SidedBy, levelled_to}
-use Rattle.both_ends.proofs.Flights.{Passed, Next, next_up, next_down}
-use Rattle.both_ends.proofs.Keeping.{Only, or_one, Known, repeats_up, Staged, Channelled, NoneRuns, Refusing, Repeats, Refuses, Taking, Joined, marks_of, place_in, opened, line_is}
+use Rattle.both_ends.proofs.Carrying.{Run, Front, reports_of, Delivery, OfPart, Over, same_heard, heard_apart, run_down, delivery_part, delivery_next, delivery_over, delivery_other}
+use Rattle.both_ends.proofs.Marks.{Whole, SidedBy, Load, Loaded, Known, AllKnown, reloaded, load_next, load_came, levelled_to}
+use Rattle.both_ends.proofs.Flights.{Passed, next_up, next_down}
+use Rattle.both_ends.proofs.Keeping.{Only, or_one, Staged, Channelled, NoneRuns, Refusing, Refuses, Taking, Joined, marks_of, place_in, opened, line_is}
 use Rattle.both_ends.proofs.Living.{Placed, after_fold, moves, joined_folded, is_next, joined_passed, with_hold, hold_places, joined_held, tallied_as, reaches}
 use Rattle.both_ends.specs.Agreement.{is_unfit}
 use Rattle.both_ends.specs.Allowed.{Line}
@@ -29,6 +29,7 @@ use Rattle.follower.specs.declared.answer.Live.TheVariants as live
 use Rattle.follower.specs.declared.answer.Recovered.{Recovered}
 use Rattle.follower.specs.declared.answer.Recovered.TheVariants as recovered
 use Rattle.follower.specs.declared.fault.FollowerFault.TheVariants as fault
+use Rattle.follower.specs.declared.heard.Heard.{Heard}
 use Rattle.follower.specs.declared.heard.Heard.TheVariants.{Report, Ack, End, Reject}
 use Rattle.follower.specs.declared.heard.NumberedReport.{NumberedReport}
 use Rattle.follower.specs.declared.hold.TheConstants.{HOLD}
@@ -42,6 +43,7 @@ use Rattle.keyed.specs.Numbers.{under}
 use Rattle.limits.specs.declared.TheConstants.{ORDERS}
 use Rattle.partitions.proofs.Written.{at_written, by_partition, or_as_it_was}
 use Rattle.partitions.specs.PerPartition.{at, with_at}
+use Rattle.partitions.specs.declared.per_partition.PerPartition.{PerPartition}
 use Rattle.reports.specs.Tally.{is_of}
 use Rattle.reports.specs.declared.report.Entry.{Entry}
 use Rattle.sessions.specs.Sessions.{download}
@@ -149,11 +151,11 @@ module _ (c : ℕ) (v : Books) (s : Session) (sound : Sound v) (few : length v.r
   Recovers a x t = (is_unfit a.answer ≡ false) × Stands c v s a.after x t
 
   -- all stands but for the download, what is asked, under way, and may come again
-  with_stage : (f : Following) (x x' : Line) (t u : Taking) (g : Stage) (a : Stands c v s f x t) → x'.live ≡ x.live
-      → ((q : Partition) (i : ℕ) → u q i → i ≤ max (place_in f q) (at a.up.y q))
-      → Channelled x'.opening g c v.kept (place_in f) a.up.b (download s) x'
-      → Stands c v s (record f { line = Up g }) x' (or_one t u)
-  with_stage f x x' t u g a l took st =
+  with_stage : (f : Following) (x x' : Line) (t u : Taking) (g : Stage) (ds : PerPartition Load) (a : Stands c v s f x t)
+      → x'.live ≡ x.live → ((q : Partition) (i : ℕ) → u q i → i ≤ max (place_in f q) (at a.up.y q))
+      → ((p : Partition) → Loaded c (at v.kept p) (place_in f p) (at a.up.b p) (at ds p))
+      → Channelled x'.opening g ds (download s) x' → Stands c v s (record f { line = Up g }) x' (or_one t u)
+  with_stage f x x' t u g ds a l took lds st =
       record {
         on = refl;
         known = a.known;
@@ -161,8 +163,9 @@ module _ (c : ℕ) (v : Books) (s : Session) (sound : Sound v) (few : length v.r
         up = record {
           y = a.up.y;
           b = a.up.b;
-          parts = λ p. subst (λ z. Whole c (record (marks_of v.kept s f x a.up.y a.up.b p) { live = reports_of p z })) (sym l)
-              (a.up.parts p);
+          ds = ds;
+          parts = λ p. subst (λ z. Whole c (record (marks_of v.kept s f x a.up.y a.up.b ds p) { live = reports_of p z }))
+              (sym l) (reloaded c (marks_of v.kept s f x a.up.y a.up.b a.up.ds p) (at ds p) (lds p) (a.up.parts p));
           taken = λ q i h. taken q i h;
           staged = st;
         };
@@ -173,80 +176,77 @@ module _ (c : ℕ) (v : Books) (s : Session) (sound : Sound v) (few : length v.r
       taken q i (inr h) = took q i h
 
   -- the download too
-  with_same : (f : Following) (x x' : Line) (t u : Taking) (a : Stands c v s f x t) → x'.live ≡ x.live
-      → ((q : Partition) (i : ℕ) → u q i → i ≤ max (place_in f q) (at a.up.y q))
-      → Channelled x'.opening (download_of f) c v.kept (place_in f) a.up.b (download s) x'
-      → Stands c v s f x' (or_one t u)
-  with_same f x x' t u a l took st =
+  with_same : (f : Following) (x x' : Line) (t u : Taking) (ds : PerPartition Load) (a : Stands c v s f x t)
+      → x'.live ≡ x.live → ((q : Partition) (i : ℕ) → u q i → i ≤ max (place_in f q) (at a.up.y q))
+      → ((p : Partition) → Loaded c (at v.kept p) (place_in f p) (at a.up.b p) (at ds p))
+      → Channelled x'.opening (download_of f) ds (download s) x' → Stands c v s f x' (or_one t u)
+  with_same f x x' t u ds a l took lds st =
       subst (λ i. Stands c v s (record f { line = i }) x' (or_one t u)) (sym (line_is f.line a.on))
-      (with_stage f x x' t u (download_of f) a l took st)
+      (with_stage f x x' t u (download_of f) ds a l took lds st)
 
   -- a report of the download that runs comes
   module _ (f : Following) (x : Line) (m : List ℕ) (rest : List (List ℕ)) (t u : Taking) (p : Partition)
-      (h : NumberedReport) (hd : heard_in m ≡ Ok (Report p h)) (only : Only p (number_of h) u)
-      (began : x.opening ≡ Open) where
-    abbrev pub taken_line : Line
-    taken_line = record x { recovered = rest; again = m ∷ x.again }
+      (h : NumberedReport) (hd : heard_in m ≡ Ok (Report p h)) (only : Only p (number_of h) u) (began : x.opening ≡ Open)
+    where
+      abbrev pub taken_line : Line
+      taken_line = record x { recovered = rest; again = m ∷ x.again }
 
-    -- the place has reached it
-    loaded_of : (a : Stands c v s f x t) (z : ℕ) → download_of f ≡ Running p → x.asked ≡ []
-        → Repeats c (at v.kept p) p (place_in f p) x.again → Tells c (at v.kept p) h
-        → is_of c (under (at v.kept p) (number_of h)) ≡ true → Loads c (at v.kept p) p (at a.up.b p) (download s) z rest
-        → z ≤ place_in f p → number_of h ≤ place_in f p → Stands c v s f taken_line (or_one t u)
-    loaded_of a z st k r tl is l zl le =
-        let known : Known c (at v.kept p) p (place_in f p) m = record {
-          report = h;
-          heard = hd;
-          tells = tl;
-          hers = is;
-          passed = le;
-        } in
-        with_same f x taken_line t u a refl taken_at
-        (opened x.opening (download_of f) c v.kept (place_in f) a.up.b (download s) taken_line began (subst
-        (λ g. Staged g c v.kept (place_in f) a.up.b (download s) taken_line) (sym st) (k, (known, r), z, zl, l)))
-      where
-        taken_at : (q : Partition) (i : ℕ) → u q i → i ≤ max (place_in f q) (at a.up.y q)
-        taken_at q i w =
-            let (e, z) = only q i w in
-            subst (λ r. i ≤ max (place_in f r) (at a.up.y r)) e (omega (arith, le, z))
+      -- the place has reached it
+      loaded_of : (a : Stands c v s f x t) (is : List NumberedReport) → download_of f ≡ Running p → x.asked ≡ []
+          → OfPart p x.again (at a.up.ds p).again → (at a.up.ds p).loaded ≡ h ∷ is
+          → Delivery p (download s) rest is (at a.up.ds p).to (at a.up.ds p).aim → number_of h ≤ place_in f p
+          → Stands c v s f taken_line (or_one t u)
+      loaded_of a is st k r e l le =
+          let d = at a.up.ds p in
+          let now : Load = record d { from = max d.from (number_of h); loaded = is; again = h ∷ d.again } in
+          let (came, left) = subst (λ z. OfPart p (m ∷ x.again) z.again × Delivery p (download s) rest z.loaded z.to z.aim)
+          (sym (at_written a.up.ds p now)) ((h, d.again, hd, refl, r), l) in
+          with_same f x taken_line t u (with_at a.up.ds p now) a refl taken_at
+          (or_as_it_was (λ q z. Loaded c (at v.kept q) (place_in f q) (at a.up.b q) z) a.up.ds p now
+          (load_came c (at v.kept p) (place_in f p) (at a.up.b p) d (a.up.parts p).loaded h is e le)
+          (λ q. (a.up.parts q).loaded))
+          (opened x.opening (download_of f) (with_at a.up.ds p now) (download s) taken_line began (subst
+          (λ g. Staged g (with_at a.up.ds p now) (download s) taken_line) (sym st) (k, came, left)))
+        where
+          taken_at : (q : Partition) (i : ℕ) → u q i → i ≤ max (place_in f q) (at a.up.y q)
+          taken_at q i w =
+              let (e, z) = only q i w in
+              subst (λ r. i ≤ max (place_in f r) (at a.up.y r)) e (omega (arith, le, z))
 
   module _ (f : Following) (x : Line) (m : List ℕ) (rest : List (List ℕ)) (t u : Taking) (p : Partition)
-      (h : NumberedReport) (hd : heard_in m ≡ Ok (Report p h)) (only : Only p (number_of h) u)
-      (began : x.opening ≡ Open) where
-    -- or not yet
-    recovered_there : (a : Stands c v s f x t) (z : ℕ) → download_of f ≡ Running p → x.asked ≡ []
-        → Repeats c (at v.kept p) p (place_in f p) x.again → z ≤ place_in f p → Tells c (at v.kept p) h
-        → Next c (at v.kept p) z (number_of h)
-        → Loads c (at v.kept p) p (at a.up.b p) (download s) (max z (number_of h)) rest
-        → (w : Bool) → leb (number_of h) (place_in f p) ≡ w
-        → Recovers (cond w (answered recovered.Already f) (folded recovered.Folded f p h))
-        (record x { recovered = rest; again = m ∷ x.again }) (or_one t u)
-    recovered_there a z st k r zl tl nx l true q =
-        let le : number_of h ≤ place_in f p = leb-true (number_of h) (place_in f p) q in (
-          refl,
-          loaded_of f x m rest t u p h hd only began a (max z (number_of h)) st k r tl nx.hers l (omega (arith, zl, le)) le,
-        )
-    recovered_there a z st k r zl tl nx l false q =
-        let n = number_of h in
-        let lt : place_in f p < n = leb-false n (place_in f p) q in
-        let mv = moves c v sound few f p h a.known a.placed lt (next_up c (at v.kept p) z (place_in f p) n zl nx) tl in
-        let g = after_fold f p n mv.after in
-        let here : place_in g p ≡ n = ap (λ (y : Side). y.place)
-        (at_written f.sides p (record (at f.sides p) { place = n })) in
-        let moved : Stands c v s g x t = record {
-          on = a.on;
-          known = mv.known;
-          placed = mv.placed;
-          up = joined_folded c v.kept s f p n
-              mv.after x t (omega (arith, lt)) a.up;
-        } in
-        subst (λ y. Recovers (folded_to recovered.Folded f p n y) (record x { recovered = rest; again = m ∷ x.again })
-        (or_one t u)) (sym mv.taken) (
-          refl,
-          loaded_of g x m rest t u p h hd only began moved (max z n) st k
-              (repeats_up c (at v.kept p) p (place_in f p) (place_in g p) x.again (omega (arith, lt, here)) r)
-              tl nx.hers l (omega (arith, zl, lt, here)) (omega (arith, here)),
-        )
+      (h : NumberedReport) (hd : heard_in m ≡ Ok (Report p h)) (only : Only p (number_of h) u) (began : x.opening ≡ Open)
+    where
+      -- or not yet
+      recovered_there : (a : Stands c v s f x t) (is : List NumberedReport) → download_of f ≡ Running p → x.asked ≡ []
+          → OfPart p x.again (at a.up.ds p).again → (at a.up.ds p).loaded ≡ h ∷ is
+          → Delivery p (download s) rest is (at a.up.ds p).to (at a.up.ds p).aim
+          → (w : Bool) → leb (number_of h) (place_in f p) ≡ w
+          → Recovers (cond w (answered recovered.Already f) (folded recovered.Folded f p h))
+          (record x { recovered = rest; again = m ∷ x.again }) (or_one t u)
+      recovered_there a is st k r e l true q =
+          (refl, loaded_of f x m rest t u p h hd only began a is st k r e l (leb-true (number_of h) (place_in f p) q))
+      recovered_there a is st k r e l false q =
+          let n = number_of h in
+          let d = at a.up.ds p in
+          let ld = (a.up.parts p).loaded in
+          let starts : d.from ≤ place_in f p = ld.starts in
+          let (tl, nx) = load_next c (at v.kept p) (place_in f p) (at a.up.b p) d ld h is e in
+          let lt : place_in f p < n = leb-false n (place_in f p) q in
+          let mv = moves c v sound few f p h a.known a.placed lt (next_up c (at v.kept p) d.from (place_in f p) n starts nx)
+          tl in
+          let g = after_fold f p n mv.after in
+          let here : place_in g p ≡ n = ap (λ (y : Side). y.place)
+          (at_written f.sides p (record (at f.sides p) { place = n })) in
+          let moved : Stands c v s g x t = record {
+            on = a.on;
+            known = mv.known;
+            placed = mv.placed;
+            up = joined_folded c v.kept s f p n
+                mv.after x t (omega (arith, lt)) a.up;
+          } in
+          subst (λ y. Recovers (folded_to recovered.Folded f p n y) (record x { recovered = rest; again = m ∷ x.again })
+          (or_one t u)) (sym mv.taken)
+          (refl, loaded_of g x m rest t u p h hd only began moved is st k r e l (omega (arith, here)))
 
   -- ---- by what is heard at the front of what is under way
 
@@ -265,8 +265,8 @@ module _ (c : ℕ) (v : Books) (s : Session) (sound : Sound v) (few : length v.r
     -- the download is over, with nothing behind its end
     over : x.asked ≡ [] → rest ≡ [] → download s ≡ None
         → Stands c v s (no_download f) other_line (or_one t u)
-    over k e o = with_stage f x other_line t u Idle a refl nothing_taken
-        (opened x.opening Idle c v.kept (place_in f) a.up.b (download s) other_line began (k, e, refl, o))
+    over k e o = with_stage f x other_line t u Idle a.up.ds a refl nothing_taken (λ p. (a.up.parts p).loaded)
+        (opened x.opening Idle a.up.ds (download s) other_line began (k, e, refl, o))
 
     tail_is : (m' : List ℕ) (ms : List (List ℕ)) → x.recovered ≡ m' ∷ ms → ms ≡ rest
     tail_is m' ms e = by (sym e ∙ front)
@@ -288,50 +288,54 @@ module _ (c : ℕ) (v : Books) (s : Session) (sound : Sound v) (few : length v.r
     ack_refused p InvalidAppId w k e o = (refl, over k e o)
     ack_refused p ServiceUnavailable w k e o = (refl, over k e o)
 
-    ack_granted : (p : Partition) (r : AckResponse) → r ≡ Successful → x.asked ≡ [] → (z : ℕ) → z ≤ place_in f p
-        → Loads c (at v.kept p) p (at a.up.b p) (download s) z rest
+    ack_granted : (p : Partition) (r : AckResponse) → r ≡ Successful → x.asked ≡ [] → (at a.up.ds p).again ≡ []
+        → Delivery p (download s) rest (at a.up.ds p).loaded (at a.up.ds p).to (at a.up.ds p).aim
         → Recovers (acked_of f p r) other_line (or_one t u)
-    ack_granted p Successful e k z le l = (
+    ack_granted p Successful e k g l = (
       refl,
-      with_stage f x other_line t u (Running p) a refl nothing_taken
-          (opened x.opening (Running p) c v.kept (place_in f) a.up.b (download s) other_line began (k, tt, z, le, l)),
+      with_stage f x other_line t u (Running p) a.up.ds a refl nothing_taken (λ q. (a.up.parts q).loaded)
+          (opened x.opening (Running p) a.up.ds (download s) other_line began (k, g, l)),
     )
-    ack_granted p LimitReached e k z le l = absurd cc
-    ack_granted p InvalidAppId e k z le l = absurd cc
-    ack_granted p ServiceUnavailable e k z le l = absurd cc
+    ack_granted p LimitReached e k g l = absurd cc
+    ack_granted p InvalidAppId e k g l = absurd cc
+    ack_granted p ServiceUnavailable e k g l = absurd cc
 
-    front_of : (p : Partition) (z : ℕ) → Loads c (at v.kept p) p (at a.up.b p) (download s) z x.recovered
-        → Loads c (at v.kept p) p (at a.up.b p) (download s) z (m ∷ rest)
-    front_of p z l = subst (λ q. Loads c (at v.kept p) p (at a.up.b p) (download s) z q) front l
+    abbrev DeliveryOf : Partition → List (List ℕ) → Type 0
+    DeliveryOf p ms = Delivery p (download s) ms (at a.up.ds p).loaded (at a.up.ds p).to (at a.up.ds p).aim
 
-    pub acks : (g : Stage) → Staged g c v.kept (place_in f) a.up.b (download s) x → (r : AckResponse) → heard_in m
-        ≡ Ok (Ack r) → Recovers (acked f g r) other_line (or_one t u)
+    front_of : (p : Partition) → DeliveryOf p x.recovered → DeliveryOf p (m ∷ rest)
+    front_of p l = subst (DeliveryOf p) front l
+
+    nothing_else : {X : Type 0} (p : Partition) (i : Heard) → DeliveryOf p x.recovered → heard_in m ≡ Ok i
+        → ((r : ReportResponse) → i ≡ End r → ⊥) → ((h : NumberedReport) → i ≡ Report p h → ⊥) → X
+    nothing_else p i l h n1 n2 = delivery_other p (download s) m rest (at a.up.ds p).loaded (at a.up.ds p).to
+        (at a.up.ds p).aim (front_of p l) i h n1 n2
+
+    pub acks : (g : Stage) → Staged g a.up.ds (download s) x → (r : AckResponse) → heard_in m ≡ Ok (Ack r)
+        → Recovers (acked f g r) other_line (or_one t u)
     acks Idle (k, e, ag, o) r h = no_front x m rest front e
-    acks (Asked p) (ag, inl (z, k, rb, le, e, o)) r h = no_front x m rest front e
-    acks (Asked p) (ag, inr (inl (k, o, inl e))) r h = no_front x m rest front e
-    acks (Asked p) (ag, inr (inl (k, o, inr (m', e, w)))) r h =
+    acks (Asked p) (ag, ga, inl (k, rb, e, o)) r h = no_front x m rest front e
+    acks (Asked p) (ag, ga, inr (inl (k, o, inl e))) r h = no_front x m rest front e
+    acks (Asked p) (ag, ga, inr (inl (k, o, inr (m', e, w)))) r h =
         ack_refused p r (subst Refuses (ap heard_in (head_is m' [] e) ∙ h) w) k (sym (tail_is m' [] e)) o
-    acks (Asked p) (ag, inr (inr (k, m', ms, e, h', z, le, l))) r h =
+    acks (Asked p) (ag, ga, inr (inr (k, m', ms, e, h', l))) r h =
         ack_granted p r (inside (same_heard (Ack r) (Ack Successful) (heard_in m) h
-        (ap heard_in (sym (head_is m' ms e)) ∙ h'))) k z le
-        (subst (λ q. Loads c (at v.kept p) p (at a.up.b p) (download s) z q) (tail_is m' ms e) l)
+        (ap heard_in (sym (head_is m' ms e)) ∙ h'))) k ga (subst (DeliveryOf p) (tail_is m' ms e) l)
       where
         inside : {i j : AckResponse} → Ack i ≡ Ack j → i ≡ j
         inside q = cc
-    acks (Running p) (k, r', z, le, l) r h = loads_other c (at v.kept p) p (at a.up.b p) (download s) z m rest (front_of p z l) (Ack r) h (λ i q. cc)
-        (λ i w. cc)
+    acks (Running p) (k, r', l) r h = nothing_else p (Ack r) l h (λ i q. cc) (λ i w. cc)
 
     -- a Reject
-    pub rejects : (g : Stage) → Staged g c v.kept (place_in f) a.up.b (download s) x → heard_in m ≡ Ok Reject
+    pub rejects : (g : Stage) → Staged g a.up.ds (download s) x → heard_in m ≡ Ok Reject
         → Recovers (rejected f g) other_line (or_one t u)
     rejects Idle (k, e, ag, o) h = no_front x m rest front e
-    rejects (Asked p) (ag, inl (z, k, rb, le, e, o)) h = no_front x m rest front e
-    rejects (Asked p) (ag, inr (inl (k, o, inl e))) h = no_front x m rest front e
-    rejects (Asked p) (ag, inr (inl (k, o, inr (m', e, w)))) h = (refl, over k (sym (tail_is m' [] e)) o)
-    rejects (Asked p) (ag, inr (inr (k, m', ms, e, h', z', le', l'))) h =
+    rejects (Asked p) (ag, ga, inl (k, rb, e, o)) h = no_front x m rest front e
+    rejects (Asked p) (ag, ga, inr (inl (k, o, inl e))) h = no_front x m rest front e
+    rejects (Asked p) (ag, ga, inr (inl (k, o, inr (m', e, w)))) h = (refl, over k (sym (tail_is m' [] e)) o)
+    rejects (Asked p) (ag, ga, inr (inr (k, m', ms, e, h', l'))) h =
         heard_apart m Reject (Ack Successful) h (ap heard_in (sym (head_is m' ms e)) ∙ h') (λ q. cc)
-    rejects (Running p) (k, r', z, le, l) h = loads_other c (at v.kept p) p (at a.up.b p) (download s) z m rest (front_of p z l) Reject h
-        (λ i q. cc) (λ i w. cc)
+    rejects (Running p) (k, r', l) h = nothing_else p Reject l h (λ i q. cc) (λ i w. cc)
 
     -- the end of a download
     holds_from : (p : Partition) (st : Standing) (b y place : ℕ) → Passed c (at v.kept p) place (max place b)
@@ -345,13 +349,16 @@ module _ (c : ℕ) (v : Books) (s : Session) (sound : Sound v) (few : length v.r
     abbrev completed_side : ℕ → Side
     completed_side n = record { place = n; state = Level }
 
-    complete : (p : Partition) (z : ℕ) → x.asked ≡ [] → rest ≡ [] → download s ≡ None → z ≤ place_in f p
-        → (aim : ℕ) → at a.up.b p ≤ aim → Passed c (at v.kept p) z aim
-        → Recovers (completed f p) other_line (or_one t u)
-    complete p z k e o zk aim covers passed =
+    complete : (p : Partition) → x.asked ≡ [] → rest ≡ [] → download s ≡ None → (at a.up.ds p).loaded ≡ []
+        → (at a.up.ds p).to ≡ (at a.up.ds p).aim → Recovers (completed f p) other_line (or_one t u)
+    complete p k e o none_left aimed =
+        let d = at a.up.ds p in
+        let ld = (a.up.parts p).loaded in
+        let passed : Passed c (at v.kept p) d.from d.to = subst (λ hs. Run c (at v.kept p) d.from hs d.to) none_left ld.run in
+        let covers : at a.up.b p ≤ d.to = subst (λ z. at a.up.b p ≤ z) (sym aimed) ld.covers in
         let sd = at f.sides p in
         let ready = holds_from p sd.state (at a.up.b p) (at a.up.y p) sd.place
-        (passed_to (at v.kept p) z sd.place (at a.up.b p) aim zk covers passed) (a.up.parts p).sided in
+        (passed_to (at v.kept p) d.from sd.place (at a.up.b p) d.to ld.starts covers passed) (a.up.parts p).sided in
         let r = reaches c v sound few f.standings (place_in f) p (held_in sd.state) (at a.up.y p) a.known (a.placed p) ready in
         let n = r.after.place in
         let g : Following = record f {
@@ -374,11 +381,14 @@ module _ (c : ℕ) (v : Books) (s : Session) (sound : Sound v) (few : length v.r
             up = record {
               y = a.up.y;
               b = a.up.b;
-              parts = or_as_it_was (λ q z. Whole c (record (marks_of v.kept s f other_line a.up.y a.up.b q) { side = z }))
-                  f.sides p (completed_side n)
-                  (levelled_to c (marks_of v.kept s f other_line a.up.y a.up.b p) n r.passed (a.up.parts p)) a.up.parts;
+              ds = a.up.ds;
+              parts = or_as_it_was (λ q z. Whole c (record (marks_of v.kept s f other_line a.up.y a.up.b a.up.ds q) {
+                side = z;
+              })) f.sides p (completed_side n)
+                  (levelled_to c (marks_of v.kept s f other_line a.up.y a.up.b a.up.ds p) n r.up r.passed (a.up.parts p))
+                  a.up.parts;
               taken = λ q i h. taken g ups q i h;
-              staged = opened x.opening Idle c v.kept (place_in g) a.up.b (download s) other_line began (k, e, refl, o);
+              staged = opened x.opening Idle a.up.ds (download s) other_line began (k, e, refl, o);
             };
           },
         )
@@ -388,26 +398,26 @@ module _ (c : ℕ) (v : Books) (s : Session) (sound : Sound v) (few : length v.r
         taken g ups q i (inl h) = let w = a.up.taken q i h in let le = ups q in omega (arith, w, le)
         taken g ups q i (inr h) = absurd (none q i h)
 
-    ends_by : (p : Partition) (z : ℕ) (r : ReportResponse) → x.asked ≡ [] → rest ≡ [] → download s ≡ None
-        → z ≤ place_in f p → (y : ℕ) → Over (at a.up.b p) r y → Passed c (at v.kept p) z y
+    ends_by : (p : Partition) (r : ReportResponse) → x.asked ≡ [] → rest ≡ [] → download s ≡ None
+        → (at a.up.ds p).loaded ≡ [] → Over r (at a.up.ds p).to (at a.up.ds p).aim
         → Recovers (ended_of f p r) other_line (or_one t u)
-    ends_by p z ending.Complete k e o zk y over ps = complete p z k e o zk y over ps
-    ends_by p z ending.MessageLimit k e o zk y w ps = (refl, over k e o)
-    ends_by p z ending.ServiceUnavailable k e o zk y w ps = (refl, over k e o)
+    ends_by p ending.Complete k e o l w = complete p k e o l w
+    ends_by p ending.MessageLimit k e o l w = (refl, over k e o)
+    ends_by p ending.ServiceUnavailable k e o l w = (refl, over k e o)
 
-    pub ends : (g : Stage) → Staged g c v.kept (place_in f) a.up.b (download s) x → (r : ReportResponse) → heard_in m
-        ≡ Ok (End r) → Recovers (ended f g r) other_line (or_one t u)
+    pub ends : (g : Stage) → Staged g a.up.ds (download s) x → (r : ReportResponse) → heard_in m ≡ Ok (End r)
+        → Recovers (ended f g r) other_line (or_one t u)
     ends Idle (k, e, ag, o) r h = no_front x m rest front e
-    ends (Asked p) (ag, inl (z, k, rb, le, e, o)) r h = no_front x m rest front e
-    ends (Asked p) (ag, inr (inl (k, o, inl e))) r h = no_front x m rest front e
-    ends (Asked p) (ag, inr (inl (k, o, inr (m', e, w)))) r h = absurd
+    ends (Asked p) (ag, ga, inl (k, rb, e, o)) r h = no_front x m rest front e
+    ends (Asked p) (ag, ga, inr (inl (k, o, inl e))) r h = no_front x m rest front e
+    ends (Asked p) (ag, ga, inr (inl (k, o, inr (m', e, w)))) r h = absurd
         (subst Refuses (ap heard_in (head_is m' [] e) ∙ h) w)
-    ends (Asked p) (ag, inr (inr (k, m', ms, e, h', z', le', l'))) r h = heard_apart m (End r) (Ack Successful) h
+    ends (Asked p) (ag, ga, inr (inr (k, m', ms, e, h', l'))) r h = heard_apart m (End r) (Ack Successful) h
         (ap heard_in (sym (head_is m' ms e)) ∙ h') (λ q. cc)
-    ends (Running p) (k, r', z, le, l) r h =
-        let (e, o, y, w, within, ps) = loads_over c (at v.kept p) p (at a.up.b p) (download s) z m rest (front_of p z l)
-        r h in
-        ends_by p z r k e o le y w ps
+    ends (Running p) (k, r', l) r h =
+        let (e, o, n, w) = delivery_over p (download s) m rest (at a.up.ds p).loaded (at a.up.ds p).to (at a.up.ds p).aim
+        (front_of p l) r h in
+        ends_by p r k e o n w
 
   -- ---- on a channel whose first Logon was no message
 
@@ -424,8 +434,8 @@ module _ (c : ℕ) (v : Books) (s : Session) (sound : Sound v) (few : length v.r
     refused_front = (parts x.recovered front refuses).0
 
     with_failed : (g : Stage) → NoneRuns g → Stands c v s (record f { line = Up g }) failed_line (or_one t u)
-    with_failed g n = with_stage f x failed_line t u g a refl (λ q i h. absurd (none q i h))
-        (subst (λ h. Channelled h g c v.kept (place_in f) a.up.b (download s) failed_line) (sym fails)
+    with_failed g n = with_stage f x failed_line t u g a.up.ds a refl (λ q i h. absurd (none q i h))
+        (λ p. (a.up.parts p).loaded) (subst (λ h. Channelled h g a.up.ds (download s) failed_line) (sym fails)
         (n, (parts x.recovered front refuses).1, refl, runs))
 
     failed_on : NoneRuns (download_of f) → Stands c v s f failed_line (or_one t u)
@@ -449,15 +459,23 @@ module _ (c : ℕ) (v : Books) (s : Session) (sound : Sound v) (few : length v.r
 
   -- ---- a report of a download
 
-  there_before : (l : List Entry) (p : Partition) (k : ℕ) (m : List ℕ) (ms : List (List ℕ)) → Repeats c l p k ms
-      → list_any (bytes_eq m) ms ≡ true → Known c l p k m
-  there_before l p k m [] r h = absurd cc
-  there_before l p k m (i ∷ ms) (w, r) h = by (λ g. there_before l p k m ms r g) (bytes_eq m i) refl h
+  -- one that came is a report of its partition, at or below the place
+  record Came (l : List Entry) (p : Partition) (k : ℕ) (m : List ℕ) : Type 0 where
+    pub report : NumberedReport
+    pub heard : heard_in m ≡ Ok (Report p report)
+    pub known : Known c l k report
+
+  there_before : (l : List Entry) (p : Partition) (k : ℕ) (m : List ℕ) (ms : List (List ℕ)) (hs : List NumberedReport)
+      → OfPart p ms hs → AllKnown c l k hs → list_any (bytes_eq m) ms ≡ true → Came l p k m
+  there_before l p k m [] hs r w h = absurd cc
+  there_before l p k m (i ∷ ms) hs (g, is, e, n, r) w h =
+      let (u, z) = subst (λ js. AllKnown c l k js) n w in
+      by (record { report = g; heard = e; known = u }) (λ y. there_before l p k m ms is r z y) (bytes_eq m i) refl h
     where
-      by : (list_any (bytes_eq m) ms ≡ true → Known c l p k m) → (b : Bool) → bytes_eq m i ≡ b
-          → (b || list_any (bytes_eq m) ms) ≡ true → Known c l p k m
-      by rest true q g = subst (λ j. Known c l p k j) (sym (same_bytes m i q)) w
-      by rest false q g = rest g
+      by : Came l p k i → (list_any (bytes_eq m) ms ≡ true → Came l p k m) → (b : Bool) → bytes_eq m i ≡ b
+          → (b || list_any (bytes_eq m) ms) ≡ true → Came l p k m
+      by w rest true q g = subst (λ j. Came l p k j) (sym (same_bytes m i q)) w
+      by w rest false q g = rest g
 
   module _ (f : Following) (x : Line) (m : List ℕ) (t u : Taking) (a : Stands c v s f x t) (q : Partition) (h : NumberedReport)
       (hd : heard_in m ≡ Ok (Report q h)) (only : Only q (number_of h) u) (began : x.opening ≡ Open) where
@@ -472,58 +490,53 @@ module _ (c : ℕ) (v : Books) (s : Session) (sound : Sound v) (few : length v.r
     abbrev pub HersIt : Type 0
     HersIt = is_of c (under (at v.kept q) (number_of h)) ≡ true
 
+    head_of : {i j : List ℕ} {is js : List (List ℕ)} → i ∷ is ≡ j ∷ js → i ≡ j
+    head_of e = cc
+
     -- the next under way
     pub reports : (rest : List (List ℕ)) → x.recovered ≡ m ∷ rest → (g : Stage) → download_of f ≡ g
-        → Staged g c v.kept (place_in f) a.up.b (download s) x
-        → Recovers (reported f g q h) (record x { recovered = rest; again = m ∷ x.again }) (or_one t u)
-        × HersIt
+        → Staged g a.up.ds (download s) x
+        → Recovers (reported f g q h) (record x { recovered = rest; again = m ∷ x.again }) (or_one t u) × HersIt
     reports rest front Idle st (k, e, ag, o) = no_front x m rest front e
-    reports rest front (Asked p) st (ag, inl (z, k, rb, le, e, o)) = no_front x m rest front e
-    reports rest front (Asked p) st (ag, inr (inl (k, o, inl e))) = no_front x m rest front e
-    reports rest front (Asked p) st (ag, inr (inl (k, o, inr (m', e, w)))) = absurd
+    reports rest front (Asked p) st (ag, ga, inl (k, rb, e, o)) = no_front x m rest front e
+    reports rest front (Asked p) st (ag, ga, inr (inl (k, o, inl e))) = no_front x m rest front e
+    reports rest front (Asked p) st (ag, ga, inr (inl (k, o, inr (m', e, w)))) = absurd
         (subst Refuses (ap heard_in (head_of (sym e ∙ front)) ∙ hd) w)
-      where
-        head_of : {i j : List ℕ} {is js : List (List ℕ)} → i ∷ is ≡ j ∷ js → i ≡ j
-        head_of e = cc
-    reports rest front (Asked p) st (ag, inr (inr (k, m', ms, e, h', z', le', l'))) = heard_apart m (Report q h)
+    reports rest front (Asked p) st (ag, ga, inr (inr (k, m', ms, e, h', l'))) = heard_apart m (Report q h)
         (Ack Successful) hd (ap heard_in (sym (head_of (sym e ∙ front))) ∙ h') (λ z. cc)
-      where
-        head_of : {i j : List ℕ} {is js : List (List ℕ)} → i ∷ is ≡ j ∷ js → i ≡ j
-        head_of e = cc
     reports rest front (Running p) st sg = subst
-        (λ i. (download_of f) ≡ Running i → Staged (Running i) c v.kept (place_in f) a.up.b (download s) x
-        → Recovers (reported f (Running i) q h) (record x { recovered = rest; again = m ∷ x.again })
-        (or_one t u) × HersIt) (part p sg) here st sg
+        (λ i. download_of f ≡ Running i → Staged (Running i) a.up.ds (download s) x
+        → Recovers (reported f (Running i) q h) (record x { recovered = rest; again = m ∷ x.again }) (or_one t u) × HersIt)
+        (part p sg) here st sg
       where
-        front_of : (p : Partition) (z : ℕ) → Loads c (at v.kept p) p (at a.up.b p) (download s) z x.recovered
-            → Loads c (at v.kept p) p (at a.up.b p) (download s) z (m ∷ rest)
-        front_of p z l = subst (λ y. Loads c (at v.kept p) p (at a.up.b p) (download s) z y) front l
+        part : (p : Partition) → Staged (Running p) a.up.ds (download s) x → q ≡ p
+        part p (k, r, l) =
+            let d = at a.up.ds p in
+            delivery_part p (download s) m rest d.loaded d.to d.aim
+            (subst (λ y. Delivery p (download s) y d.loaded d.to d.aim) front l) q h hd
 
-        part : (p : Partition) → Staged (Running p) c v.kept (place_in f) a.up.b (download s) x → q ≡ p
-        part p (k, r, z, zk, l) =
-            loads_part c (at v.kept p) p (at a.up.b p) (download s) z m rest (front_of p z l) q h hd
-
-        here : download_of f ≡ Running q → Staged (Running q) c v.kept (place_in f) a.up.b (download s) x
-            → Recovers (reported f (Running q) q h) (record x { recovered = rest; again = m ∷ x.again })
-            (or_one t u) × HersIt
-        here st (k, r, z, zk, l) =
-            let (tl, nx, l') = loads_next c (at v.kept q) q (at a.up.b q) (download s) z m rest (front_of q z l) h hd in (
+        here : download_of f ≡ Running q → Staged (Running q) a.up.ds (download s) x
+            → Recovers (reported f (Running q) q h) (record x { recovered = rest; again = m ∷ x.again }) (or_one t u)
+            × HersIt
+        here st (k, r, l) =
+            let d = at a.up.ds q in
+            let (is, e, l') = delivery_next q (download s) m rest d.loaded d.to d.aim
+            (subst (λ y. Delivery q (download s) y d.loaded d.to d.aim) front l) h hd in
+            let nx = load_next c (at v.kept q) (place_in f q) (at a.up.b q) d (a.up.parts q).loaded h is e in (
               of_its (record x { recovered = rest; again = m ∷ x.again })
-                  (recovered_there f x m rest t u q h hd only began a z st k r zk tl nx l' (leb (number_of h) (place_in f q))
-                  refl),
-              nx.hers,
+                  (recovered_there f x m rest t u q h hd only began a is st k r e l' (leb (number_of h) (place_in f q)) refl),
+              nx.1.hers,
             )
 
     -- one that came before
     pub repeats : list_any (bytes_eq m) x.again ≡ true → (g : Stage) → download_of f ≡ g
-        → Staged g c v.kept (place_in f) a.up.b (download s) x → Recovers (reported f g q h) x (or_one t u)
-        × HersIt
+        → Staged g a.up.ds (download s) x → Recovers (reported f g q h) x (or_one t u) × HersIt
     repeats w Idle st (k, e, ag, o) = absurd (let z : list_any (bytes_eq m) []
         ≡ true = subst (λ y. list_any (bytes_eq m) y ≡ true) ag w in cc)
-    repeats w (Asked p) st (ag, y) = absurd (let z : list_any (bytes_eq m) []
+    repeats w (Asked p) st (ag, ga, y) = absurd (let z : list_any (bytes_eq m) []
         ≡ true = subst (λ y. list_any (bytes_eq m) y ≡ true) ag w in cc)
     repeats w (Running p) st sg = subst
-        (λ i. (download_of f) ≡ Running i → Staged (Running i) c v.kept (place_in f) a.up.b (download s) x
+        (λ i. download_of f ≡ Running i → Staged (Running i) a.up.ds (download s) x
         → Recovers (reported f (Running i) q h) x (or_one t u) × HersIt) (part p sg) here st sg
       where
         taken : number_of h ≤ place_in f q → (r : Partition) (j : ℕ) → u r j → j ≤ max (place_in f r) (at a.up.y r)
@@ -531,29 +544,31 @@ module _ (c : ℕ) (v : Books) (s : Session) (sound : Sound v) (few : length v.r
             let (e, z) = only r j w in
             subst (λ y. j ≤ max (place_in f y) (at a.up.y y)) e (omega (arith, le, z))
 
-        part : (p : Partition) → Staged (Running p) c v.kept (place_in f) a.up.b (download s) x → q ≡ p
-        part p (k, r, z, zk, l) =
-            let b = there_before (at v.kept p) p (place_in f p) m x.again r w in
+        came : (p : Partition) → OfPart p x.again (at a.up.ds p).again → Came (at v.kept p) p (place_in f p) m
+        came p r = there_before (at v.kept p) p (place_in f p) m x.again (at a.up.ds p).again r (a.up.parts p).loaded.known w
+
+        part : (p : Partition) → Staged (Running p) a.up.ds (download s) x → q ≡ p
+        part p (k, r, l) = let b = came p r in
             by p b.report (same_heard (Report q h) (Report p b.report) (heard_in m) hd b.heard)
           where
             by : (p : Partition) (i : NumberedReport) → Report q h ≡ Report p i → q ≡ p
             by p i e = cc
 
-        here : download_of f ≡ Running q → Staged (Running q) c v.kept (place_in f) a.up.b (download s) x
+        here : download_of f ≡ Running q → Staged (Running q) a.up.ds (download s) x
             → Recovers (reported f (Running q) q h) x (or_one t u) × HersIt
-        here st (k, r, z, zk, l) =
-            let b = there_before (at v.kept q) q (place_in f q) m x.again r w in
+        here st (k, r, l) =
+            let b = came q r in
             let same = by b.report (same_heard (Report q b.report) (Report q h) (heard_in m) b.heard hd) in
-            let le : number_of h ≤ place_in f q = subst (λ i. number_of i ≤ place_in f q) same b.passed in (
+            let le : number_of h ≤ place_in f q = subst (λ i. number_of i ≤ place_in f q) same b.known.passed in (
               of_its x
                   (subst (λ y. Recovers (cond y (answered recovered.Already f)
                   (folded recovered.Folded f q h)) x (or_one t u)) (sym (le-leb (number_of h) (place_in f q) le)) (
                     refl,
-                    with_same f x x t u a refl (taken le)
-                        (opened x.opening (download_of f) c v.kept (place_in f) a.up.b (download s) x began
-                        (subst (λ g. Staged g c v.kept (place_in f) a.up.b (download s) x) (sym st) (k, r, z, zk, l))),
+                    with_same f x x t u a.up.ds a refl (taken le) (λ p. (a.up.parts p).loaded)
+                        (opened x.opening (download_of f) a.up.ds (download s) x began
+                        (subst (λ g. Staged g a.up.ds (download s) x) (sym st) (k, r, l))),
                   )),
-              subst (λ i. is_of c (under (at v.kept q) (number_of i)) ≡ true) same b.hers,
+              subst (λ i. is_of c (under (at v.kept q) (number_of i)) ≡ true) same b.known.hers,
             )
           where
             by : (i : NumberedReport) → Report q i ≡ Report q h → i ≡ h

@@ -1,10 +1,10 @@
 -- What holds of both ends and of the line between them after every call that the line allows. Assumes nothing.
-use Rattle.std.proofs.Common.{◌≡◌, ◌⊎◌, inl, inr, ℕ, ◌≤◌, max, true, false, List, [], ◌∷◌, ◌++◌, append-nil, None, Ok, Err, Option, Result, length, refl, sym, ◌∙◌, subst, arith}
+use Rattle.std.proofs.Common.{◌≡◌, ◌⊎◌, inl, inr, ℕ, ◌≤◌, max, true, false, List, [], ◌∷◌, ◌++◌, None, Ok, Err, Option, Result, length, refl, sym, ◌∙◌, subst}
 use Rattle.codes.specs.declared.session.AckResponse.TheVariants.{Successful, LimitReached, InvalidAppId, ServiceUnavailable}
 use Rattle.codes.specs.declared.session.Partition.{Partition}
-use Rattle.both_ends.proofs.Carrying.{Tells, Loads, reports_of, tells_grown, loads_grown, loads_cut}
-use Rattle.both_ends.proofs.Marks.{Marks, Whole}
-use Rattle.both_ends.proofs.Flights.{there_within, hers_grown}
+use Rattle.codes.specs.declared.session.Partition.TheVariants.{One, Two, Three}
+use Rattle.both_ends.proofs.Carrying.{reports_of, Delivery, OfPart, delivery_cut}
+use Rattle.both_ends.proofs.Marks.{Marks, Whole, Load, unloaded}
 use Rattle.both_ends.specs.Agreement.{place, is_hers}
 use Rattle.both_ends.specs.Allowed.{Line}
 use Rattle.both_ends.specs.Connecting.{up_in}
@@ -17,11 +17,9 @@ use Rattle.both_ends.specs.Tallied.{Tallied}
 use Rattle.follower.specs.Asking.{request, ReadBack}
 use Rattle.follower.specs.Following.{Following, is_up, download_of}
 use Rattle.follower.specs.Hearing.{heard_in}
-use Rattle.follower.specs.Numbers.{number_of}
 use Rattle.follower.specs.Quiet.{Quiet}
 use Rattle.follower.specs.declared.heard.Heard.{Heard}
 use Rattle.follower.specs.declared.heard.Heard.TheVariants.{Report, Ack, End, Reject, Nothing}
-use Rattle.follower.specs.declared.heard.NumberedReport.{NumberedReport}
 use Rattle.follower.specs.declared.pending.Pending.{Pending}
 use Rattle.follower.specs.Lines.{up_on, stage_on}
 use Rattle.follower.specs.declared.line.Line.{Line as Connected}
@@ -29,15 +27,10 @@ use Rattle.follower.specs.declared.line.Line.TheVariants as line
 use Rattle.follower.specs.declared.stage.Stage.{Stage}
 use Rattle.follower.specs.declared.stage.Stage.TheVariants.{Idle, Asked, Running}
 use Rattle.gateway.specs.State.{State, session}
-use Rattle.keyed.specs.Numbers.{under}
 use Rattle.layout.specs.declared.fault.Fault.{Fault}
-use Rattle.gateway_runs.proofs.Growing.{Grows}
 use Rattle.limits.specs.declared.TheConstants.{ORDERS}
 use Rattle.partitions.specs.PerPartition.{at}
 use Rattle.partitions.specs.declared.per_partition.PerPartition.{PerPartition}
-use Rattle.reports.specs.Tally.{is_of}
-use Rattle.reports.specs.declared.report.Entry.{Entry}
-use Rattle.sessions.specs.Laws.{Grown}
 use Rattle.sessions.specs.declared.download.Download.{Download}
 use Rattle.sessions.specs.Sessions.{download}
 use Rattle.sessions.specs.declared.session.Session.{Session}
@@ -45,37 +38,6 @@ use Rattle.store.specs.Kept.{Kept}
 use Rattle.venue.specs.Books.{Sound}
 
 -- ---- the recovery channel
-
--- a message told a report of the owner's, at or below a place
-pub record Known (c : ℕ) (l : List Entry) (p : Partition) (place : ℕ) (m : List ℕ) : Type 0 where
-  pub report : NumberedReport
-  pub heard : heard_in m ≡ Ok (Report p report)
-  pub tells : Tells c l report
-  pub hers : is_of c (under l (number_of report)) ≡ true
-  pub passed : number_of report ≤ place
-
--- so did all that came since the download began or was last answered
-abbrev pub Repeats : ℕ → List Entry → Partition → ℕ → List (List ℕ) → Type 0
-Repeats c l p place [] = Unit {0}
-Repeats c l p place (m ∷ ms) = Known c l p place m × Repeats c l p place ms
-
-pub repeats_on : (c : ℕ) (l l' : List Entry) (p : Partition) (k k' : ℕ) (ms : List (List ℕ)) → Grown l l' → k ≤ k'
-    → Repeats c l p k ms → Repeats c l' p k' ms
-repeats_on c l l' p k k' [] g q h = tt
-repeats_on c l l' p k k' (m ∷ ms) g q (u, h) = (
-  record {
-    report = u.report;
-    heard = u.heard;
-    tells = tells_grown c l l' u.report g (there_within c l (number_of u.report) u.hers) u.tells;
-    hers = hers_grown c l l' (number_of u.report) g u.hers;
-    passed = (let w = u.passed in omega (arith, w, q));
-  },
-  repeats_on c l l' p k k' ms g q h,
-)
-
-pub repeats_up : (c : ℕ) (l : List Entry) (p : Partition) (k k' : ℕ) (ms : List (List ℕ)) → k ≤ k' → Repeats c l p k ms
-    → Repeats c l p k' ms
-repeats_up c l p k k' ms q h = repeats_on c l l p k k' ms ([], sym (append-nil l)) q h
 
 -- what ends a download that is asked
 abbrev pub Refuses : Result Heard Fault → Type 0
@@ -89,9 +51,9 @@ Refuses (Ok (End r)) = ⊥
 Refuses (Ok Nothing) = ⊥
 Refuses (Err e) = ⊥
 
--- the request is on its way to the gateway, from a place that the follower has passed
-abbrev pub Waits : Partition → ℕ → Option Download → Line → Type 0
-Waits p k o x = (z : ℕ) × (x.asked ≡ request p z ∷ []) × ReadBack p z × (z ≤ k) × (x.recovered ≡ []) × (o ≡ None)
+-- the request is on its way to the gateway
+abbrev pub Waits : Partition → Load → Option Download → Line → Type 0
+Waits p d o x = (x.asked ≡ request p d.from ∷ []) × ReadBack p d.from × (x.recovered ≡ []) × (o ≡ None)
 
 -- it was refused, and no download runs
 abbrev pub Refused : Option Download → Line → Type 0
@@ -99,86 +61,47 @@ Refused o x =
     (x.asked ≡ []) × (o ≡ None) × ((x.recovered ≡ []) ⊎ ((m : List ℕ) × (x.recovered ≡ m ∷ []) × Refuses (heard_in m)))
 
 -- it was granted, and its download is under way behind the word of it
-abbrev pub Granted : ℕ → List Entry → Partition → ℕ → ℕ → Option Download → Line → Type 0
-Granted c l p b k o x =
+abbrev pub Granted : Partition → Load → Option Download → Line → Type 0
+Granted p d o x =
     (x.asked ≡ []) × (m : List ℕ) × (ms : List (List ℕ)) × (x.recovered ≡ m ∷ ms) × (heard_in m ≡ Ok (Ack Successful))
-    × (z : ℕ) × (z ≤ k) × Loads c l p b o z ms
+    × Delivery p o ms d.loaded d.to d.aim
 
-abbrev pub AskedAs : ℕ → List Entry → Partition → ℕ → ℕ → Option Download → Line → Type 0
-AskedAs c l p b k o x = Waits p k o x ⊎ (Refused o x ⊎ Granted c l p b k o x)
+abbrev pub AskedAs : Partition → Load → Option Download → Line → Type 0
+AskedAs p d o x = Waits p d o x ⊎ (Refused o x ⊎ Granted p d o x)
 
-abbrev pub RunsAs : ℕ → List Entry → Partition → ℕ → ℕ → Option Download → Line → Type 0
-RunsAs c l p b k o x = (x.asked ≡ []) × Repeats c l p k x.again × (z : ℕ) × (z ≤ k) × Loads c l p b o z x.recovered
+abbrev pub RunsAs : Partition → Load → Option Download → Line → Type 0
+RunsAs p d o x = (x.asked ≡ []) × OfPart p x.again d.again × Delivery p o x.recovered d.loaded d.to d.aim
 
 -- nothing is asked, and nothing under way
 abbrev pub Still : Option Download → Line → Type 0
 Still o x = (x.asked ≡ []) × (x.recovered ≡ []) × (x.again ≡ []) × (o ≡ None)
 
 -- by how far the follower's download is: what is asked, under way, and may come again
-abbrev pub Staged : Stage → ℕ → Kept → (Partition → ℕ) → PerPartition ℕ → Option Download → Line → Type 0
-Staged Idle c k place b o x = Still o x
-Staged (Asked p) c k place b o x = (x.again ≡ []) × AskedAs c (at k p) p (at b p) (place p) o x
-Staged (Running p) c k place b o x = RunsAs c (at k p) p (at b p) (place p) o x
+abbrev pub Staged : Stage → PerPartition Load → Option Download → Line → Type 0
+Staged Idle ds o x = Still o x
+Staged (Asked p) ds o x = (x.again ≡ []) × ((at ds p).again ≡ []) × AskedAs p (at ds p) o x
+Staged (Running p) ds o x = RunsAs p (at ds p) o x
 
-asked_grown : (c : ℕ) (l l' : List Entry) (p : Partition) (b k : ℕ) (o : Option Download) (x : Line) → Grown l l'
-    → AskedAs c l p b k o x → AskedAs c l' p b k o x
-asked_grown c l l' p b k o x g (inl h) = inl h
-asked_grown c l l' p b k o x g (inr (inl h)) = inr (inl h)
-asked_grown c l l' p b k o x g (inr (inr (a, m, ms, e, h, z, le, f))) =
-    inr (inr (a, m, ms, e, h, z, le, loads_grown c l l' p b o z ms g f))
-
-pub staged_grown : (t : Stage) (c : ℕ) (k k' : Kept) (place : Partition → ℕ) (b : PerPartition ℕ) (o : Option Download)
-    (x : Line) → Grows k k' → Staged t c k place b o x → Staged t c k' place b o x
-staged_grown Idle c k k' place b o x g h = h
-staged_grown (Asked p) c k k' place b o x g (a, h) =
-    (a, asked_grown c (at k p) (at k' p) p (at b p) (place p) o x (g p) h)
-staged_grown (Running p) c k k' place b o x g (a, r, z, le, h) = (
-  a,
-  repeats_on c (at k p) (at k' p) p (place p) (place p) x.again (g p) (omega arith) r,
-  z,
-  le,
-  loads_grown c (at k p) (at k' p) p
-      (at b p) o z x.recovered (g p) h,
-)
-
-asked_up : (c : ℕ) (l : List Entry) (p : Partition) (b k k' : ℕ) (o : Option Download) (x : Line) → k ≤ k'
-    → AskedAs c l p b k o x → AskedAs c l p b k' o x
-asked_up c l p b k k' o x q (inl (z, e, r, le, h, f)) = inl (z, e, r, omega (arith, le, q), h, f)
-asked_up c l p b k k' o x q (inr (inl h)) = inr (inl h)
-asked_up c l p b k k' o x q (inr (inr (a, m, ms, e, h, z, le, f))) =
-    inr (inr (a, m, ms, e, h, z, omega (arith, le, q), f))
-
--- the places move on
-pub staged_up : (t : Stage) (c : ℕ) (k : Kept) (place place' : Partition → ℕ) (b : PerPartition ℕ)
-    (o : Option Download) (x : Line) → ((p : Partition) → place p ≤ place' p) → Staged t c k place b o x
-    → Staged t c k place' b o x
-staged_up Idle c k place place' b o x g h = h
-staged_up (Asked p) c k place place' b o x g (a, h) =
-    (a, asked_up c (at k p) p (at b p) (place p) (place' p) o x (g p) h)
-staged_up (Running p) c k place place' b o x g (a, r, z, le, h) =
-    (a, repeats_up c (at k p) p (place p) (place' p) x.again (g p) r, z, (let q = g p in omega (arith, le, q)), h)
-
-asked_cut : (c : ℕ) (l : List Entry) (p : Partition) (b k : ℕ) (o : Option Download) (x : Line) → AskedAs c l p b k o x
-    → AskedAs c l p b k None x
-asked_cut c l p b k o x (inl (z, e, r, le, h, f)) = inl (z, e, r, le, h, refl)
-asked_cut c l p b k o x (inr (inl (a, f, h))) = inr (inl (a, refl, h))
-asked_cut c l p b k o x (inr (inr (a, m, ms, e, h, z, le, f))) =
-    inr (inr (a, m, ms, e, h, z, le, loads_cut c l p b o z ms f))
+asked_cut : (p : Partition) (d : Load) (o : Option Download) (x : Line) → AskedAs p d o x → AskedAs p d None x
+asked_cut p d o x (inl (e, r, h, f)) = inl (e, r, h, refl)
+asked_cut p d o x (inr (inl (a, f, h))) = inr (inl (a, refl, h))
+asked_cut p d o x (inr (inr (a, m, ms, e, h, f))) =
+    inr (inr (a, m, ms, e, h, delivery_cut p o ms d.loaded d.to d.aim f))
 
 -- the gateway's channel is closed
-pub staged_cut : (t : Stage) (c : ℕ) (k : Kept) (place : Partition → ℕ) (b : PerPartition ℕ) (o : Option Download)
-    (x : Line) → Staged t c k place b o x → Staged t c k place b None x
-staged_cut Idle c k place b o x (a, r, g, e) = (a, r, g, refl)
-staged_cut (Asked p) c k place b o x (a, h) = (a, asked_cut c (at k p) p (at b p) (place p) o x h)
-staged_cut (Running p) c k place b o x (a, r, z, le, h) =
-    (a, r, z, le, loads_cut c (at k p) p (at b p) o z x.recovered h)
+pub staged_cut : (t : Stage) (ds : PerPartition Load) (o : Option Download) (x : Line) → Staged t ds o x
+    → Staged t ds None x
+staged_cut Idle ds o x (a, r, g, e) = (a, r, g, refl)
+staged_cut (Asked p) ds o x (a, g, h) = (a, g, asked_cut p (at ds p) o x h)
+staged_cut (Running p) ds o x (a, r, h) =
+    (a, r, delivery_cut p o x.recovered (at ds p).loaded (at ds p).to (at ds p).aim h)
 
 -- what is under way live is nothing to it
-pub staged_live : (t : Stage) (c : ℕ) (k : Kept) (place : Partition → ℕ) (b : PerPartition ℕ) (o : Option Download)
-    (x : Line) (ms : List (List ℕ)) → Staged t c k place b o x → Staged t c k place b o (record x { live = ms })
-staged_live Idle c k place b o x ms h = h
-staged_live (Asked p) c k place b o x ms h = h
-staged_live (Running p) c k place b o x ms h = h
+pub staged_live : (t : Stage) (ds : PerPartition Load) (o : Option Download) (x : Line) (ms : List (List ℕ))
+    → Staged t ds o x → Staged t ds o (record x { live = ms })
+staged_live Idle ds o x ms h = h
+staged_live (Asked p) ds o x ms h = h
+staged_live (Running p) ds o x ms h = h
 
 -- ---- the recovery channel, by how it began
 
@@ -201,34 +124,30 @@ refusing_more [] m r h = (r, tt)
 refusing_more (i ∷ ms) m r (a, h) = (a, refusing_more ms m r h)
 
 -- before anything was given there; then; and where the first was a Logon that is no message
-abbrev pub Channelled : Opening → Stage → ℕ → Kept → (Partition → ℕ) → PerPartition ℕ → Option Download → Line → Type 0
-Channelled Awaited g c k place b o x = NoneRuns g × Unused o x × Staged g c k place b o x
-Channelled Open g c k place b o x = Staged g c k place b o x
-Channelled Failed g c k place b o x = NoneRuns g × Refusing x.recovered × (x.again ≡ []) × (o ≡ None)
+abbrev pub Channelled : Opening → Stage → PerPartition Load → Option Download → Line → Type 0
+Channelled Awaited g ds o x = NoneRuns g × Unused o x × Staged g ds o x
+Channelled Open g ds o x = Staged g ds o x
+Channelled Failed g ds o x = NoneRuns g × Refusing x.recovered × (x.again ≡ []) × (o ≡ None)
 
 -- whatever moves, but for what is under way there
-pub channelled_on : (h : Opening) (g : Stage) (c : ℕ) (k k' : Kept) (place place' : Partition → ℕ)
-    (b b' : PerPartition ℕ) (o o' : Option Download) (x x' : Line) → x'.recovered ≡ x.recovered → x'.again ≡ x.again
-    → (o ≡ None → o' ≡ None) → (Staged g c k place b o x → Staged g c k' place' b' o' x')
-    → Channelled h g c k place b o x → Channelled h g c k' place' b' o' x'
-channelled_on Awaited g c k k' place place' b b' o o' x x' er ea eo on (n, (r, a, e), st) =
-    (n, (er ∙ r, ea ∙ a, eo e), on st)
-channelled_on Open g c k k' place place' b b' o o' x x' er ea eo on st = on st
-channelled_on Failed g c k k' place place' b b' o o' x x' er ea eo on (n, r, a, e) =
-    (n, subst Refusing (sym er) r, ea ∙ a, eo e)
+pub channelled_on : (h : Opening) (g : Stage) (ds ds' : PerPartition Load) (o o' : Option Download) (x x' : Line)
+    → x'.recovered ≡ x.recovered → x'.again ≡ x.again → (o ≡ None → o' ≡ None) → (Staged g ds o x → Staged g ds' o' x')
+    → Channelled h g ds o x → Channelled h g ds' o' x'
+channelled_on Awaited g ds ds' o o' x x' er ea eo on (n, (r, a, e), st) = (n, (er ∙ r, ea ∙ a, eo e), on st)
+channelled_on Open g ds ds' o o' x x' er ea eo on st = on st
+channelled_on Failed g ds ds' o o' x x' er ea eo on (n, r, a, e) = (n, subst Refusing (sym er) r, ea ∙ a, eo e)
+
+pub channelled_live : (h : Opening) (g : Stage) (ds : PerPartition Load) (o : Option Download) (x : Line)
+    (ms : List (List ℕ)) → Channelled h g ds o x → Channelled h g ds o (record x { live = ms })
+channelled_live h g ds o x ms =
+    channelled_on h g ds ds o o x (record x { live = ms }) refl refl (λ e. e) (staged_live g ds o x ms)
 
 -- a channel that began as it should
-pub opened : (h : Opening) (g : Stage) (c : ℕ) (k : Kept) (place : Partition → ℕ) (b : PerPartition ℕ)
-    (o : Option Download) (x : Line) → h ≡ Open → Staged g c k place b o x → Channelled h g c k place b o x
-opened Awaited g c k place b o x e st = absurd cc
-opened Open g c k place b o x e st = st
-opened Failed g c k place b o x e st = absurd cc
-
-pub staged_in : (h : Opening) (g : Stage) (c : ℕ) (k : Kept) (place : Partition → ℕ) (b : PerPartition ℕ)
-    (o : Option Download) (x : Line) → h ≡ Open → Channelled h g c k place b o x → Staged g c k place b o x
-staged_in Awaited g c k place b o x e st = absurd cc
-staged_in Open g c k place b o x e st = st
-staged_in Failed g c k place b o x e st = absurd cc
+pub opened : (h : Opening) (g : Stage) (ds : PerPartition Load) (o : Option Download) (x : Line) → h ≡ Open
+    → Staged g ds o x → Channelled h g ds o x
+opened Awaited g ds o x e st = absurd cc
+opened Open g ds o x e st = st
+opened Failed g ds o x e st = absurd cc
 
 -- ---- both ends
 
@@ -244,15 +163,26 @@ abbrev pub or_one : Taking → Taking → Taking
 or_one t u q i = t q i ⊎ u q i
 
 -- the marks of a partition: how far the line brought, and had brought at the up, is known to nobody
-abbrev pub marks_of : Kept → Session → Following → Line → PerPartition ℕ → PerPartition ℕ → Partition → Marks
-marks_of k s f x y b p = record {
+abbrev pub marks_of : Kept → Session → Following → Line → PerPartition ℕ → PerPartition ℕ → PerPartition Load → Partition
+    → Marks
+marks_of k s f x y b ds p = record {
   stored = at k p;
   side = at f.sides p;
   sent = at s.sent p;
   live = reports_of p x.live;
   brought = at y p;
   base = at b p;
+  load = at ds p;
 }
+
+-- no downloads
+abbrev pub unloads : PerPartition ℕ → PerPartition Load
+unloads y = record { one = unloaded y.one; two = unloaded y.two; three = unloaded y.three }
+
+pub at_unloads : (y : PerPartition ℕ) (p : Partition) → at (unloads y) p ≡ unloaded (at y p)
+at_unloads y One = refl
+at_unloads y Two = refl
+at_unloads y Three = refl
 
 -- the number of the last report that was folded in a partition
 abbrev pub place_in : Following → Partition → ℕ
@@ -262,9 +192,10 @@ place_in f p = (at f.sides p).place
 pub record Joined (c : ℕ) (k : Kept) (s : Session) (f : Following) (x : Line) (t : Taking) : Type 0 where
   pub y : PerPartition ℕ
   pub b : PerPartition ℕ
-  pub parts : (p : Partition) → Whole c (marks_of k s f x y b p)
+  pub ds : PerPartition Load
+  pub parts : (p : Partition) → Whole c (marks_of k s f x y b ds p)
   pub taken : (p : Partition) (n : ℕ) → t p n → n ≤ max (place_in f p) (at y p)
-  pub staged : Channelled x.opening (download_of f) c k (place_in f) b (download s) x
+  pub staged : Channelled x.opening (download_of f) ds (download s) x
 
 -- what holds while a connection is away, ready or up
 abbrev pub Phase : Connection → ℕ → Kept → Session → Following → Line → Taking → Type 0
@@ -311,6 +242,6 @@ keeps_taken c s d x t t' token less k = record {
   sound = k.sound;
   few = k.few;
   phase = phase_on c s.venue.kept s.venue.kept (session s c) (session s c) d.follower d.follower x x t t'
-      (λ h. record { y = h.y; b = h.b; parts = h.parts; taken = λ p n i. h.taken p n (less p n i); staged = h.staged })
+      (λ h. record { y = h.y; b = h.b; ds = h.ds; parts = h.parts; taken = λ p n i. h.taken p n (less p n i); staged = h.staged })
       x.connection k.phase;
 }

@@ -10,7 +10,7 @@ use Rattle.both_ends.proofs.Marks.{Whole, folded_to, comes_next, passed_by, held
 use Rattle.both_ends.proofs.Caught.{Folded, folds}
 use Rattle.both_ends.proofs.Flights.{Passed, Next}
 use Rattle.follower.specs.Numbers.{number_of}
-use Rattle.both_ends.proofs.Keeping.{Taking, Only, or_one, Joined, marks_of, place_in, channelled_on, staged_up, staged_live}
+use Rattle.both_ends.proofs.Keeping.{Taking, Only, or_one, Joined, marks_of, place_in, channelled_live}
 use Rattle.both_ends.specs.Allowed.{Line}
 use Rattle.both_ends.specs.Tallied.{there, Tallied}
 use Rattle.follower.specs.Folding.{Reached, reached, moved, caught_one, caught_next}
@@ -126,13 +126,11 @@ module _ (c : ℕ) (k : Kept) (s : Session) where
       record {
         y = u.y;
         b = u.b;
-        parts = or_as_it_was (λ q z. Whole c (record (marks_of k s f x u.y u.b q) { side = z })) f.sides p (to_place f p n)
-            (folded_to c (marks_of k s f x u.y u.b p) n le (u.parts p)) u.parts;
+        ds = u.ds;
+        parts = or_as_it_was (λ q z. Whole c (record (marks_of k s f x u.y u.b u.ds q) { side = z })) f.sides p (to_place f p n)
+            (folded_to c (marks_of k s f x u.y u.b u.ds p) n le (u.parts p)) u.parts;
         taken = λ q i h. let a = u.taken q i h in let z = up q in omega (arith, a, z);
-        staged = channelled_on x.opening (download_of f) c k k (place_in f) (place_in (after_fold f p n w)) u.b u.b (download s)
-            (download s) x x refl refl (λ e. e)
-            (λ st. staged_up (download_of f) c k (place_in f) (place_in (after_fold f p n w)) u.b (download s) x up st)
-            u.staged;
+        staged = u.staged;
       }
 
   -- ---- the next report under way comes
@@ -141,15 +139,15 @@ module _ (c : ℕ) (k : Kept) (s : Session) where
       (a : Joined c k s f x t) (fr : Front p h x.live rest) where
     -- the marks of a partition, but for what is under way
     pub with_live : (q : Partition) (hs : List NumberedReport) → reports_of q x.live ≡ hs
-        → Whole c (record (marks_of k s f x a.y a.b q) { live = hs })
-    with_live q hs e = subst (λ z. Whole c (record (marks_of k s f x a.y a.b q) { live = z })) e (a.parts q)
+        → Whole c (record (marks_of k s f x a.y a.b a.ds q) { live = hs })
+    with_live q hs e = subst (λ z. Whole c (record (marks_of k s f x a.y a.b a.ds q) { live = z })) e (a.parts q)
 
-    pub in_front : Whole c (record (marks_of k s f x a.y a.b p) { live = h ∷ reports_of p rest })
+    pub in_front : Whole c (record (marks_of k s f x a.y a.b a.ds p) { live = h ∷ reports_of p rest })
     in_front = with_live p (h ∷ reports_of p rest) fr.here
 
     -- it is the owner's next
     pub is_next : Tells c (at k p) h × Next c (at k p) (at a.y p) (number_of h)
-    is_next = comes_next c (marks_of k s f x a.y a.b p) h (reports_of p rest) in_front
+    is_next = comes_next c (marks_of k s f x a.y a.b a.ds p) h (reports_of p rest) in_front
 
     -- the place has reached it
     pub joined_passed : (u : Taking) → Only p (number_of h) u → number_of h ≤ place_in f p
@@ -157,14 +155,13 @@ module _ (c : ℕ) (k : Kept) (s : Session) where
     joined_passed u only le = record {
       y = popped a.y p h;
       b = a.b;
-      parts = by_partition (λ q z. Whole c (record (marks_of k s f (record x { live = rest }) a.y a.b q) { brought = z }))
+      ds = a.ds;
+      parts = by_partition (λ q z. Whole c (record (marks_of k s f (record x { live = rest }) a.y a.b a.ds q) { brought = z }))
           a.y p (max (at a.y p) (number_of h))
-          (passed_by c (marks_of k s f x a.y a.b p) h (reports_of p rest) in_front le)
+          (passed_by c (marks_of k s f x a.y a.b a.ds p) h (reports_of p rest) in_front le)
           (λ q ne. with_live q (reports_of q rest) (fr.others q ne));
       taken = taken_popped (place_in f) t u a.y p h only a.taken;
-      staged = channelled_on x.opening (download_of f) c k k (place_in f) (place_in f) a.b a.b (download s) (download s) x
-          (record x { live = rest }) refl refl (λ e. e)
-          (λ st. staged_live (download_of f) c k (place_in f) a.b (download s) x rest st) a.staged;
+      staged = channelled_live x.opening (download_of f) a.ds (download s) x rest a.staged;
     }
 
     other_mark : (n : ℕ) (q : Partition) → p ≢ q → at (with_at a.y p n) q ≡ at a.y q
@@ -182,23 +179,19 @@ module _ (c : ℕ) (k : Kept) (s : Session) where
         record {
           y = popped a.y p h;
           b = a.b;
-          parts = by_partition (λ q z. Whole c (record (marks_of k s f x' (popped a.y p h) a.b q) { side = z })) f.sides p
+          ds = a.ds;
+          parts = by_partition (λ q z. Whole c (record (marks_of k s f x' (popped a.y p h) a.b a.ds q) { side = z })) f.sides p
               (record (at f.sides p) { state = Behind more })
-              (subst (λ z. Whole c (record (marks_of k s f x' a.y a.b p) {
+              (subst (λ z. Whole c (record (marks_of k s f x' a.y a.b a.ds p) {
                 side = record (at f.sides p) { state = Behind more };
                 brought = z;
               })) (sym (at_written a.y p mark))
-              (held_back c (marks_of k s f x a.y a.b p) h (reports_of p rest) in_front hs e))
-              (λ q ne. subst (λ z. Whole c (record (marks_of k s f x' a.y a.b q) { brought = z }))
+              (held_back c (marks_of k s f x a.y a.b a.ds p) h (reports_of p rest) in_front hs e))
+              (λ q ne. subst (λ z. Whole c (record (marks_of k s f x' a.y a.b a.ds q) { brought = z }))
               (sym (other_mark mark q ne)) (with_live q (reports_of q rest) (fr.others q ne)));
           taken = λ q i w. let v = taken_popped (place_in f) t u a.y p h only a.taken q i w in let z : place_in g q
               ≡ place_in f q = same q in omega (arith, v, z);
-          staged =
-              channelled_on x.opening (download_of f) c k k (place_in f) (place_in g) a.b a.b (download s) (download s) x x'
-              refl refl (λ e. e)
-              (λ st. staged_live (download_of f) c k (place_in g) a.b (download s) x rest
-              (staged_up (download_of f) c k (place_in f) (place_in g) a.b (download s) x
-              (λ q. let z : place_in g q ≡ place_in f q = same q in omega (arith, z)) st)) a.staged;
+          staged = channelled_live x.opening (download_of f) a.ds (download s) x rest a.staged;
         }
 
 -- ---- the hold is folded
