@@ -2,6 +2,7 @@ pub mod Levels
 pub mod Caught
 pub mod Flights
 pub mod Carrying
+pub mod Marks
 pub mod Sendings
 pub mod Keeping
 pub mod Living
