@@ -1,5 +1,5 @@
 -- What a desk says of its follower. Assumes nothing.
-use Rattle.std.specs.Prelude.{ℕ, Bool, true, false, Some, None, Option, length, ◌==◌, if◌then◌else◌}
+use Rattle.std.specs.Prelude.{ℕ, false, Some, None, Option, length, ◌==◌, if◌then◌else◌}
 use Rattle.std.specs.Option.{option_map}
 use Rattle.codes.specs.Report.{status_code}
 use Rattle.codes.specs.Session.{partition_code}
@@ -8,17 +8,12 @@ use Rattle.reports.specs.declared.standing.Standing.{Standing}
 use Rattle.bench_play.specs.declared.tables.Shown.{Shown}
 use Rattle.bench_play.specs.declared.tables.Shown.TheVariants as shown
 use Rattle.follower.specs.declared.side.Side.{Side}
-use Rattle.follower.specs.declared.side.State.{State}
-use Rattle.follower.specs.declared.side.State.TheVariants.{Level, Behind}
+use Rattle.follower.specs.Sides.{is_level, held_in}
 use Rattle.orders.specs.Rows.{status_of}
 use Rattle.orders.specs.declared.row.Row.{Row}
 use Rattle.bench_account.specs.declared.compared.Compared.{Compared}
 use Rattle.bench_account.specs.declared.compared.Seen.{Seen}
 use Rattle.bench_account.specs.declared.listing.Place.{Place}
-
-abbrev pub is_level : State → Bool
-is_level Level = true
-is_level Behind = false
 
 -- an order as the follower knows it
 abbrev pub seen_as : Standing → Seen
@@ -43,11 +38,11 @@ place_of p s = record {
   partition = partition_code p;
   number = s.place;
   level = is_level s.state;
-  held = length s.hold;
+  held = length (held_in s.state);
 }
 
 -- by what both ends show of it; of an order they show no place
 abbrev pub place_shown : Partition → Shown → Place
-place_shown p (shown.Partition n s held) =
-    record { partition = partition_code p; number = n; level = is_level s; held = held }
+place_shown p (shown.Partition n level held) =
+    record { partition = partition_code p; number = n; level = level; held = held }
 place_shown p (shown.Order r o) = record { partition = partition_code p; number = 0; level = false; held = 0 }

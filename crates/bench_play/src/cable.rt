@@ -11,7 +11,6 @@ use both_ends::call::{Call, Done};
 use both_ends::entry::Entry;
 use codes::code::Code;
 use codes::session::Partition;
-use follower::side;
 use gateway_runs::call::Call as VenueCall;
 use std::alloc::{AllocError, Global};
 use std::io;
@@ -159,7 +158,7 @@ fn catch_up<R: Print + AllocGlobal>(
 }
 
 fn is_level(day: &Day, partition: Partition) -> bool {
-    day.follower().state(partition) == side::State::Level
+    day.follower().is_level(partition)
 }
 
 // Downloads a partition until it is level. Says no where a download brings nothing more.

@@ -2,7 +2,7 @@
 ghost use Rattle.std.specs.Prelude.{◌≡◌, IfOk};
 ghost use Rattle.std.specs.FinMap.{get};
 ghost use Rattle.bench_play.specs.Days.{desk_of, state_of};
-ghost use Rattle.bench_play.specs.Seeing.{compared_of, hers_of, is_level, place_of, place_shown, seen_as};
+ghost use Rattle.bench_play.specs.Seeing.{compared_of, hers_of, place_of, place_shown, seen_as};
 ghost use Rattle.keyed.specs.Numbers.{under};
 ghost use Rattle.partitions.specs.PerPartition.{at};
 
@@ -13,19 +13,12 @@ use bench_account::listing::{Followed, Place};
 use bench_account::verdict::{Part, Verdict};
 use codes::code::Code;
 use codes::session::Partition;
-use follower::side::State;
 use follower::state::Follower;
 use orders::order::Order;
 use reports::standing::Standing;
 use reports::standings::Known;
 use std::alloc::{AllocError, Global};
 use std::io;
-
-fn is_level(state: State) -> bool
-    ensures { result ≡ is_level state }
-{
-    state == State::Level
-}
 
 // An order as the follower knows it.
 fn seen(standing: Standing) -> Seen
@@ -75,10 +68,10 @@ fn place_shown(partition: Partition, shown: Shown) -> Place
 {
     let partition = partition.byte();
     match shown {
-        Shown::Partition { place, state, held } => Place {
+        Shown::Partition { place, level, held } => Place {
             partition,
             number: place,
-            level: is_level(state),
+            level,
             held,
         },
         Shown::Order(..) => Place {

@@ -3,7 +3,6 @@ ghost use Rattle.bench_play.specs.Tables.{answer};
 
 use both_ends::question::Question;
 use codes::session::Partition;
-use follower::side::State;
 use follower::state::Follower;
 use gateway::gateway::Gateway;
 use matching::matcher::Matcher;
@@ -26,7 +25,7 @@ pub enum Shown {
     Order(Option<Order>, Option<Standing>),
     Partition {
         place: u32,
-        state: State,
+        level: bool,
         held: usize,
     },
 }
@@ -46,7 +45,7 @@ impl Question<Shown> for Look {
             }
             Look::Partition(partition) => Shown::Partition {
                 place: follower.place(partition),
-                state: follower.state(partition),
+                level: follower.is_level(partition),
                 held: follower.held(partition),
             },
         })

@@ -8,12 +8,12 @@ use Rattle.std.proofs.lemmas.Bool.{eqb-true, eq-eqb, or_from}
 use Rattle.codes.specs.declared.session.Partition.{Partition}
 use Rattle.codes.specs.declared.session.Partition.TheVariants.{One, Two, Three}
 use Rattle.configuration.specs.declared.participant.Participant.{Participant}
-use Rattle.both_ends.proofs.Carrying.{Flows}
 use Rattle.both_ends.proofs.Caught.{begins, shown}
 use Rattle.both_ends.proofs.Flights.{Passed}
 use Rattle.both_ends.proofs.Follows.{up_of, to_up, Went, same_ok, ok_err, given_live_keeps, given_recovered_keeps}
-use Rattle.both_ends.proofs.Keeping.{Keeps, Phase, Ready, Up, Still, Staged, Channelled, Sided, SidedBy, Taking, Flowing, channelled_on, keeps_taken}
-use Rattle.both_ends.proofs.Living.{place_in, tallied_as}
+use Rattle.both_ends.proofs.Keeping.{Keeps, Phase, Joined, marks_of, place_in, Still, Staged, Channelled, Taking, AskedAs, channelled_on, idle_where, unloads, keeps_taken}
+use Rattle.both_ends.proofs.Marks.{Whole, SidedBy, Load, asked_from, reloaded, asked, fallen_back}
+use Rattle.both_ends.proofs.Living.{tallied_as}
 use Rattle.both_ends.proofs.Refusals.{refused_stays}
 use Rattle.both_ends.proofs.Requested.{request_long}
 use Rattle.both_ends.proofs.Serves.{quietly, real_time, recovery_given, sends_on, recovers_on}
@@ -27,9 +27,10 @@ use Rattle.both_ends.specs.declared.opening.Opening.TheVariants.{Awaited, Open, 
 use Rattle.both_ends.specs.declared.call.Asked.{Asked}
 use Rattle.both_ends.specs.declared.call.Done.{Done}
 use Rattle.both_ends.specs.declared.call.Done.TheVariants as done
-use Rattle.follower.proofs.Quiets.{stays_quiet}
+use Rattle.follower.proofs.Quiets.{up_quiet, stays_quiet}
 use Rattle.follower.specs.Asking.{request, ReadBack, is_free, asking_of, asking, partition_of, asks_of}
-use Rattle.follower.specs.Following.{Following, turned, live_step, recovered_step}
+use Rattle.follower.specs.Following.{Following, is_up, download_of, turned, live_step, recovered_step}
+use Rattle.follower.specs.Lines.{up_on, stage_on, turned_line}
 use Rattle.follower.specs.Hearing.{heard_in}
 use Rattle.follower.specs.Owing.{owed, token_after}
 use Rattle.follower.specs.Quiet.{Quiet}
@@ -40,6 +41,7 @@ use Rattle.follower.specs.declared.pending.Pending.TheVariants as pending
 use Rattle.wire.specs.declared.message.TheConstants.{BUFFER}
 use Rattle.follower.specs.declared.side.State.TheVariants.{Level, Behind}
 use Rattle.follower.specs.declared.stage.Stage.{Stage}
+use Rattle.follower.specs.declared.line.Line.TheVariants as line
 use Rattle.follower.specs.declared.stage.Stage.TheVariants as stage
 use Rattle.both_ends.specs.Connecting.{lost, up_in}
 use Rattle.both_ends.specs.declared.connection.Connection.{Connection}
@@ -56,7 +58,8 @@ use Rattle.gateway_runs.specs.Runs.{bytes_of}
 use Rattle.gateway_runs.specs.declared.call.Done.{Done as VenueDone}
 use Rattle.gateway_runs.specs.declared.call.Done.TheVariants as call
 use Rattle.gateway_runs.specs.declared.call.Reply.{Reply}
-use Rattle.partitions.specs.PerPartition.{at}
+use Rattle.partitions.proofs.Written.{at_written, or_as_it_was}
+use Rattle.partitions.specs.PerPartition.{at, with_at}
 use Rattle.partitions.specs.declared.per_partition.PerPartition.{PerPartition}
 use Rattle.sessions.specs.Sessions.{download}
 use Rattle.sessions.specs.declared.session.Channel.TheVariants.{Recovery}
@@ -161,6 +164,14 @@ module _ (c : ℕ) (s : State) (d : Desk) (x : Line) (t : Taking) (k : Keeps c s
 
 -- ---- up and lost
 
+turned_up : (up : Bool) → up_on (turned_line up) ≡ up
+turned_up true = refl
+turned_up false = refl
+
+turned_stage : (up : Bool) → stage_on (turned_line up) ≡ stage.Idle
+turned_stage true = refl
+turned_stage false = refl
+
 turned_place : (up : Bool) (f : Following) (p : Partition) → place_in (turned up f) p ≡ place_in f p
 turned_place up f One = refl
 turned_place up f Two = refl
@@ -171,29 +182,33 @@ module _ (c : ℕ) (s : State) (d : Desk) (x : Line) (t : Taking) (k : Keeps c s
   abbrev turned_desk : Bool → Desk
   turned_desk up = record { follower = turned up d.follower; token = pending.Idle }
 
-  turned_flowing : (up : Bool) (y : PerPartition ℕ) (x' : Line) → x'.live ≡ x.live
-      → Flowing c s.venue.kept (session s c).sent (place d) x t y
-      → Flowing c s.venue.kept (session s c).sent (place_in (turned up d.follower)) x' t y
-  turned_flowing up y x' e h = record {
-    within = h.within;
-    flows = subst (λ ms. Flows c s.venue.kept (session s c).sent y ms) (sym e) h.flows;
-    taken = λ p n i. let a = h.taken p n i in let z : place_in (turned up d.follower) p
-        ≡ place d p = turned_place up d.follower p in omega (arith, a, z);
+  -- the marks as they are then, of a connection that the follower is not up on yet
+  turned_joined : (up : Bool) (a : Connection) → is_up d.follower ≡ false → Joined c s.venue.kept (session s c) d.follower x t
+      → Joined c s.venue.kept (session s c) (turned up d.follower) (record x { connection = a }) t
+  turned_joined up a dn z = record {
+    y = z.y;
+    b = z.y;
+    ds = unloads z.y;
+    parts = parts;
+    taken = λ p n i. let v = z.taken p n i in let e : place_in (turned up d.follower) p
+        ≡ place d p = turned_place up d.follower p in omega (arith, v, e);
+    staged = subst (λ g. Channelled x.opening g (unloads z.y) (download (session s c)) (record x { connection = a }))
+        (sym (turned_stage up))
+        (channelled_on x.opening stage.Idle z.ds (unloads z.y) (download (session s c)) (download (session s c)) x
+        (record x { connection = a }) refl refl (λ e. e) (λ i. i)
+        (subst (λ g. Channelled x.opening g z.ds (download (session s c)) x) (idle_where d.follower.line dn) z.staged));
   }
-
-  turned_still : (up : Bool) (y : PerPartition ℕ) (a : Connection)
-      → Channelled x.opening stage.Idle c s.venue.kept (place d) y (download (session s c)) x
-      → Channelled x.opening stage.Idle c s.venue.kept (place_in (turned up d.follower)) y (download (session s c))
-      (record x { connection = a })
-  turned_still up y a st =
-      channelled_on x.opening stage.Idle c s.venue.kept s.venue.kept (place d) (place_in (turned up d.follower)) y y
-      (download (session s c)) (download (session s c)) x (record x { connection = a }) refl refl (λ e. e) (λ z. z) st
+    where
+      parts : (p : Partition) → Whole c (marks_of s.venue.kept (session s c) (turned up d.follower) x z.y z.y (unloads z.y) p)
+      parts One = fallen_back c (marks_of s.venue.kept (session s c) d.follower x z.y z.b z.ds One) (z.parts One)
+      parts Two = fallen_back c (marks_of s.venue.kept (session s c) d.follower x z.y z.b z.ds Two) (z.parts Two)
+      parts Three = fallen_back c (marks_of s.venue.kept (session s c) d.follower x z.y z.b z.ds Three) (z.parts Three)
 
   turned_keeps : (up : Bool) (x' : Line) → up_in x'.connection ≡ up
-      → Phase x'.connection c s.venue.kept (session s c) (turned up d.follower) (place_in (turned up d.follower)) x' t
+      → Phase x'.connection c s.venue.kept (session s c) (turned up d.follower) x' t
       → Keeps c s (turned_desk up) x' t
   turned_keeps up x' e ph = record {
-    up = e;
+    up = e ∙ sym (turned_up up);
     quiet = stays_quiet.turns d.follower up;
     placed = λ p. subst (λ z. (z ≡ 0) ⊎ (is_hers c s p z ≡ true)) (sym (turned_place up d.follower p)) (k.placed p);
     known = tallied_as c s.venue.kept d.follower.standings (place d) (place_in (turned up d.follower))
@@ -205,40 +220,23 @@ module _ (c : ℕ) (s : State) (d : Desk) (x : Line) (t : Taking) (k : Keeps c s
   }
 
   pub up_keeps : (x' : Line) → after_up x.connection x ≡ Ok x' → Keeps c s (turned_desk true) x' t
-  up_keeps x' ok = by x.connection k.phase ok
+  up_keeps x' ok = by x.connection refl k.phase ok
     where
-      sides : (y : PerPartition ℕ) (p : Partition)
-          → Sided c (at s.venue.kept p) (at (turned true d.follower).sides p) (at y p) (at y p)
-      sides y One = λ j lt le. absurd (omega (arith, lt, le))
-      sides y Two = λ j lt le. absurd (omega (arith, lt, le))
-      sides y Three = λ j lt le. absurd (omega (arith, lt, le))
-
-      ups : Ready c s.venue.kept (session s c) (place d) x t
-          → Up c s.venue.kept (session s c) (turned true d.follower) (place_in (turned true d.follower))
-          (record x { connection = conn.Up }) t
-      ups z = record {
-        y = z.y;
-        b = z.y;
-        flowing = turned_flowing true z.y (record x { connection = conn.Up }) refl z.flowing;
-        bases = z.flowing.within;
-        sides = sides z.y;
-        staged = turned_still true z.y conn.Up z.still;
-      }
-
-      by : (a : Connection) → Phase a c s.venue.kept (session s c) d.follower (place d) x t → after_up a x ≡ Ok x'
+      by : (a : Connection) → x.connection ≡ a → Phase a c s.venue.kept (session s c) d.follower x t → after_up a x ≡ Ok x'
           → Keeps c s (turned_desk true) x' t
-      by conn.Away ph g = ok_err NoLogon x' (Err NoLogon) refl g
-      by conn.Up ph g = ok_err NoLogon x' (Err NoLogon) refl g
-      by conn.Ready ph g =
+      by conn.Away e ph g = ok_err NoLogon x' (Err NoLogon) refl g
+      by conn.Up e ph g = ok_err NoLogon x' (Err NoLogon) refl g
+      by conn.Ready e ph g =
           subst (λ y. Keeps c s (turned_desk true) y t)
           (same_ok (record x { connection = conn.Up }) x' (Ok (record x { connection = conn.Up })) refl g)
-          (turned_keeps true (record x { connection = conn.Up }) refl (ups ph))
+          (turned_keeps true (record x { connection = conn.Up }) refl
+          (turned_joined true conn.Up (sym k.up ∙ ap up_in e) ph))
 
   pub lost_keeps : (x' : Line) → went (record x { connection = lost x.connection }) ≡ Ok x' → Keeps c s (turned_desk false) x' t
   lost_keeps x' ok =
       subst (λ y. Keeps c s (turned_desk false) y t)
       (same_ok left x' (Ok left) refl ok)
-      (turned_keeps false left (down x.connection) (by x.connection k.phase))
+      (turned_keeps false left (down x.connection) (by x.connection refl k.phase))
     where
       left : Line
       left = record x { connection = lost x.connection }
@@ -248,26 +246,21 @@ module _ (c : ℕ) (s : State) (d : Desk) (x : Line) (t : Taking) (k : Keeps c s
       down conn.Ready = refl
       down conn.Up = refl
 
-      by : (a : Connection) → Phase a c s.venue.kept (session s c) d.follower (place d) x t
-          → Phase (lost a) c s.venue.kept (session s c) (turned false d.follower)
-          (place_in (turned false d.follower)) left t
-      by conn.Away ph = tt
-      by conn.Up ph = tt
-      by conn.Ready ph = record {
-        y = ph.y;
-        flowing = turned_flowing false ph.y left refl ph.flowing;
-        still = turned_still false ph.y (lost x.connection) ph.still;
-      }
+      by : (a : Connection) → x.connection ≡ a → Phase a c s.venue.kept (session s c) d.follower x t
+          → Phase (lost a) c s.venue.kept (session s c) (turned false d.follower) left t
+      by conn.Away e ph = tt
+      by conn.Up e ph = tt
+      by conn.Ready e ph = turned_joined false (lost x.connection) (sym k.up ∙ ap up_in e) ph
 
   -- ---- a request
 
   abbrev asked_desk : Partition → Pending → Desk
-  asked_desk p token = record { follower = record d.follower { download = stage.Asked p }; token = token }
+  asked_desk p token = record { follower = record d.follower { line = line.Up (stage.Asked p) }; token = token }
 
   -- a request is asked only of a follower that is up and has asked nothing
   pub record Free (p : Partition) : Type 0 where
-    pub up : d.follower.up ≡ true
-    pub idle : d.follower.download ≡ stage.Idle
+    pub up : is_up d.follower ≡ true
+    pub idle : download_of d.follower ≡ stage.Idle
 
   free_of : (b : List ℕ) (n : ℕ) (p : Partition) → asking d.follower d.token n (length b) ≡ Ok p → Free p
   free_of b n p e = by (nat_lt (length b) BUFFER) e
@@ -277,24 +270,24 @@ module _ (c : ℕ) (s : State) (d : Desk) (x : Line) (t : Taking) (k : Keeps c s
       idle_of (stage.Asked q) o h = absurd cc
       idle_of (stage.Running q) o h = absurd cc
 
-      by_free : (b : Bool) (q : Partition) → is_free d.follower.download (owed d.token) ≡ b
-          → cond b (Ok q) (Err OutOfTurn) ≡ Ok p → d.follower.download ≡ stage.Idle
-      by_free true q h z = idle_of d.follower.download (owed d.token) h
+      by_free : (b : Bool) (q : Partition) → is_free (download_of d.follower) (owed d.token) ≡ b
+          → cond b (Ok q) (Err OutOfTurn) ≡ Ok p → download_of d.follower ≡ stage.Idle
+      by_free true q h z = idle_of (download_of d.follower) (owed d.token) h
       by_free false q h z = absurd cc
 
-      by_partition : (o : Option Partition) → asking_of d.follower d.token o ≡ Ok p → d.follower.download ≡ stage.Idle
+      by_partition : (o : Option Partition) → asking_of d.follower d.token o ≡ Ok p → download_of d.follower ≡ stage.Idle
       by_partition None z = absurd cc
-      by_partition (Some q) z = by_free (is_free d.follower.download (owed d.token)) q refl z
+      by_partition (Some q) z = by_free (is_free (download_of d.follower) (owed d.token)) q refl z
 
-      by_up : (u : Bool) → d.follower.up ≡ u → cond u (asking_of d.follower d.token (partition_of n)) (Err NotUp)
+      by_up : (u : Bool) → is_up d.follower ≡ u → cond u (asking_of d.follower d.token (partition_of n)) (Err NotUp)
           ≡ Ok p → Free p
       by_up true q z = record { up = q; idle = by_partition (partition_of n) z }
       by_up false q z = absurd cc
 
-      by : (b : Bool) → cond b (Err Buffer) (cond d.follower.up (asking_of d.follower d.token (partition_of n))
+      by : (b : Bool) → cond b (Err Buffer) (cond (is_up d.follower) (asking_of d.follower d.token (partition_of n))
           (Err NotUp)) ≡ Ok p → Free p
       by true z = absurd cc
-      by false z = by_up d.follower.up refl z
+      by false z = by_up (is_up d.follower) refl z
 
   asked_for : (b : List ℕ) (n : ℕ) (p : Partition) → asking d.follower d.token n (length b) ≡ Ok p
       → ReadBack p (at d.follower.sides p).place → (token : Pending) → (m : List ℕ) → m
@@ -302,47 +295,49 @@ module _ (c : ℕ) (s : State) (d : Desk) (x : Line) (t : Taking) (k : Keeps c s
       → Keeps c s (asked_desk p token) (record x { asked = x.asked ++ m ∷ [] }) t
   asked_for b n p e back token m is =
       let fr = free_of b n p e in
-      let (r, u) = up_of c s.venue.kept (session s c) d.follower (place d) x t x.connection (k.up ∙ fr.up) k.phase in
-      let st = subst
-      (λ g. Channelled x.opening g c s.venue.kept (place d) u.b (download (session s c)) x) fr.idle u.staged in
+      let (r, u) = up_of c s.venue.kept (session s c) d.follower x t x.connection (k.up ∙ fr.up) k.phase in
+      let st = subst (λ g. Channelled x.opening g u.ds (download (session s c)) x) fr.idle u.staged in
+      let now = asked_from (place d p) (at u.b p) in
       record {
-        up = k.up;
+        up = k.up ∙ fr.up;
         quiet = quiet fr.up;
         placed = k.placed;
         known = k.known;
         hers = k.hers;
         sound = λ q. sound;
         few = λ q. few;
-        phase = to_up c s.venue.kept (session s c) (asked_desk p token).follower (place d)
+        phase = to_up c s.venue.kept (session s c) (asked_desk p token).follower
             (record x { asked = x.asked ++ m ∷ [] }) t x.connection r (record {
               y = u.y;
               b = u.b;
-              flowing = record { within = u.flowing.within; flows = u.flowing.flows; taken = u.flowing.taken };
-              bases = u.bases;
-              sides = u.sides;
-              staged = asks x.opening u.b st;
+              ds = with_at u.ds p now;
+              parts = or_as_it_was (λ q z. Whole c (record (marks_of s.venue.kept (session s c) d.follower x u.y u.b u.ds q) {
+                load = z;
+              })) u.ds p now
+                  (reloaded c (marks_of s.venue.kept (session s c) d.follower x u.y u.b u.ds p) now
+                  (asked c (at s.venue.kept p) (place d p) (at u.b p) (u.parts p).based)
+                  (u.parts p)) u.parts;
+              taken = u.taken;
+              staged = asks x.opening u.ds (with_at u.ds p now) (sym (at_written u.ds p now)) st;
             });
       }
     where
-      waits : (b : PerPartition ℕ) → Still (download (session s c)) x
-          → Staged (stage.Asked p) c s.venue.kept (place d) b (download (session s c))
-          (record x { asked = x.asked ++ m ∷ [] })
-      waits b (a, r, ag, e) =
-          (ag, inl (place d p, ap (λ ms. ms ++ m ∷ []) a ∙ ap (λ y. y ∷ []) is, back, omega arith, r, e))
+      waits : (b : ℕ) (ds : PerPartition Load) → asked_from (place d p) b ≡ at ds p → Still (download (session s c)) x
+          → Staged (stage.Asked p) ds (download (session s c)) (record x { asked = x.asked ++ m ∷ [] })
+      waits b ds now (a, r, ag, e) =
+          let (g, w) = subst (λ z. (z.again ≡ []) × AskedAs p z (download (session s c)) (record x { asked = x.asked ++ m ∷ [] }))
+          now (refl, inl (ap (λ ms. ms ++ m ∷ []) a ∙ ap (λ y. y ∷ []) is, back, r, e)) in
+          (ag, g, w)
 
-      asks : (o : Opening) (b : PerPartition ℕ)
-          → Channelled o stage.Idle c s.venue.kept (place d) b (download (session s c)) x
-          → Channelled o (stage.Asked p) c s.venue.kept (place d) b (download (session s c))
-          (record x { asked = x.asked ++ m ∷ [] })
-      asks Awaited b (n, un, st) = (tt, un, waits b st)
-      asks Open b st = waits b st
-      asks Failed b (n, r, ag, e) = (tt, r, ag, e)
+      asks : {b : ℕ} (o : Opening) (ds ds' : PerPartition Load) → asked_from (place d p) b ≡ at ds' p
+          → Channelled o stage.Idle ds (download (session s c)) x
+          → Channelled o (stage.Asked p) ds' (download (session s c)) (record x { asked = x.asked ++ m ∷ [] })
+      asks {b} Awaited ds ds' now (n, un, st) = (tt, un, waits b ds' now st)
+      asks {b} Open ds ds' now st = waits b ds' now st
+      asks {b} Failed ds ds' now (n, r, ag, e) = (tt, r, ag, e)
 
-      quiet : d.follower.up ≡ true → Quiet (asked_desk p token).follower
-      quiet up = record {
-        level = k.quiet.level;
-        down = λ dn. absurd (let z : true ≡ false = sym up ∙ dn in cc);
-      }
+      quiet : is_up d.follower ≡ true → Quiet (asked_desk p token).follower
+      quiet up = up_quiet (asked_desk p token).follower refl
 
   pub ask_keeps : (n : ℕ) (r : Asked) (e : Desk) → r.answer
       ≡ (asks_of d.follower d.token r.before.items (asking d.follower d.token n (length r.before.items))).answer → r.after.items
@@ -508,25 +503,25 @@ begun c ps v = record {
 -- ---- the end
 
 -- a follower that is level somewhere is up
-level_up : (d : Desk) (p : Partition) → Quiet d.follower → state_of d p ≡ Level → d.follower.up ≡ true
-level_up d p q l = by d.follower.up refl
+level_up : (d : Desk) (p : Partition) → Quiet d.follower → state_of d p ≡ Level → is_up d.follower ≡ true
+level_up d p q l = by (is_up d.follower) refl
   where
-    by : (b : Bool) → d.follower.up ≡ b → d.follower.up ≡ true
+    by : (b : Bool) → is_up d.follower ≡ b → is_up d.follower ≡ true
     by true e = e
-    by false e = absurd (let z : Level ≡ Behind = sym l ∙ ((q.down e).1 p).0 in cc)
+    by false e = absurd (let z : Level ≡ Behind [] = sym l ∙ q.fallen e p in cc)
 
 module _ (c : ℕ) (xs : List Done) (w : State) (e : Desk) (l : Line) (k : Keeps c w e l (λ p n. ⊥ ⊎ Took p n xs)) where
   same_orders : (p : Partition) → state_of e p ≡ Level → AllTaken c w p xs → (n : ℕ) → SameOrders c w e p n
   same_orders p lv all n =
       let up = level_up e p k.quiet lv in
-      let (r, u) = up_of c w.venue.kept (session w c) e.follower (place e) l (λ p n. ⊥ ⊎ Took p n xs) l.connection
+      let (r, u) = up_of c w.venue.kept (session w c) e.follower l (λ p n. ⊥ ⊎ Took p n xs) l.connection
       (k.up ∙ up) k.phase in
-      let sided : SidedBy Level c (at w.venue.kept p) (at e.follower.sides p) (at u.y p) (at u.b p) = subst
-      (λ z. SidedBy z c (at w.venue.kept p) (at e.follower.sides p) (at u.y p) (at u.b p)) lv (u.sides p) in
+      let passed : Passed c (at w.venue.kept p) (place e p) (at u.y p) =
+      subst (λ z. SidedBy z c (at w.venue.kept p) (place e p) (at u.y p) (at u.b p)) lv (u.parts p).sided in
       record {
         shown = shown w.venue.instruments w.venue.rows w.venue.kept c e.follower.standings (place e)
-            (k.sound up).recorded k.known p (λ j lt. above j lt (is_hers c w p j) refl (at u.y p) sided.1
-            (u.flowing.taken p j)) n;
+            (k.sound up).recorded k.known p (λ j lt. above j lt (is_hers c w p j) refl (at u.y p) passed
+            (u.taken p j)) n;
         held = (k.sound up).booked n;
       }
     where

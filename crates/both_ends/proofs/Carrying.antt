@@ -1,269 +1,240 @@
--- What is under way to a follower, and what it holds. Assumes nothing.
-use Rattle.std.proofs.Common.{◌≡◌, ◌⊎◌, inl, inr, ℕ, ◌<◌, ◌≤◌, true, List, [], ◌∷◌, ◌++◌, Some, None, Ok, Option, length, pos, refl, sym, ap, ◌∙◌, subst, arith}
+-- What is under way to a follower, and what it holds: runs of the owner's reports between two marks. Assumes nothing.
+use Rattle.std.proofs.Common.{◌≡◌, ◌≢◌, ◌⊎◌, inl, inr, ℕ, ◌≤◌, max, false, cond, List, [], ◌∷◌, ◌++◌, append_assoc, append-nil, Some, None, Ok, Option, Result, length, pos, refl, sym, ap, ◌∙◌, subst, arith}
 use Rattle.std.proofs.lemmas.Option.{none-some}
-use Rattle.std.proofs.lemmas.Bool.{cases_lt}
+use Rattle.codes.specs.Session.{same_partition}
 use Rattle.codes.specs.declared.session.Partition.{Partition}
+use Rattle.codes.specs.declared.session.Partition.TheVariants.{One, Two, Three}
 use Rattle.codes.specs.declared.session.ReportResponse.{ReportResponse}
 use Rattle.codes.specs.declared.session.ReportResponse.TheVariants as ending
-use Rattle.gateway_runs.proofs.Growing.{Grows}
-use Rattle.both_ends.proofs.Flights.{Passed, Next, there_within, next_within, stays_under, hers_grown, passed_grown, next_grown, longer, not_passed, passed_on, next_from, next_above, next_either}
+use Rattle.both_ends.proofs.Flights.{Passed, Next, next_within, stays_under, passed_grown, next_grown, passed_on, next_down, next_up}
 use Rattle.follower.specs.Hearing.{heard_in}
+use Rattle.follower.specs.Numbers.{number_of}
+use Rattle.follower.specs.declared.heard.Heard.{Heard}
 use Rattle.follower.specs.declared.heard.Heard.TheVariants.{Report, End}
 use Rattle.follower.specs.declared.heard.NumberedReport.{NumberedReport}
 use Rattle.keyed.specs.Numbers.{under}
-use Rattle.partitions.proofs.Written.{at_written, written}
-use Rattle.partitions.specs.PerPartition.{at, with_at}
+use Rattle.layout.specs.declared.fault.Fault.{Fault}
+use Rattle.partitions.specs.PerPartition.{at}
 use Rattle.partitions.specs.declared.per_partition.PerPartition.{PerPartition}
-use Rattle.reports.specs.Tally.{is_of}
 use Rattle.reports.specs.Told.{told_of}
 use Rattle.reports.specs.declared.report.Entry.{Entry}
 use Rattle.sessions.specs.Laws.{Grown}
 use Rattle.sessions.specs.declared.download.Download.{Download}
 use Rattle.store.specs.Kept.{Kept}
+use Rattle.venue.proofs.Recording.{same_self}
+
+-- ---- a run of numbers
 
 -- a report as a follower holds it
 abbrev pub held : ℕ → Entry → NumberedReport
 held n e = record { sequence = pos n; told = told_of e.report }
 
--- a message that tells the owner's report of a partition under a number
-pub record Brings (c : ℕ) (l : List Entry) (p : Partition) (n : ℕ) (m : List ℕ) : Type 0 where
+-- it tells what stands under its number, which is the owner's
+pub record Tells (c : ℕ) (l : List Entry) (h : NumberedReport) : Type 0 where
   pub entry : Entry
-  pub stands : under l n ≡ Some entry
+  pub stands : under l (number_of h) ≡ Some entry
   pub owner : entry.owner ≡ c
-  pub heard : heard_in m ≡ Ok (Report p (held n entry))
+  pub told : h ≡ held (number_of h) entry
 
-pub brings_grown : (c : ℕ) (l l' : List Entry) (p : Partition) (n : ℕ) (m : List ℕ) → Grown l l' → n ≤ length l
-    → Brings c l p n m → Brings c l' p n m
-brings_grown c l l' p n m g w h =
-    record { entry = h.entry; stands = stays_under l l' n g w ∙ h.stands; owner = h.owner; heard = h.heard }
+pub tells_grown : (c : ℕ) (l l' : List Entry) (h : NumberedReport) → Grown l l' → number_of h ≤ length l → Tells c l h
+    → Tells c l' h
+tells_grown c l l' h g w t =
+    record { entry = t.entry; stands = stays_under l l' (number_of h) g w ∙ t.stands; owner = t.owner; told = t.told }
 
--- ---- the real-time channel
+-- reports that tell the owner's next numbers from a mark on, those at or below it passed over, and none is left up to
+-- another mark
+abbrev pub Run : ℕ → List Entry → ℕ → List NumberedReport → ℕ → Type 0
+Run c l a [] y = Passed c l a y
+Run c l a (h ∷ hs) y = Tells c l h × Next c l a (number_of h) × Run c l (max a (number_of h)) hs y
 
--- the mark of what is under way in a partition, and how far was sent
-pub record Ahead (c : ℕ) (l : List Entry) (y sent : ℕ) : Type 0 where
-  pub from : y ≤ sent
-  pub within : sent ≤ length l
-  pub passed : Passed c l y sent
-
--- what is under way: the owner's reports above the marks in their order, up to how far was sent
-abbrev pub Flows : ℕ → Kept → PerPartition ℕ → PerPartition ℕ → List (List ℕ) → Type 0
-Flows c k sent y [] = (p : Partition) → Ahead c (at k p) (at y p) (at sent p)
-Flows c k sent y (m ∷ ms) =
-    (p : Partition) × (n : ℕ) × Brings c (at k p) p n m × Next c (at k p) (at y p) n × Flows c k sent (with_at y p n) ms
-
-ahead_grown : (c : ℕ) (l l' : List Entry) (y sent : ℕ) → Grown l l' → Ahead c l y sent → Ahead c l' y sent
-ahead_grown c l l' y sent g h = record {
-  from = h.from;
-  within = (let a = h.within in let b = longer l l' g in omega (arith, a, b));
-  passed = passed_grown c l l' y sent g h.within h.passed;
-}
-
-pub flows_grown : (c : ℕ) (k k' : Kept) (sent y : PerPartition ℕ) (ms : List (List ℕ)) → Grows k k'
-    → Flows c k sent y ms → Flows c k' sent y ms
-flows_grown c k k' sent y [] g h = λ p. ahead_grown c (at k p) (at k' p) (at y p) (at sent p) (g p) (h p)
-flows_grown c k k' sent y (m ∷ ms) g (p, n, b, x, h) = (
-  p,
-  n,
-  brings_grown c (at k p) (at k' p) p n m (g p) (next_within c (at k p) (at y p) n x) b,
-  next_grown c (at k p)
-      (at k' p) (at y p) n (g p) x,
-  flows_grown c k k' sent (with_at y p n) ms g h,
+pub run_grown : (c : ℕ) (l l' : List Entry) (a : ℕ) (hs : List NumberedReport) (y : ℕ) → Grown l l' → y ≤ length l
+    → Run c l a hs y → Run c l' a hs y
+run_grown c l l' a [] y g w r = passed_grown c l l' a y g w r
+run_grown c l l' a (h ∷ hs) y g w (t, x, r) = (
+  tells_grown c l l' h g (next_within c l a (number_of h) x) t,
+  next_grown c l l' a (number_of h) g x,
+  run_grown c l l' (max a (number_of h)) hs y g w r,
 )
 
--- how far was sent moves on where no report of the owner is
-abbrev pub Moves : ℕ → List Entry → ℕ → ℕ → Type 0
-Moves c l s s' = Ahead c l s s'
+-- it begins at any higher mark, which takes what is at or below it along
+pub run_up : (c : ℕ) (l : List Entry) (a b : ℕ) (hs : List NumberedReport) (y : ℕ) → a ≤ b → Run c l a hs y → Run c l b hs y
+run_up c l a b [] y le r = λ j lt q. r j (omega (arith, lt, le)) q
+run_up c l a b (h ∷ hs) y le (t, x, r) = (
+  t,
+  next_up c l a b (number_of h) le x,
+  run_up c l (max a (number_of h)) (max b (number_of h)) hs y (omega (arith, le)) r,
+)
 
-moved_ahead : (c : ℕ) (l : List Entry) (y s s' : ℕ) → Moves c l s s' → Ahead c l y s → Ahead c l y s'
-moved_ahead c l y s s' m h = record {
-  from = (let a = h.from in let b = m.from in omega (arith, a, b));
-  within = m.within;
-  passed = passed_on c l y s s' h.passed m.passed;
+-- and at a lower one, where no report of the owner parts the two
+pub run_down : (c : ℕ) (l : List Entry) (a b : ℕ) (hs : List NumberedReport) (y : ℕ) → Passed c l a b → Run c l b hs y
+    → Run c l a hs y
+run_down c l a b [] y p r = passed_on c l a b y p r
+run_down c l a b (h ∷ hs) y p (t, x, r) = (
+  t,
+  next_down c l a b (number_of h) p x,
+  run_down c l (max a (number_of h)) (max b (number_of h)) hs y
+      (λ j lt le. p j (omega (arith, lt)) (omega (arith, lt, le))) r,
+)
+
+-- it reaches another mark, where whatever passes the one passes the other
+pub run_to : (c : ℕ) (l : List Entry) (a : ℕ) (hs : List NumberedReport) (y z : ℕ)
+    → ((b : ℕ) → a ≤ b → Passed c l b y → Passed c l b z) → Run c l a hs y → Run c l a hs z
+run_to c l a [] y z on r = on a (omega arith) r
+run_to c l a (h ∷ hs) y z on (t, x, r) =
+    (t, x, run_to c l (max a (number_of h)) hs y z (λ b le. on b (omega (arith, le))) r)
+
+-- as one behind which no report of the owner's is up to it
+pub run_on : (c : ℕ) (l : List Entry) (a : ℕ) (hs : List NumberedReport) (y z : ℕ) → Passed c l y z → Run c l a hs y
+    → Run c l a hs z
+run_on c l a hs y z p r = run_to c l a hs y z (λ b le q. passed_on c l b y z q p) r
+
+-- or the number of a report that was passed already
+pub run_past : (c : ℕ) (l : List Entry) (a : ℕ) (hs : List NumberedReport) (y n : ℕ) → n ≤ a → Run c l a hs y
+    → Run c l a hs (max y n)
+run_past c l a hs y n le r = run_to c l a hs y (max y n) (λ b ab p j lt q. p j lt (omega (arith, le, ab, lt, q))) r
+
+-- the next report comes behind it
+pub run_more : (c : ℕ) (l : List Entry) (a : ℕ) (hs : List NumberedReport) (y : ℕ) (h : NumberedReport) → Tells c l h
+    → Next c l y (number_of h) → Run c l a hs y → Run c l a (hs ++ h ∷ []) (max y (number_of h))
+run_more c l a [] y h t x r = (
+  t,
+  next_down c l a y (number_of h) r x,
+  λ j lt le. r j (omega (arith, lt)) (omega (arith, lt, le)),
+)
+run_more c l a (g ∷ hs) y h t x (t', x', r) = (t', x', run_more c l (max a (number_of g)) hs y h t x r)
+
+-- so it reaches the number of that report
+pub run_last : (c : ℕ) (l : List Entry) (a : ℕ) (hs : List NumberedReport) (y : ℕ) (h : NumberedReport) → Tells c l h
+    → Next c l y (number_of h) → Run c l a hs y → Run c l a (hs ++ h ∷ []) (number_of h)
+run_last c l a hs y h t x r =
+    run_to c l a (hs ++ h ∷ []) (max y (number_of h)) (number_of h)
+    (λ b le p j lt q. p j lt (omega (arith, q))) (run_more c l a hs y h t x r)
+
+-- ---- the reports of a partition among messages
+
+-- what is heard of a partition's reports
+abbrev pub told_to : Partition → Result Heard Fault → List NumberedReport
+told_to p (Ok (Report q h)) = cond (same_partition p q) (h ∷ []) []
+told_to p r = []
+
+abbrev pub reports_of : Partition → List (List ℕ) → List NumberedReport
+reports_of p [] = []
+reports_of p (m ∷ ms) = told_to p (heard_in m) ++ reports_of p ms
+
+pub reports_more : (p : Partition) (ms more : List (List ℕ)) → reports_of p (ms ++ more) ≡ reports_of p ms ++ reports_of p more
+reports_more p [] more = refl
+reports_more p (m ∷ ms) more =
+    ap (λ hs. told_to p (heard_in m) ++ hs) (reports_more p ms more)
+    ∙ sym (append_assoc (told_to p (heard_in m)) (reports_of p ms) (reports_of p more))
+
+-- one message more
+pub reports_behind : (p : Partition) (ms : List (List ℕ)) (m : List ℕ) (hs : List NumberedReport) → told_to p (heard_in m) ≡ hs
+    → reports_of p (ms ++ m ∷ []) ≡ reports_of p ms ++ hs
+reports_behind p ms m hs e =
+    reports_more p ms (m ∷ []) ∙ ap (λ z. reports_of p ms ++ z) (append-nil (told_to p (heard_in m)) ∙ e)
+
+pub told_here : (p : Partition) (m : List ℕ) (h : NumberedReport) → heard_in m ≡ Ok (Report p h)
+    → told_to p (heard_in m) ≡ h ∷ []
+told_here p m h e = ap (told_to p) e ∙ ap (λ b. cond b (h ∷ []) []) (same_self p)
+
+pub same_or_not : (p q : Partition) → (p ≡ q) ⊎ (p ≢ q)
+same_or_not One One = inl refl
+same_or_not One Two = inr (λ e. cc)
+same_or_not One Three = inr (λ e. cc)
+same_or_not Two One = inr (λ e. cc)
+same_or_not Two Two = inl refl
+same_or_not Two Three = inr (λ e. cc)
+same_or_not Three One = inr (λ e. cc)
+same_or_not Three Two = inr (λ e. cc)
+same_or_not Three Three = inl refl
+
+unlike : (p q : Partition) → p ≢ q → same_partition q p ≡ false
+unlike One One ne = absurd (ne refl)
+unlike One Two ne = refl
+unlike One Three ne = refl
+unlike Two One ne = refl
+unlike Two Two ne = absurd (ne refl)
+unlike Two Three ne = refl
+unlike Three One ne = refl
+unlike Three Two ne = refl
+unlike Three Three ne = absurd (ne refl)
+
+pub told_apart : (p q : Partition) (m : List ℕ) (h : NumberedReport) → heard_in m ≡ Ok (Report p h) → p ≢ q
+    → told_to q (heard_in m) ≡ []
+told_apart p q m h e ne = ap (told_to q) e ∙ ap (λ b. cond b (h ∷ []) []) (unlike p q ne)
+
+-- a report of a partition is in front, and comes behind: so it is of that partition alone
+pub record Front (p : Partition) (h : NumberedReport) (ms rest : List (List ℕ)) : Type 0 where
+  pub here : reports_of p ms ≡ h ∷ reports_of p rest
+  pub others : (q : Partition) → p ≢ q → reports_of q ms ≡ reports_of q rest
+
+pub front : (p : Partition) (h : NumberedReport) (m : List ℕ) (rest : List (List ℕ)) → heard_in m ≡ Ok (Report p h)
+    → Front p h (m ∷ rest) rest
+front p h m rest e = record {
+  here = ap (λ z. z ++ reports_of p rest) (told_here p m h e);
+  others = λ q ne. ap (λ z. z ++ reports_of q rest) (told_apart p q m h e ne);
 }
 
-pub flows_on : (c : ℕ) (k : Kept) (sent sent' y : PerPartition ℕ) (ms : List (List ℕ))
-    → ((p : Partition) → Moves c (at k p) (at sent p) (at sent' p)) → Flows c k sent y ms → Flows c k sent' y ms
-flows_on c k sent sent' y [] g h = λ p. moved_ahead c (at k p) (at y p) (at sent p) (at sent' p) (g p) (h p)
-flows_on c k sent sent' y (m ∷ ms) g (p, n, b, x, h) = (p, n, b, x, flows_on c k sent sent' (with_at y p n) ms g h)
+pub record Back (p : Partition) (h : NumberedReport) (ms : List (List ℕ)) (m : List ℕ) : Type 0 where
+  pub here : reports_of p (ms ++ m ∷ []) ≡ reports_of p ms ++ h ∷ []
+  pub others : (q : Partition) → p ≢ q → reports_of q (ms ++ m ∷ []) ≡ reports_of q ms
 
--- a report more is sent
+pub back : (p : Partition) (h : NumberedReport) (ms : List (List ℕ)) (m : List ℕ) → heard_in m ≡ Ok (Report p h)
+    → Back p h ms m
+back p h ms m e = record {
+  here = reports_behind p ms m (h ∷ []) (told_here p m h e);
+  others = λ q ne. reports_behind q ms m [] (told_apart p q m h e ne) ∙ append-nil (reports_of q ms);
+}
+
+-- ---- how far was sent
+
+-- it moves on where no report of the owner is
+pub record Moves (c : ℕ) (l : List Entry) (s s' : ℕ) : Type 0 where
+  pub within : s' ≤ length l
+  pub passed : Passed c l s s'
+
+-- or to the next one
 pub record Sent (c : ℕ) (k : Kept) (sent sent' : PerPartition ℕ) (q : Partition) (n : ℕ) : Type 0 where
   pub next : Next c (at k q) (at sent q) n
   pub mark : at sent' q ≡ n
-  pub others : (p : Partition) → (q ≡ p) ⊎ Moves c (at k p) (at sent p) (at sent' p)
-
-pub flows_more : (c : ℕ) (k : Kept) (sent sent' y : PerPartition ℕ) (ms : List (List ℕ)) (q : Partition) (n : ℕ)
-    (m : List ℕ) → Sent c k sent sent' q n → Brings c (at k q) q n m → Flows c k sent y ms
-    → Flows c k sent' y (ms ++ m ∷ [])
-flows_more c k sent sent' y [] q n m s b h =
-    let a = h q in
-    (q, n, b, next_from c (at k q) (at y q) (at sent q) n a.passed a.from s.next, λ p. ends p (s.others p))
-  where
-    here : (p : Partition) → q ≡ p → Ahead c (at k p) n (at sent' p)
-    here p e = subst (λ u. Ahead c (at k u) n (at sent' u)) e (record {
-      from = (let z : at sent' q ≡ n = s.mark in omega (arith, z));
-      within = (let z : at sent' q ≡ n = s.mark in let w = next_within c (at k q) (at sent q) n s.next in omega
-          (arith, z, w));
-      passed = λ j lt le. absurd (let z : at sent' q ≡ n = s.mark in omega (arith, z, lt, le));
-    })
-
-    ends : (p : Partition) → (q ≡ p) ⊎ Moves c (at k p) (at sent p) (at sent' p)
-        → Ahead c (at k p) (at (with_at y q n) p) (at sent' p)
-    ends p (inl e) =
-        subst (λ u. Ahead c (at k u) (at (with_at y q n) u) (at sent' u)) e
-        (subst (λ z. Ahead c (at k q) z (at sent' q)) (sym (at_written y q n)) (here q refl))
-    ends p (inr g) =
-        written (λ u z. Ahead c (at k u) z (at sent' u)) y q p n (here p)
-        (moved_ahead c (at k p) (at y p) (at sent p) (at sent' p) g (h p))
-flows_more c k sent sent' y (x ∷ ms) q n m s b (p, i, b', t, h) =
-    (p, i, b', t, flows_more c k sent sent' (with_at y p i) ms q n m s b h)
-
--- ---- what is held
-
--- held reports, of which those above a number are the owner's next ones, up to another
-abbrev pub Holding : ℕ → List Entry → ℕ → List NumberedReport → ℕ → Type 0
-Holding c l a [] y = Passed c l a y
-Holding c l a (h ∷ hs) y =
-    (n : ℕ) × (e : Entry) × (under l n ≡ Some e) × (e.owner ≡ c) × (h ≡ held n e) × (is_of c (under l n) ≡ true)
-    × (((n ≤ a) × Holding c l a hs y) ⊎ (Next c l a n × Holding c l n hs y))
-
-pub holding_grown : (c : ℕ) (l l' : List Entry) (a : ℕ) (hs : List NumberedReport) (y : ℕ) → Grown l l' → y ≤ length l
-    → Holding c l a hs y → Holding c l' a hs y
-holding_grown c l l' a [] y g w h = passed_grown c l l' a y g w h
-holding_grown c l l' a (x ∷ hs) y g w (n, e, s, o, i, t, inl (le, h)) = (
-  n,
-  e,
-  stays_under l l' n g (there_within c l n t) ∙ s,
-  o,
-  i,
-  hers_grown c l l' n g t,
-  inl
-      (le, holding_grown c l l' a hs y g w h),
-)
-holding_grown c l l' a (x ∷ hs) y g w (n, e, s, o, i, t, inr (q, h)) = (
-  n,
-  e,
-  stays_under l l' n g (there_within c l n t) ∙ s,
-  o,
-  i,
-  hers_grown c l l' n g t,
-  inr
-      (next_grown c l l' a n g q, holding_grown c l l' n hs y g w h),
-)
-
--- the first that is held, by whether a number has reached it
-abbrev First : ℕ → List Entry → ℕ → List NumberedReport → ℕ → ℕ → Type 0
-First c l a hs y n = ((n ≤ a) × Holding c l a hs y) ⊎ (Next c l a n × Holding c l n hs y)
-
--- a number that is passed takes what is at or below it along
-pub holding_up : (c : ℕ) (l : List Entry) (a a' : ℕ) (hs : List NumberedReport) (y : ℕ) → a ≤ a' → Holding c l a hs y
-    → Holding c l a' hs y
-holding_up c l a a' [] y le h = λ j lt q. h j (omega (arith, lt, le)) q
-holding_up c l a a' (x ∷ hs) y le (n, e, s, o, i, t, inl (q, h)) =
-    (n, e, s, o, i, t, inl (omega (arith, q, le), holding_up c l a a' hs y le h))
-holding_up c l a a' (x ∷ hs) y le (n, e, s, o, i, t, inr (q, h)) =
-    (n, e, s, o, i, t, by (λ z. holding_up c l n a' hs y z h) (cases_lt a' n))
-  where
-    by : (n ≤ a' → Holding c l a' hs y) → (a' < n) ⊎ (n ≤ a') → First c l a' hs y n
-    by up (inl z) = inr (next_above c l a a' n le z q, h)
-    by up (inr z) = inl (z, up z)
-
--- it may also be lower, where no report of the owner parts the two
-pub holding_down : (c : ℕ) (l : List Entry) (k a : ℕ) (hs : List NumberedReport) (y : ℕ) → k ≤ a → Passed c l k a
-    → Holding c l a hs y → Holding c l k hs y
-holding_down c l k a [] y le p h = passed_on c l k a y p h
-holding_down c l k a (x ∷ hs) y le p (n, e, s, o, i, t, inl (q, h)) =
-    (n, e, s, o, i, t, by (holding_down c l k a hs y le p h) (cases_lt k n))
-  where
-    by : Holding c l k hs y → (k < n) ⊎ (n ≤ k) → First c l k hs y n
-    by down (inl z) = not_passed c l k a n p t z q
-    by down (inr z) = inl (z, down)
-holding_down c l k a (x ∷ hs) y le p (n, e, s, o, i, t, inr (q, h)) =
-    (n, e, s, o, i, t, inr (next_from c l k a n p le q, h))
-
--- the next report comes, and is held
-pub holding_more : (c : ℕ) (l : List Entry) (a : ℕ) (hs : List NumberedReport) (y n : ℕ) (e : Entry) → under l n ≡ Some e
-    → e.owner ≡ c → Next c l y n → Holding c l a hs y → Holding c l a (hs ++ held n e ∷ []) n
-holding_more c l a [] y n e s o x h = (n, e, s, o, refl, x.hers, by (cases_lt a n))
-  where
-    by : (a < n) ⊎ (n ≤ a) → First c l a [] n n
-    by (inl q) = inr (next_either c l a y n h x q, λ j lt le. absurd (omega (arith, lt, le)))
-    by (inr q) = inl (q, λ j lt le. absurd (omega (arith, lt, le, q)))
-holding_more c l a (g ∷ hs) y n e s o x (n', e', s', o', i, t, inl (q, h)) =
-    (n', e', s', o', i, t, inl (q, holding_more c l a hs y n e s o x h))
-holding_more c l a (g ∷ hs) y n e s o x (n', e', s', o', i, t, inr (q, h)) =
-    (n', e', s', o', i, t, inr (q, holding_more c l n' hs y n e s o x h))
-
--- the next report comes, and was folded before
-pub holding_on : (c : ℕ) (l : List Entry) (a : ℕ) (hs : List NumberedReport) (y n : ℕ) → n ≤ a → Holding c l a hs y
-    → Holding c l a hs n
-holding_on c l a [] y n le h = λ j lt q. absurd (omega (arith, lt, q, le))
-holding_on c l a (g ∷ hs) y n le (n', e', s', o', i, t, inl (q, h)) =
-    (n', e', s', o', i, t, inl (q, holding_on c l a hs y n le h))
-holding_on c l a (g ∷ hs) y n le (n', e', s', o', i, t, inr (q, h)) =
-    (n', e', s', o', i, t, inr (q, holding_on c l n' hs y n (let lt = q.above in omega (arith, lt, le)) h))
+  pub others : (p : Partition) → q ≢ p → Moves c (at k p) (at sent p) (at sent' p)
 
 -- ---- the recovery channel
 
--- the end of a download: complete only where no report of the owner is left up to a number that covers another
-abbrev pub Over : ℕ → List Entry → ℕ → ℕ → ReportResponse → Type 0
-Over c l b from ending.Complete = (t : ℕ) × (b ≤ t) × (t ≤ length l) × Passed c l from t
-Over c l b from ending.MessageLimit = Unit {0}
-Over c l b from ending.ServiceUnavailable = Unit {0}
+-- the end of a download: complete only where it went as far as it was to
+abbrev pub Over : ReportResponse → ℕ → ℕ → Type 0
+Over ending.Complete y aim = y ≡ aim
+Over ending.MessageLimit y aim = Unit {0}
+Over ending.ServiceUnavailable y aim = Unit {0}
 
--- a download of a partition that has handed out all up to a number
-pub record Runs (p : Partition) (l : List Entry) (b from : ℕ) (d : Download) : Type 0 where
+-- a download of a partition that has handed out all up to a mark
+pub record Runs (p : Partition) (d : Download) (y aim : ℕ) : Type 0 where
   pub partition : d.partition ≡ p
-  pub last : d.last ≡ from
-  pub covers : b ≤ d.target
-  pub within : d.target ≤ length l
+  pub last : d.last ≡ y
+  pub target : d.target ≡ aim
 
--- what is under way of a download from a number on: the owner's next reports, and its end; and what is left of it
-abbrev pub Loads : ℕ → List Entry → Partition → ℕ → Option Download → ℕ → List (List ℕ) → Type 0
-Loads c l p b o from [] = (o ≡ None) ⊎ ((d : Download) × (o ≡ Some d) × Runs p l b from d)
-Loads c l p b o from (m ∷ ms) =
-    ((r : ReportResponse) × (heard_in m ≡ Ok (End r)) × (ms ≡ []) × (o ≡ None) × Over c l b from r)
-    ⊎ ((n : ℕ) × Brings c l p n m × Next c l from n × Loads c l p b o n ms)
+-- messages that are the reports of a partition, up to a mark, and behind them the end of its download, or what is left of it
+abbrev pub Delivery : Partition → Option Download → List (List ℕ) → List NumberedReport → ℕ → ℕ → Type 0
+Delivery p o [] hs y aim = (hs ≡ []) × ((o ≡ None) ⊎ ((d : Download) × (o ≡ Some d) × Runs p d y aim))
+Delivery p o (m ∷ ms) hs y aim =
+    ((r : ReportResponse) × (heard_in m ≡ Ok (End r)) × (ms ≡ []) × (o ≡ None) × (hs ≡ []) × Over r y aim)
+    ⊎ ((h : NumberedReport) × (is : List NumberedReport) × (heard_in m ≡ Ok (Report p h)) × (hs ≡ h ∷ is)
+    × Delivery p o ms is y aim)
 
-over_grown : (c : ℕ) (l l' : List Entry) (b from : ℕ) (r : ReportResponse) → Grown l l' → Over c l b from r
-    → Over c l' b from r
-over_grown c l l' b from ending.Complete g (t, q, w, h) =
-    (t, q, (let a = longer l l' g in omega (arith, a, w)), passed_grown c l l' from t g w h)
-over_grown c l l' b from ending.MessageLimit g h = tt
-over_grown c l l' b from ending.ServiceUnavailable g h = tt
-
-runs_grown : (p : Partition) (l l' : List Entry) (b from : ℕ) (d : Download) → Grown l l' → Runs p l b from d
-    → Runs p l' b from d
-runs_grown p l l' b from d g h = record {
-  partition = h.partition;
-  last = h.last;
-  covers = h.covers;
-  within = (let a = longer l l' g in let w = h.within in omega (arith, a, w));
-}
-
-pub loads_grown : (c : ℕ) (l l' : List Entry) (p : Partition) (b : ℕ) (o : Option Download) (from : ℕ)
-    (ms : List (List ℕ)) → Grown l l' → Loads c l p b o from ms → Loads c l' p b o from ms
-loads_grown c l l' p b o from [] g (inl e) = inl e
-loads_grown c l l' p b o from [] g (inr (d, e, h)) = inr (d, e, runs_grown p l l' b from d g h)
-loads_grown c l l' p b o from (m ∷ ms) g (inl (r, h, e, z, v)) = inl (r, h, e, z, over_grown c l l' b from r g v)
-loads_grown c l l' p b o from (m ∷ ms) g (inr (n, h, x, q)) =
-    inr (
-      n,
-      brings_grown c l l' p n m g (next_within c l from n x) h,
-      next_grown c l l' from n g x,
-      loads_grown c l l'
-          p b o n ms g q,
-    )
-
--- the line is cut: nothing more comes behind what is under way
-pub loads_cut : (c : ℕ) (l : List Entry) (p : Partition) (b : ℕ) (o : Option Download) (from : ℕ) (ms : List (List ℕ))
-    → Loads c l p b o from ms → Loads c l p b None from ms
-loads_cut c l p b o from [] h = inl refl
-loads_cut c l p b o from (m ∷ ms) (inl (r, h, e, z, v)) = inl (r, h, e, refl, v)
-loads_cut c l p b o from (m ∷ ms) (inr (n, h, x, q)) = inr (n, h, x, loads_cut c l p b o n ms q)
+-- messages that are reports of a partition
+abbrev pub OfPart : Partition → List (List ℕ) → List NumberedReport → Type 0
+OfPart p [] hs = hs ≡ []
+OfPart p (m ∷ ms) hs =
+    (h : NumberedReport) × (is : List NumberedReport) × (heard_in m ≡ Ok (Report p h)) × (hs ≡ h ∷ is) × OfPart p ms is
 
 same_some : {A : Type 0} (a b : A) → Some a ≡ Some b → a ≡ b
 same_some a b e = cc
+
+pub same_heard : (a b : Heard) (r : Result Heard Fault) → r ≡ Ok a → r ≡ Ok b → a ≡ b
+same_heard a b r e f = cc
+
+pub heard_apart : {X : Type 0} (m : List ℕ) (a b : Heard) → heard_in m ≡ Ok a → heard_in m ≡ Ok b → (a ≡ b → ⊥) → X
+heard_apart m a b h g ne = absurd (ne (same_heard a b (heard_in m) h g))
 
 -- the download hands out the owner's next report
 pub record Further (d d' : Download) (n : ℕ) : Type 0 where
@@ -271,54 +242,105 @@ pub record Further (d d' : Download) (n : ℕ) : Type 0 where
   pub target : d'.target ≡ d.target
   pub last : d'.last ≡ n
 
-pub loads_more : (c : ℕ) (l : List Entry) (p : Partition) (b : ℕ) (d d' : Download) (from : ℕ) (ms : List (List ℕ))
-    (n : ℕ) (m : List ℕ) → Further d d' n → Next c l d.last n → Brings c l p n m → Loads c l p b (Some d) from ms
-    → Loads c l p b (Some d') from (ms ++ m ∷ [])
-loads_more c l p b d d' from [] n m f x h (inl e) = absurd (none-some d (sym e))
-loads_more c l p b d d' from [] n m f x h (inr (d'', e, r)) =
-    let same = same_some d d'' e in
-    let was : d.last ≡ from = ap (λ (u : Download). u.last) same ∙ r.last in
-    inr (
-      n,
-      h,
-      subst (λ u. Next c l u n) was x,
-      inr (
-        d',
-        refl,
-        record {
-          partition = f.partition ∙ ap (λ (u : Download). u.partition) same ∙ r.partition;
-          last = f.last;
-          covers = subst (λ u. b ≤ u) (sym (f.target ∙ ap (λ (u : Download). u.target) same)) r.covers;
-          within = subst (λ u. u ≤ length l) (sym (f.target ∙ ap (λ (u : Download). u.target) same)) r.within;
-        },
-      ),
-    )
-loads_more c l p b d d' from (y ∷ ms) n m f x h (inl (r, g, e, z, v)) = absurd (none-some d (sym z))
-loads_more c l p b d d' from (y ∷ ms) n m f x h (inr (i, g, t, q)) =
-    inr (i, g, t, loads_more c l p b d d' i ms n m f x h q)
+module _ (p : Partition) where
+  -- the line is cut: nothing more comes behind what is under way
+  pub delivery_cut : (o : Option Download) (ms : List (List ℕ)) (hs : List NumberedReport) (y aim : ℕ)
+      → Delivery p o ms hs y aim → Delivery p None ms hs y aim
+  delivery_cut o [] hs y aim (e, h) = (e, inl refl)
+  delivery_cut o (m ∷ ms) hs y aim (inl (r, h, e, z, n, v)) = inl (r, h, e, refl, n, v)
+  delivery_cut o (m ∷ ms) hs y aim (inr (h, is, e, n, q)) = inr (h, is, e, n, delivery_cut o ms is y aim q)
 
--- the download ends
-pub loads_end : (c : ℕ) (l : List Entry) (p : Partition) (b : ℕ) (d : Download) (from : ℕ) (ms : List (List ℕ))
-    (r : ReportResponse) (m : List ℕ) → (r ≡ ending.Complete → Passed c l d.last d.target) → heard_in m ≡ Ok (End r)
-    → Loads c l p b (Some d) from ms → Loads c l p b None from (ms ++ m ∷ [])
-loads_end c l p b d from [] r m f h (inl e) = absurd (none-some d (sym e))
-loads_end c l p b d from [] r m f h (inr (d'', e, g)) =
-    let same = same_some d d'' e in
-    let was : d.last ≡ from = ap (λ (u : Download). u.last) same ∙ g.last in
-    let aim : d.target ≡ d''.target = ap (λ (u : Download). u.target) same in
-    inl (
-      r,
-      h,
-      refl,
-      refl,
-      over r (λ k. subst (λ u. Passed c l u d''.target) was
-          (subst (λ u. Passed c l d.last u) aim (f k))) d''.target g.covers g.within,
-    )
-  where
-    over : (r : ReportResponse) → ((r ≡ ending.Complete) → Passed c l from d''.target) → (t : ℕ) → b ≤ d''.target
-        → d''.target ≤ length l → Over c l b from r
-    over ending.Complete k t q w = (d''.target, q, w, k refl)
-    over ending.MessageLimit k t q w = tt
-    over ending.ServiceUnavailable k t q w = tt
-loads_end c l p b d from (y ∷ ms) r m f h (inl (r', g, e, z, v)) = absurd (none-some d (sym z))
-loads_end c l p b d from (y ∷ ms) r m f h (inr (i, g, t, q)) = inr (i, g, t, loads_end c l p b d i ms r m f h q)
+  -- the download that runs has handed out what is under way
+  pub delivery_runs : (d : Download) (ms : List (List ℕ)) (hs : List NumberedReport) (y aim : ℕ)
+      → Delivery p (Some d) ms hs y aim → Runs p d y aim
+  delivery_runs d [] hs y aim (n, inl e) = absurd (none-some d (sym e))
+  delivery_runs d [] hs y aim (n, inr (d', e, r)) = subst (λ u. Runs p u y aim) (sym (same_some d d' e)) r
+  delivery_runs d (m ∷ ms) hs y aim (inl (r, h, e, z, n, v)) = absurd (none-some d (sym z))
+  delivery_runs d (m ∷ ms) hs y aim (inr (h, is, e, n, q)) = delivery_runs d ms is y aim q
+
+  -- it hands out a report
+  pub delivery_more : (d d' : Download) (ms : List (List ℕ)) (hs : List NumberedReport) (y aim : ℕ) (m : List ℕ)
+      (h : NumberedReport) → Further d d' (number_of h) → heard_in m ≡ Ok (Report p h) → Delivery p (Some d) ms hs y aim
+      → Delivery p (Some d') (ms ++ m ∷ []) (hs ++ h ∷ []) (number_of h) aim
+  delivery_more d d' [] hs y aim m h f g (n, q) =
+      let r = delivery_runs d [] hs y aim (n, q) in
+      inr (
+        h,
+        [],
+        g,
+        ap (λ z. z ++ h ∷ []) n,
+        (
+          refl,
+          inr (
+            d',
+            refl,
+            record {
+              partition = f.partition ∙ r.partition;
+              last = f.last;
+              target = f.target ∙ r.target;
+            },
+          ),
+        ),
+      )
+  delivery_more d d' (i ∷ ms) hs y aim m h f g (inl (r, a, e, z, n, v)) = absurd (none-some d (sym z))
+  delivery_more d d' (i ∷ ms) hs y aim m h f g (inr (j, is, e, n, q)) =
+      inr (j, is ++ h ∷ [], e, ap (λ z. z ++ h ∷ []) n, delivery_more d d' ms is y aim m h f g q)
+
+  -- it ends
+  pub delivery_end : (d : Download) (ms : List (List ℕ)) (hs : List NumberedReport) (y z aim : ℕ) (m : List ℕ)
+      (r : ReportResponse) → heard_in m ≡ Ok (End r) → Over r z aim → Delivery p (Some d) ms hs y aim
+      → Delivery p None (ms ++ m ∷ []) hs z aim
+  delivery_end d [] hs y z aim m r g v (n, q) = inl (r, g, refl, refl, n, v)
+  delivery_end d (i ∷ ms) hs y z aim m r g v (inl (r', a, e, n, u, w)) = absurd (none-some d (sym n))
+  delivery_end d (i ∷ ms) hs y z aim m r g v (inr (j, is, e, n, q)) =
+      inr (j, is, e, n, delivery_end d ms is y z aim m r g v q)
+
+  -- ---- what is at the front of it
+
+  module _ (o : Option Download) (m : List ℕ) (ms : List (List ℕ)) (hs : List NumberedReport) (y aim : ℕ)
+      (q : Delivery p o (m ∷ ms) hs y aim) where
+    -- a report is of its partition
+    pub delivery_part : (u : Partition) (h : NumberedReport) → heard_in m ≡ Ok (Report u h) → u ≡ p
+    delivery_part u h e = by q
+      where
+        part : (i : NumberedReport) → Report u h ≡ Report p i → u ≡ p
+        part i z = cc
+
+        by : Delivery p o (m ∷ ms) hs y aim → u ≡ p
+        by (inl (r, g, n, z, w, v)) = heard_apart m (Report u h) (End r) e g (λ i. cc)
+        by (inr (i, is, g, n, w)) = part i (same_heard (Report u h) (Report p i) (heard_in m) e g)
+
+    -- and the first of those under way
+    pub delivery_next : (h : NumberedReport) → heard_in m ≡ Ok (Report p h)
+        → (is : List NumberedReport) × (hs ≡ h ∷ is) × Delivery p o ms is y aim
+    delivery_next h e = by q
+      where
+        told : (i : NumberedReport) → Report p i ≡ Report p h → i ≡ h
+        told i z = cc
+
+        by : Delivery p o (m ∷ ms) hs y aim → (is : List NumberedReport) × (hs ≡ h ∷ is) × Delivery p o ms is y aim
+        by (inl (r, g, n, z, w, v)) = heard_apart m (Report p h) (End r) e g (λ i. cc)
+        by (inr (i, is, g, n, w)) =
+            (is, n ∙ ap (λ z. z ∷ is) (told i (same_heard (Report p i) (Report p h) (heard_in m) g e)), w)
+
+    -- its end is the last
+    pub delivery_over : (r : ReportResponse) → heard_in m ≡ Ok (End r)
+        → (ms ≡ []) × (o ≡ None) × (hs ≡ []) × Over r y aim
+    delivery_over r e = by q
+      where
+        same : (i : ReportResponse) → End i ≡ End r → i ≡ r
+        same i z = cc
+
+        by : Delivery p o (m ∷ ms) hs y aim → (ms ≡ []) × (o ≡ None) × (hs ≡ []) × Over r y aim
+        by (inl (i, g, n, z, w, v)) =
+            (n, z, w, subst (λ j. Over j y aim) (same i (same_heard (End i) (End r) (heard_in m) g e)) v)
+        by (inr (i, is, g, n, w)) = heard_apart m (End r) (Report p i) e g (λ j. cc)
+
+    -- and nothing else is there
+    pub delivery_other : {X : Type 0} (h : Heard) → heard_in m ≡ Ok h → ((r : ReportResponse) → h ≡ End r → ⊥)
+        → ((i : NumberedReport) → h ≡ Report p i → ⊥) → X
+    delivery_other {X} h e n1 n2 = by q
+      where
+        by : Delivery p o (m ∷ ms) hs y aim → X
+        by (inl (r, g, n, z, w, v)) = heard_apart m h (End r) e g (n1 r)
+        by (inr (i, is, g, n, w)) = heard_apart m h (Report p i) e g (n2 i)

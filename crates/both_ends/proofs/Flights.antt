@@ -1,6 +1,6 @@
 -- The numbers of an owner's reports: which comes next, what was passed, and what grows. Assumes nothing.
-use Rattle.std.proofs.Common.{◌≡◌, ◌⊎◌, inl, inr, ℕ, zero, suc, ◌<◌, ◌≤◌, true, false, List, [], ◌∷◌, ◌++◌, Some, None, Option, length, refl, sym, ap, ◌∙◌, subst, arith}
-use Rattle.std.proofs.lemmas.Bool.{cases_lt, eqb-true, true≢false}
+use Rattle.std.proofs.Common.{◌≡◌, ◌⊎◌, inl, inr, ℕ, zero, suc, ◌<◌, ◌≤◌, true, false, List, [], ◌∷◌, ◌++◌, append-nil, Some, None, Option, length, refl, sym, ap, ◌∙◌, subst, arith}
+use Rattle.std.proofs.lemmas.Bool.{cases_lt, eqb-true}
 use Rattle.keyed.specs.Numbers.{under}
 use Rattle.reports.specs.declared.report.Entry.{Entry}
 use Rattle.reports.specs.Tally.{is_of}
@@ -12,9 +12,8 @@ use Rattle.store.specs.Laws.{Lowest}
 abbrev pub Passed : ℕ → List Entry → ℕ → ℕ → Type 0
 Passed c l a z = (j : ℕ) → a < j → j ≤ z → is_of c (under l j) ≡ false
 
--- the owner's next report above a number
+-- the owner's next report above a mark, or one at or below it
 pub record Next (c : ℕ) (l : List Entry) (a n : ℕ) : Type 0 where
-  pub above : a < n
   pub hers : is_of c (under l n) ≡ true
   pub between : (j : ℕ) → a < j → j < n → is_of c (under l j) ≡ false
 
@@ -43,10 +42,12 @@ pub next_grown : (c : ℕ) (l l' : List Entry) (a n : ℕ) → Grown l l' → Ne
 next_grown c l l' a n g h =
     let w = next_within c l a n h in
     record {
-      above = h.above;
       hers = hers_grown c l l' n g h.hers;
       between = λ j lt le. ap (is_of c) (stays_under l l' j g (omega (arith, le, w))) ∙ h.between j lt le;
     }
+
+pub same : (l : List Entry) → Grown l l
+same l = ([], sym (append-nil l))
 
 pub longer : (l l' : List Entry) → Grown l l' → length l ≤ length l'
 longer l l' (more, e) = subst (λ (xs : List Entry). length l ≤ length xs) (sym e) (by l)
@@ -54,11 +55,6 @@ longer l l' (more, e) = subst (λ (xs : List Entry). length l ≤ length xs) (sy
     by : (xs : List Entry) → length xs ≤ length (xs ++ more)
     by [] = omega arith
     by (x ∷ xs) = let h = by xs in omega (arith, h)
-
--- an owner's number is not among those that were passed
-pub not_passed : {X : Type 0} (c : ℕ) (l : List Entry) (a z n : ℕ) → Passed c l a z → is_of c (under l n) ≡ true
-    → a < n → n ≤ z → X
-not_passed c l a z n h t lt le = absurd (true≢false (sym t ∙ h n lt le))
 
 pub passed_on : (c : ℕ) (l : List Entry) (a b z : ℕ) → Passed c l a b → Passed c l b z → Passed c l a z
 passed_on c l a b z h g = λ j lt le. by j lt le (cases_lt b j)
@@ -70,29 +66,21 @@ passed_on c l a b z h g = λ j lt le. by j lt le (cases_lt b j)
 pub passed_less : (c : ℕ) (l : List Entry) (a a' z z' : ℕ) → a ≤ a' → z' ≤ z → Passed c l a z → Passed c l a' z'
 passed_less c l a a' z z' h g p = λ j lt le. p j (omega (arith, h, lt)) (omega (arith, g, le))
 
--- the next above a number is the next above one that no report of the owner's parts from it
-pub next_from : (c : ℕ) (l : List Entry) (a b n : ℕ) → Passed c l a b → a ≤ b → Next c l b n → Next c l a n
-next_from c l a b n p le h = record {
-  above = let lt = h.above in omega (arith, lt, le);
-  hers = h.hers;
-  between = λ j lt q. by j lt q (cases_lt b j);
-}
+-- the next above a mark is the next above one that no report of the owner's parts from it
+pub next_down : (c : ℕ) (l : List Entry) (a b n : ℕ) → Passed c l a b → Next c l b n → Next c l a n
+next_down c l a b n p h = record { hers = h.hers; between = λ j lt q. by j lt q (cases_lt b j) }
   where
     by : (j : ℕ) → a < j → j < n → (b < j) ⊎ (j ≤ b) → is_of c (under l j) ≡ false
     by j lt q (inl r) = h.between j r q
     by j lt q (inr r) = p j lt r
 
--- and one between the two changes nothing
-pub next_above : (c : ℕ) (l : List Entry) (a b n : ℕ) → a ≤ b → b < n → Next c l a n → Next c l b n
-next_above c l a b n le lt h = record {
-  above = lt;
-  hers = h.hers;
-  between = λ j p q. h.between j (omega (arith, p, le)) q;
-}
+-- and above any higher one
+pub next_up : (c : ℕ) (l : List Entry) (a b n : ℕ) → a ≤ b → Next c l a n → Next c l b n
+next_up c l a b n le h = record { hers = h.hers; between = λ j p q. h.between j (omega (arith, p, le)) q }
 
 -- a look for the next number finds it, or passes all
 pub found : (c : ℕ) (l : List Entry) (a n : ℕ) → Lowest l c a (Some n) → Next c l a n
-found c l a n h = record { above = h.0; hers = h.1; between = h.2 }
+found c l a n h = record { hers = h.1; between = h.2 }
 
 pub passed_all : (c : ℕ) (l : List Entry) (a z : ℕ) → Lowest l c a None → Passed c l a z
 passed_all c l a z h = λ j lt le. h j lt
@@ -102,14 +90,6 @@ pub record Hers (c : ℕ) (l : List Entry) (n : ℕ) : Type 0 where
   pub entry : Entry
   pub stands : under l n ≡ Some entry
   pub owner : entry.owner ≡ c
-
--- a report that comes next after what was passed is the next above the number where that began
-pub next_either : (c : ℕ) (l : List Entry) (a y n : ℕ) → Passed c l a y → Next c l y n → a < n → Next c l a n
-next_either c l a y n p h lt = record { above = lt; hers = h.hers; between = λ j q z. by j q z (cases_lt y j) }
-  where
-    by : (j : ℕ) → a < j → j < n → (y < j) ⊎ (j ≤ y) → is_of c (under l j) ≡ false
-    by j q z (inl r) = h.between j r z
-    by j q z (inr r) = p j q r
 
 is_hers_owner : (c : ℕ) (o : Option Entry) → is_of c o ≡ true → (e : Entry) × (o ≡ Some e) × (e.owner ≡ c)
 is_hers_owner c None h = absurd (let z : false ≡ true = h in cc)

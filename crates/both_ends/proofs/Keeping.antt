@@ -1,9 +1,10 @@
 -- What holds of both ends and of the line between them after every call that the line allows. Assumes nothing.
-use Rattle.std.proofs.Common.{◌≡◌, ◌⊎◌, inl, inr, ℕ, ◌≤◌, max, true, List, [], ◌∷◌, ◌++◌, None, Ok, Err, Option, Result, length, refl, sym, ◌∙◌, subst, arith}
+use Rattle.std.proofs.Common.{◌≡◌, ◌⊎◌, inl, inr, ℕ, ◌≤◌, max, true, false, List, [], ◌∷◌, ◌++◌, None, Ok, Err, Option, Result, length, refl, sym, ◌∙◌, subst}
 use Rattle.codes.specs.declared.session.AckResponse.TheVariants.{Successful, LimitReached, InvalidAppId, ServiceUnavailable}
 use Rattle.codes.specs.declared.session.Partition.{Partition}
-use Rattle.both_ends.proofs.Carrying.{Brings, Flows, Holding, Loads, brings_grown, holding_grown, loads_grown, loads_cut}
-use Rattle.both_ends.proofs.Flights.{Passed, there_within, hers_grown, passed_grown}
+use Rattle.codes.specs.declared.session.Partition.TheVariants.{One, Two, Three}
+use Rattle.both_ends.proofs.Carrying.{reports_of, Delivery, OfPart, delivery_cut}
+use Rattle.both_ends.proofs.Marks.{Marks, Whole, Load, unloaded}
 use Rattle.both_ends.specs.Agreement.{place, is_hers}
 use Rattle.both_ends.specs.Allowed.{Line}
 use Rattle.both_ends.specs.Connecting.{up_in}
@@ -14,73 +15,29 @@ use Rattle.both_ends.specs.declared.opening.Opening.TheVariants.{Awaited, Open, 
 use Rattle.both_ends.specs.Runs.{Desk}
 use Rattle.both_ends.specs.Tallied.{Tallied}
 use Rattle.follower.specs.Asking.{request, ReadBack}
-use Rattle.follower.specs.Following.{Following}
+use Rattle.follower.specs.Following.{Following, is_up, download_of}
 use Rattle.follower.specs.Hearing.{heard_in}
 use Rattle.follower.specs.Quiet.{Quiet}
 use Rattle.follower.specs.declared.heard.Heard.{Heard}
 use Rattle.follower.specs.declared.heard.Heard.TheVariants.{Report, Ack, End, Reject, Nothing}
 use Rattle.follower.specs.declared.pending.Pending.{Pending}
-use Rattle.follower.specs.declared.side.Side.{Side}
-use Rattle.follower.specs.declared.side.State.{State as Standing}
-use Rattle.follower.specs.declared.side.State.TheVariants.{Level, Behind}
+use Rattle.follower.specs.Lines.{up_on, stage_on}
+use Rattle.follower.specs.declared.line.Line.{Line as Connected}
+use Rattle.follower.specs.declared.line.Line.TheVariants as line
 use Rattle.follower.specs.declared.stage.Stage.{Stage}
 use Rattle.follower.specs.declared.stage.Stage.TheVariants.{Idle, Asked, Running}
 use Rattle.gateway.specs.State.{State, session}
-use Rattle.keyed.specs.Numbers.{under}
 use Rattle.layout.specs.declared.fault.Fault.{Fault}
-use Rattle.gateway_runs.proofs.Growing.{Grows}
 use Rattle.limits.specs.declared.TheConstants.{ORDERS}
 use Rattle.partitions.specs.PerPartition.{at}
 use Rattle.partitions.specs.declared.per_partition.PerPartition.{PerPartition}
-use Rattle.reports.specs.Tally.{is_of}
-use Rattle.reports.specs.declared.report.Entry.{Entry}
-use Rattle.sessions.specs.Laws.{Grown}
 use Rattle.sessions.specs.declared.download.Download.{Download}
 use Rattle.sessions.specs.Sessions.{download}
 use Rattle.sessions.specs.declared.session.Session.{Session}
 use Rattle.store.specs.Kept.{Kept}
 use Rattle.venue.specs.Books.{Sound}
 
--- ---- one partition of a follower
-
--- level: no report of its own is between its place and what is under way; behind: what is held comes before that
-abbrev pub SidedBy : Standing → ℕ → List Entry → Side → ℕ → ℕ → Type 0
-SidedBy Level c l s y b = (s.hold ≡ []) × Passed c l s.place y
-SidedBy Behind c l s y b = Holding c l (max s.place b) s.hold y
-
-abbrev pub Sided : ℕ → List Entry → Side → ℕ → ℕ → Type 0
-Sided c l s y b = SidedBy s.state c l s y b
-
-sided_grown_by : (z : Standing) (c : ℕ) (l l' : List Entry) (s : Side) (y b : ℕ) → Grown l l' → y ≤ length l
-    → SidedBy z c l s y b → SidedBy z c l' s y b
-sided_grown_by Level c l l' s y b g w (h, p) = (h, passed_grown c l l' s.place y g w p)
-sided_grown_by Behind c l l' s y b g w h = holding_grown c l l' (max s.place b) s.hold y g w h
-
-pub sided_grown : (c : ℕ) (l l' : List Entry) (s : Side) (y b : ℕ) → Grown l l' → y ≤ length l → Sided c l s y b
-    → Sided c l' s y b
-sided_grown c l l' s y b g w h = sided_grown_by s.state c l l' s y b g w h
-
 -- ---- the recovery channel
-
--- reports that came, at or below a place
-abbrev pub Repeats : ℕ → List Entry → Partition → ℕ → List (List ℕ) → Type 0
-Repeats c l p place [] = Unit {0}
-Repeats c l p place (m ∷ ms) =
-    ((n : ℕ) × Brings c l p n m × (is_of c (under l n) ≡ true) × (n ≤ place)) × Repeats c l p place ms
-
-pub repeats_grown : (c : ℕ) (l l' : List Entry) (p : Partition) (k : ℕ) (ms : List (List ℕ)) → Grown l l'
-    → Repeats c l p k ms → Repeats c l' p k ms
-repeats_grown c l l' p k [] g h = tt
-repeats_grown c l l' p k (m ∷ ms) g ((n, b, t, le), h) = (
-  (n, brings_grown c l l' p n m g (there_within c l n t) b, hers_grown c l l' n g t, le),
-  repeats_grown c l l' p k
-      ms g h,
-)
-
-pub repeats_up : (c : ℕ) (l : List Entry) (p : Partition) (k k' : ℕ) (ms : List (List ℕ)) → k ≤ k' → Repeats c l p k ms
-    → Repeats c l p k' ms
-repeats_up c l p k k' [] q h = tt
-repeats_up c l p k k' (m ∷ ms) q ((n, b, t, le), h) = ((n, b, t, omega (arith, le, q)), repeats_up c l p k k' ms q h)
 
 -- what ends a download that is asked
 abbrev pub Refuses : Result Heard Fault → Type 0
@@ -94,9 +51,9 @@ Refuses (Ok (End r)) = ⊥
 Refuses (Ok Nothing) = ⊥
 Refuses (Err e) = ⊥
 
--- the request is on its way to the gateway, from a place that the follower has passed
-abbrev pub Waits : Partition → ℕ → Option Download → Line → Type 0
-Waits p k o x = (z : ℕ) × (x.asked ≡ request p z ∷ []) × ReadBack p z × (z ≤ k) × (x.recovered ≡ []) × (o ≡ None)
+-- the request is on its way to the gateway
+abbrev pub Waits : Partition → Load → Option Download → Line → Type 0
+Waits p d o x = (x.asked ≡ request p d.from ∷ []) × ReadBack p d.from × (x.recovered ≡ []) × (o ≡ None)
 
 -- it was refused, and no download runs
 abbrev pub Refused : Option Download → Line → Type 0
@@ -104,86 +61,47 @@ Refused o x =
     (x.asked ≡ []) × (o ≡ None) × ((x.recovered ≡ []) ⊎ ((m : List ℕ) × (x.recovered ≡ m ∷ []) × Refuses (heard_in m)))
 
 -- it was granted, and its download is under way behind the word of it
-abbrev pub Granted : ℕ → List Entry → Partition → ℕ → ℕ → Option Download → Line → Type 0
-Granted c l p b k o x =
+abbrev pub Granted : Partition → Load → Option Download → Line → Type 0
+Granted p d o x =
     (x.asked ≡ []) × (m : List ℕ) × (ms : List (List ℕ)) × (x.recovered ≡ m ∷ ms) × (heard_in m ≡ Ok (Ack Successful))
-    × (z : ℕ) × (z ≤ k) × Loads c l p b o z ms
+    × Delivery p o ms d.loaded d.to d.aim
 
-abbrev pub AskedAs : ℕ → List Entry → Partition → ℕ → ℕ → Option Download → Line → Type 0
-AskedAs c l p b k o x = Waits p k o x ⊎ (Refused o x ⊎ Granted c l p b k o x)
+abbrev pub AskedAs : Partition → Load → Option Download → Line → Type 0
+AskedAs p d o x = Waits p d o x ⊎ (Refused o x ⊎ Granted p d o x)
 
-abbrev pub RunsAs : ℕ → List Entry → Partition → ℕ → ℕ → Option Download → Line → Type 0
-RunsAs c l p b k o x = (x.asked ≡ []) × Repeats c l p k x.again × (z : ℕ) × (z ≤ k) × Loads c l p b o z x.recovered
+abbrev pub RunsAs : Partition → Load → Option Download → Line → Type 0
+RunsAs p d o x = (x.asked ≡ []) × OfPart p x.again d.again × Delivery p o x.recovered d.loaded d.to d.aim
 
 -- nothing is asked, and nothing under way
 abbrev pub Still : Option Download → Line → Type 0
 Still o x = (x.asked ≡ []) × (x.recovered ≡ []) × (x.again ≡ []) × (o ≡ None)
 
 -- by how far the follower's download is: what is asked, under way, and may come again
-abbrev pub Staged : Stage → ℕ → Kept → (Partition → ℕ) → PerPartition ℕ → Option Download → Line → Type 0
-Staged Idle c k place b o x = Still o x
-Staged (Asked p) c k place b o x = (x.again ≡ []) × AskedAs c (at k p) p (at b p) (place p) o x
-Staged (Running p) c k place b o x = RunsAs c (at k p) p (at b p) (place p) o x
+abbrev pub Staged : Stage → PerPartition Load → Option Download → Line → Type 0
+Staged Idle ds o x = Still o x
+Staged (Asked p) ds o x = (x.again ≡ []) × ((at ds p).again ≡ []) × AskedAs p (at ds p) o x
+Staged (Running p) ds o x = RunsAs p (at ds p) o x
 
-asked_grown : (c : ℕ) (l l' : List Entry) (p : Partition) (b k : ℕ) (o : Option Download) (x : Line) → Grown l l'
-    → AskedAs c l p b k o x → AskedAs c l' p b k o x
-asked_grown c l l' p b k o x g (inl h) = inl h
-asked_grown c l l' p b k o x g (inr (inl h)) = inr (inl h)
-asked_grown c l l' p b k o x g (inr (inr (a, m, ms, e, h, z, le, f))) =
-    inr (inr (a, m, ms, e, h, z, le, loads_grown c l l' p b o z ms g f))
-
-pub staged_grown : (t : Stage) (c : ℕ) (k k' : Kept) (place : Partition → ℕ) (b : PerPartition ℕ) (o : Option Download)
-    (x : Line) → Grows k k' → Staged t c k place b o x → Staged t c k' place b o x
-staged_grown Idle c k k' place b o x g h = h
-staged_grown (Asked p) c k k' place b o x g (a, h) =
-    (a, asked_grown c (at k p) (at k' p) p (at b p) (place p) o x (g p) h)
-staged_grown (Running p) c k k' place b o x g (a, r, z, le, h) = (
-  a,
-  repeats_grown c (at k p) (at k' p) p (place p) x.again (g p) r,
-  z,
-  le,
-  loads_grown c (at k p) (at k' p) p
-      (at b p) o z x.recovered (g p) h,
-)
-
-asked_up : (c : ℕ) (l : List Entry) (p : Partition) (b k k' : ℕ) (o : Option Download) (x : Line) → k ≤ k'
-    → AskedAs c l p b k o x → AskedAs c l p b k' o x
-asked_up c l p b k k' o x q (inl (z, e, r, le, h, f)) = inl (z, e, r, omega (arith, le, q), h, f)
-asked_up c l p b k k' o x q (inr (inl h)) = inr (inl h)
-asked_up c l p b k k' o x q (inr (inr (a, m, ms, e, h, z, le, f))) =
-    inr (inr (a, m, ms, e, h, z, omega (arith, le, q), f))
-
--- the places move on
-pub staged_up : (t : Stage) (c : ℕ) (k : Kept) (place place' : Partition → ℕ) (b : PerPartition ℕ)
-    (o : Option Download) (x : Line) → ((p : Partition) → place p ≤ place' p) → Staged t c k place b o x
-    → Staged t c k place' b o x
-staged_up Idle c k place place' b o x g h = h
-staged_up (Asked p) c k place place' b o x g (a, h) =
-    (a, asked_up c (at k p) p (at b p) (place p) (place' p) o x (g p) h)
-staged_up (Running p) c k place place' b o x g (a, r, z, le, h) =
-    (a, repeats_up c (at k p) p (place p) (place' p) x.again (g p) r, z, (let q = g p in omega (arith, le, q)), h)
-
-asked_cut : (c : ℕ) (l : List Entry) (p : Partition) (b k : ℕ) (o : Option Download) (x : Line) → AskedAs c l p b k o x
-    → AskedAs c l p b k None x
-asked_cut c l p b k o x (inl (z, e, r, le, h, f)) = inl (z, e, r, le, h, refl)
-asked_cut c l p b k o x (inr (inl (a, f, h))) = inr (inl (a, refl, h))
-asked_cut c l p b k o x (inr (inr (a, m, ms, e, h, z, le, f))) =
-    inr (inr (a, m, ms, e, h, z, le, loads_cut c l p b o z ms f))
+asked_cut : (p : Partition) (d : Load) (o : Option Download) (x : Line) → AskedAs p d o x → AskedAs p d None x
+asked_cut p d o x (inl (e, r, h, f)) = inl (e, r, h, refl)
+asked_cut p d o x (inr (inl (a, f, h))) = inr (inl (a, refl, h))
+asked_cut p d o x (inr (inr (a, m, ms, e, h, f))) =
+    inr (inr (a, m, ms, e, h, delivery_cut p o ms d.loaded d.to d.aim f))
 
 -- the gateway's channel is closed
-pub staged_cut : (t : Stage) (c : ℕ) (k : Kept) (place : Partition → ℕ) (b : PerPartition ℕ) (o : Option Download)
-    (x : Line) → Staged t c k place b o x → Staged t c k place b None x
-staged_cut Idle c k place b o x (a, r, g, e) = (a, r, g, refl)
-staged_cut (Asked p) c k place b o x (a, h) = (a, asked_cut c (at k p) p (at b p) (place p) o x h)
-staged_cut (Running p) c k place b o x (a, r, z, le, h) =
-    (a, r, z, le, loads_cut c (at k p) p (at b p) o z x.recovered h)
+pub staged_cut : (t : Stage) (ds : PerPartition Load) (o : Option Download) (x : Line) → Staged t ds o x
+    → Staged t ds None x
+staged_cut Idle ds o x (a, r, g, e) = (a, r, g, refl)
+staged_cut (Asked p) ds o x (a, g, h) = (a, g, asked_cut p (at ds p) o x h)
+staged_cut (Running p) ds o x (a, r, h) =
+    (a, r, delivery_cut p o x.recovered (at ds p).loaded (at ds p).to (at ds p).aim h)
 
 -- what is under way live is nothing to it
-pub staged_live : (t : Stage) (c : ℕ) (k : Kept) (place : Partition → ℕ) (b : PerPartition ℕ) (o : Option Download)
-    (x : Line) (ms : List (List ℕ)) → Staged t c k place b o x → Staged t c k place b o (record x { live = ms })
-staged_live Idle c k place b o x ms h = h
-staged_live (Asked p) c k place b o x ms h = h
-staged_live (Running p) c k place b o x ms h = h
+pub staged_live : (t : Stage) (ds : PerPartition Load) (o : Option Download) (x : Line) (ms : List (List ℕ))
+    → Staged t ds o x → Staged t ds o (record x { live = ms })
+staged_live Idle ds o x ms h = h
+staged_live (Asked p) ds o x ms h = h
+staged_live (Running p) ds o x ms h = h
 
 -- ---- the recovery channel, by how it began
 
@@ -206,34 +124,30 @@ refusing_more [] m r h = (r, tt)
 refusing_more (i ∷ ms) m r (a, h) = (a, refusing_more ms m r h)
 
 -- before anything was given there; then; and where the first was a Logon that is no message
-abbrev pub Channelled : Opening → Stage → ℕ → Kept → (Partition → ℕ) → PerPartition ℕ → Option Download → Line → Type 0
-Channelled Awaited g c k place b o x = NoneRuns g × Unused o x × Staged g c k place b o x
-Channelled Open g c k place b o x = Staged g c k place b o x
-Channelled Failed g c k place b o x = NoneRuns g × Refusing x.recovered × (x.again ≡ []) × (o ≡ None)
+abbrev pub Channelled : Opening → Stage → PerPartition Load → Option Download → Line → Type 0
+Channelled Awaited g ds o x = NoneRuns g × Unused o x × Staged g ds o x
+Channelled Open g ds o x = Staged g ds o x
+Channelled Failed g ds o x = NoneRuns g × Refusing x.recovered × (x.again ≡ []) × (o ≡ None)
 
 -- whatever moves, but for what is under way there
-pub channelled_on : (h : Opening) (g : Stage) (c : ℕ) (k k' : Kept) (place place' : Partition → ℕ)
-    (b b' : PerPartition ℕ) (o o' : Option Download) (x x' : Line) → x'.recovered ≡ x.recovered → x'.again ≡ x.again
-    → (o ≡ None → o' ≡ None) → (Staged g c k place b o x → Staged g c k' place' b' o' x')
-    → Channelled h g c k place b o x → Channelled h g c k' place' b' o' x'
-channelled_on Awaited g c k k' place place' b b' o o' x x' er ea eo on (n, (r, a, e), st) =
-    (n, (er ∙ r, ea ∙ a, eo e), on st)
-channelled_on Open g c k k' place place' b b' o o' x x' er ea eo on st = on st
-channelled_on Failed g c k k' place place' b b' o o' x x' er ea eo on (n, r, a, e) =
-    (n, subst Refusing (sym er) r, ea ∙ a, eo e)
+pub channelled_on : (h : Opening) (g : Stage) (ds ds' : PerPartition Load) (o o' : Option Download) (x x' : Line)
+    → x'.recovered ≡ x.recovered → x'.again ≡ x.again → (o ≡ None → o' ≡ None) → (Staged g ds o x → Staged g ds' o' x')
+    → Channelled h g ds o x → Channelled h g ds' o' x'
+channelled_on Awaited g ds ds' o o' x x' er ea eo on (n, (r, a, e), st) = (n, (er ∙ r, ea ∙ a, eo e), on st)
+channelled_on Open g ds ds' o o' x x' er ea eo on st = on st
+channelled_on Failed g ds ds' o o' x x' er ea eo on (n, r, a, e) = (n, subst Refusing (sym er) r, ea ∙ a, eo e)
+
+pub channelled_live : (h : Opening) (g : Stage) (ds : PerPartition Load) (o : Option Download) (x : Line)
+    (ms : List (List ℕ)) → Channelled h g ds o x → Channelled h g ds o (record x { live = ms })
+channelled_live h g ds o x ms =
+    channelled_on h g ds ds o o x (record x { live = ms }) refl refl (λ e. e) (staged_live g ds o x ms)
 
 -- a channel that began as it should
-pub opened : (h : Opening) (g : Stage) (c : ℕ) (k : Kept) (place : Partition → ℕ) (b : PerPartition ℕ)
-    (o : Option Download) (x : Line) → h ≡ Open → Staged g c k place b o x → Channelled h g c k place b o x
-opened Awaited g c k place b o x e st = absurd cc
-opened Open g c k place b o x e st = st
-opened Failed g c k place b o x e st = absurd cc
-
-pub staged_in : (h : Opening) (g : Stage) (c : ℕ) (k : Kept) (place : Partition → ℕ) (b : PerPartition ℕ)
-    (o : Option Download) (x : Line) → h ≡ Open → Channelled h g c k place b o x → Staged g c k place b o x
-staged_in Awaited g c k place b o x e st = absurd cc
-staged_in Open g c k place b o x e st = st
-staged_in Failed g c k place b o x e st = absurd cc
+pub opened : (h : Opening) (g : Stage) (ds : PerPartition Load) (o : Option Download) (x : Line) → h ≡ Open
+    → Staged g ds o x → Channelled h g ds o x
+opened Awaited g ds o x e st = absurd cc
+opened Open g ds o x e st = st
+opened Failed g ds o x e st = absurd cc
 
 -- ---- both ends
 
@@ -241,45 +155,79 @@ staged_in Failed g c k place b o x e st = absurd cc
 abbrev pub Taking : Type 1
 Taking = Partition → ℕ → Type 0
 
--- what is under way live, and that it is behind all that was taken
-pub record Flowing (c : ℕ) (k : Kept) (sent : PerPartition ℕ) (place : Partition → ℕ) (x : Line) (t : Taking)
-    (y : PerPartition ℕ) : Type 0 where
-  pub within : (p : Partition) → at y p ≤ length (at k p)
-  pub flows : Flows c k sent y x.live
-  pub taken : (p : Partition) (n : ℕ) → t p n → n ≤ max (place p) (at y p)
+-- one number more was taken, in one partition
+abbrev pub Only : Partition → ℕ → Taking → Type 0
+Only p n t = (q : Partition) (i : ℕ) → t q i → (p ≡ q) × (n ≡ i)
 
--- a connection that the follower is not up on yet
-pub record Ready (c : ℕ) (k : Kept) (s : Session) (place : Partition → ℕ) (x : Line) (t : Taking) : Type 0 where
-  pub y : PerPartition ℕ
-  pub flowing : Flowing c k s.sent place x t y
-  pub still : Channelled x.opening Idle c k place y (download s) x
+abbrev pub or_one : Taking → Taking → Taking
+or_one t u q i = t q i ⊎ u q i
 
--- one that it is up on
-pub record Up (c : ℕ) (k : Kept) (s : Session) (f : Following) (place : Partition → ℕ) (x : Line)
-    (t : Taking) : Type 0 where
+-- the marks of a partition: how far the line brought, and had brought at the up, is known to nobody
+abbrev pub marks_of : Kept → Session → Following → Line → PerPartition ℕ → PerPartition ℕ → PerPartition Load → Partition
+    → Marks
+marks_of k s f x y b ds p = record {
+  stored = at k p;
+  side = at f.sides p;
+  sent = at s.sent p;
+  live = reports_of p x.live;
+  brought = at y p;
+  base = at b p;
+  load = at ds p;
+}
+
+-- no downloads
+abbrev pub unloads : PerPartition ℕ → PerPartition Load
+unloads y = record { one = unloaded y.one; two = unloaded y.two; three = unloaded y.three }
+
+pub at_unloads : (y : PerPartition ℕ) (p : Partition) → at (unloads y) p ≡ unloaded (at y p)
+at_unloads y One = refl
+at_unloads y Two = refl
+at_unloads y Three = refl
+
+-- the number of the last report that was folded in a partition
+abbrev pub place_in : Following → Partition → ℕ
+place_in f p = (at f.sides p).place
+
+-- a connection whose Logon was accepted
+pub record Joined (c : ℕ) (k : Kept) (s : Session) (f : Following) (x : Line) (t : Taking) : Type 0 where
   pub y : PerPartition ℕ
-  -- the marks as they were at the up
   pub b : PerPartition ℕ
-  pub flowing : Flowing c k s.sent place x t y
-  pub bases : (p : Partition) → at b p ≤ length (at k p)
-  pub sides : (p : Partition) → Sided c (at k p) (at f.sides p) (at y p) (at b p)
-  pub staged : Channelled x.opening f.download c k place b (download s) x
+  pub ds : PerPartition Load
+  pub parts : (p : Partition) → Whole c (marks_of k s f x y b ds p)
+  pub taken : (p : Partition) (n : ℕ) → t p n → n ≤ max (place_in f p) (at y p)
+  pub staged : Channelled x.opening (download_of f) ds (download s) x
 
 -- what holds while a connection is away, ready or up
-abbrev pub Phase : Connection → ℕ → Kept → Session → Following → (Partition → ℕ) → Line → Taking → Type 0
-Phase conn.Away c k s f place x t = Unit {0}
-Phase conn.Ready c k s f place x t = Ready c k s place x t
-Phase conn.Up c k s f place x t = Up c k s f place x t
+abbrev pub Phase : Connection → ℕ → Kept → Session → Following → Line → Taking → Type 0
+Phase conn.Away c k s f x t = Unit {0}
+Phase conn.Ready c k s f x t = Joined c k s f x t
+Phase conn.Up c k s f x t = Joined c k s f x t
+
+pub phase_on : (c : ℕ) (k k' : Kept) (s s' : Session) (f f' : Following) (x x' : Line) (t t' : Taking)
+    → (Joined c k s f x t → Joined c k' s' f' x' t') → (a : Connection) → Phase a c k s f x t
+    → Phase a c k' s' f' x' t'
+phase_on c k k' s s' f f' x x' t t' on conn.Away h = tt
+phase_on c k k' s s' f f' x x' t t' on conn.Ready h = on h
+phase_on c k k' s s' f f' x x' t t' on conn.Up h = on h
+
+-- by type, a follower that is not up has no download, and one that is has the one that it says
+pub idle_where : (l : Connected) → up_on l ≡ false → stage_on l ≡ Idle
+idle_where line.Away e = refl
+idle_where (line.Up g) e = absurd cc
+
+pub line_is : (l : Connected) → up_on l ≡ true → l ≡ line.Up (stage_on l)
+line_is line.Away e = absurd cc
+line_is (line.Up g) e = refl
 
 pub record Keeps (c : ℕ) (s : State) (d : Desk) (x : Line) (t : Taking) : Type 0 where
-  pub up : up_in x.connection ≡ d.follower.up
+  pub up : up_in x.connection ≡ is_up d.follower
   pub quiet : Quiet d.follower
   pub placed : (p : Partition) → (place d p ≡ 0) ⊎ (is_hers c s p (place d p) ≡ true)
   pub known : Tallied c s.venue.kept d.follower.standings (place d)
   pub hers : (p : Partition) (n : ℕ) → t p n → is_hers c s p n ≡ true
-  pub sound : d.follower.up ≡ true → Sound s.venue
-  pub few : d.follower.up ≡ true → length s.venue.rows ≤ ORDERS
-  pub phase : Phase x.connection c s.venue.kept (session s c) d.follower (place d) x t
+  pub sound : is_up d.follower ≡ true → Sound s.venue
+  pub few : is_up d.follower ≡ true → length s.venue.rows ≤ ORDERS
+  pub phase : Phase x.connection c s.venue.kept (session s c) d.follower x t
 
 -- what was taken may be told in other words, and who keeps it does not hang on the token
 pub keeps_taken : (c : ℕ) (s : State) (d : Desk) (x : Line) (t t' : Taking) (token : Pending)
@@ -293,23 +241,7 @@ keeps_taken c s d x t t' token less k = record {
   hers = λ p n h. k.hers p n (less p n h);
   sound = k.sound;
   few = k.few;
-  phase = by x.connection k.phase;
+  phase = phase_on c s.venue.kept s.venue.kept (session s c) (session s c) d.follower d.follower x x t t'
+      (λ h. record { y = h.y; b = h.b; ds = h.ds; parts = h.parts; taken = λ p n i. h.taken p n (less p n i); staged = h.staged })
+      x.connection k.phase;
 }
-  where
-    flowing : (y : PerPartition ℕ) → Flowing c s.venue.kept (session s c).sent (place d) x t y
-        → Flowing c s.venue.kept (session s c).sent (place d) x t' y
-    flowing y h = record { within = h.within; flows = h.flows; taken = λ p n i. h.taken p n (less p n i) }
-
-    by : (a : Connection) → Phase a c s.venue.kept (session s c) d.follower (place d) x t
-        → Phase a c s.venue.kept (session s c) d.follower (place d) x t'
-    by conn.Away h = tt
-    by conn.Ready h = record { y = h.y; flowing = flowing h.y h.flowing; still = h.still }
-    by conn.Up h =
-        record {
-          y = h.y;
-          b = h.b;
-          flowing = flowing h.y h.flowing;
-          bases = h.bases;
-          sides = h.sides;
-          staged = h.staged;
-        }

@@ -13,8 +13,9 @@ use Rattle.both_ends.specs.Runs.{Desk, Does}
 use Rattle.both_ends.specs.declared.call.Done.{Done}
 use Rattle.both_ends.specs.declared.call.Done.TheVariants as done
 use Rattle.follower.specs.Folding.{Reached, reached, caught_up}
-use Rattle.follower.specs.Following.{Following, Step, levelled, recovering, recovered_step, refused, ended}
+use Rattle.follower.specs.Following.{Following, is_up, download_of, Step, levelled, recovering, recovered_step, refused, ended}
 use Rattle.follower.specs.Hearing.{heard_in}
+use Rattle.follower.specs.Sides.{held_in}
 use Rattle.follower.specs.declared.answer.Recovered.{Recovered}
 use Rattle.follower.specs.declared.fault.FollowerFault.TheVariants as fault
 use Rattle.follower.specs.declared.heard.Heard.TheVariants.{End}
@@ -41,21 +42,21 @@ fits_level : (f : Following) (p : Partition) (r : Result Reached FoldRefusal) �
     ≡ false → (at (levelled f p r).after.sides p).state ≡ Level
 fits_level f p (Err e) h = absurd (let z : true ≡ false = h in cc)
 fits_level f p (Ok r) h =
-    ap (λ (s : Side). s.state) (at_written f.sides p (record { place = r.place; state = Level; hold = [] }))
+    ap (λ (s : Side). s.state) (at_written f.sides p (record { place = r.place; state = Level }))
 
-complete_level : (f : Following) (p : Partition) → f.up ≡ true → f.download ≡ Running p
+complete_level : (f : Following) (p : Partition) → is_up f ≡ true → download_of f ≡ Running p
     → is_unfit (recovered_step f (Ok (End Complete))).answer ≡ false
     → (at (recovered_step f (Ok (End Complete))).after.sides p).state ≡ Level
 complete_level f p up run fits =
     let now : recovered_step f (Ok (End Complete)) ≡ ended f (Running p) Complete =
     ap (λ b. cond b (recovering f (End Complete)) (refused fault.NotUp f)) up ∙ ap (λ g. ended f g Complete) run in
     subst (λ (a : Step Recovered). (at a.after.sides p).state ≡ Level) (sym now)
-    (fits_level f p (caught_up p (reached f.standings (at f.sides p).place) (at f.sides p).hold)
+    (fits_level f p (caught_up p (reached f.standings (at f.sides p).place) (held_in (at f.sides p).state))
     (subst (λ (a : Step Recovered). is_unfit a.answer ≡ false) now fits))
 
 level_after : (c : ℕ) (s : State) (d : Desk) (y : Line) (xs : List Done) (x : Done) (w : State) (e : Desk) (z : Line)
     (p : Partition) → Keeps c s d y (λ q n. ⊥ ⊎ Took q n xs) → after_call c x y ≡ Ok z → Does s d x w e → IsComplete x
-    → d.follower.up ≡ true → d.follower.download ≡ Running p → state_of e p ≡ Level
+    → is_up d.follower ≡ true → download_of d.follower ≡ Running p → state_of e p ≡ Level
 level_after c s d y xs (done.Recovered m r) w e z p k allowed (a, b, q) complete up run =
     let f = d.follower in
     let h : heard_in m.items ≡ Ok (End Complete) = complete in

@@ -10,15 +10,16 @@ use Rattle.codes.specs.declared.session.Partition.TheVariants.{One, Two, Three}
 use Rattle.codes.specs.declared.session.ReportResponse.{ReportResponse}
 use Rattle.codes.specs.declared.session.ReportResponse.TheVariants as ending
 use Rattle.codes.specs.Session.{same_partition}
-use Rattle.both_ends.specs.Laws.{Completes, IsComplete, LevelByDownload, StaysLevel, StaysBehind, state_of, is_full, gives}
+use Rattle.both_ends.specs.Laws.{Completes, LevelByDownload, StaysLevel, StaysBehind, state_of, is_full, gives}
 use Rattle.both_ends.specs.Runs.{Desk, Does, Runs, fresh, moved}
 use Rattle.both_ends.specs.declared.call.Done.{Done}
 use Rattle.both_ends.specs.declared.call.Done.TheVariants as done
 use Rattle.follower.specs.Asking.{asks, asks_of, asking}
 use Rattle.follower.specs.Folding.{Reached, reached, caught_up}
-use Rattle.follower.specs.Following.{Following, Step, turned, answered, folded, folded_to, held, overrun, live_by, lived, acked, acked_of, recovered_of, reported, levelled, ended, ended_of, rejected, recovering, live_step, recovered_step, refused}
+use Rattle.follower.specs.Following.{Following, is_up, download_of, Step, turned, answered, folded, folded_to, held, overrun, live_by, lived, acked, acked_of, recovered_of, reported, levelled, ended, ended_of, rejected, recovering, live_step, recovered_step, refused}
 use Rattle.follower.specs.Hearing.{heard_in}
 use Rattle.follower.specs.Numbers.{number_of}
+use Rattle.follower.specs.Sides.{is_level, held_in}
 use Rattle.follower.specs.declared.answer.Live.{Live}
 use Rattle.follower.specs.declared.answer.Live.TheVariants as live
 use Rattle.follower.specs.declared.answer.Recovered.{Recovered}
@@ -46,16 +47,24 @@ use Rattle.reports.specs.declared.standings.FoldRefusal.{FoldRefusal}
 abbrev state_in : Following → Partition → Standing
 state_in f p = (at f.sides p).state
 
--- a partition is level or behind as it was
+-- a partition is level, or is not, as it was
 abbrev Same : Partition → Following → Following → Type 0
-Same p f g = state_in g p ≡ state_in f p
+Same p f g = is_level (state_in g p) ≡ is_level (state_in f p)
+
+is_it : (s : Standing) → is_level s ≡ true → s ≡ Level
+is_it Level e = refl
+is_it (Behind hs) e = absurd cc
+
+-- so it is level where it was, and was where it is
+carried : (s t : Standing) → is_level t ≡ is_level s → s ≡ Level → t ≡ Level
+carried s t e l = is_it t (e ∙ ap is_level l)
 
 module _ {A : Type 0} (p : Partition) where
   folded_same : (a : A) (f : Following) (q : Partition) (n : ℕ) (r : Result Knowledge FoldRefusal)
       → Same p f (folded_to a f q n r).after
   folded_same a f q n (Err e) = refl
   folded_same a f q n (Ok k) =
-      or_as_it_was (λ u (y : Side). y.state ≡ state_in f u) f.sides q (record (at f.sides q) { place = n }) refl
+      or_as_it_was (λ u (y : Side). is_level y.state ≡ is_level (state_in f u)) f.sides q (record (at f.sides q) { place = n }) refl
       (λ u. refl) p
 
   either : (f : Following) (b : Bool) (x y : Step A) → Same p f x.after → Same p f y.after
@@ -70,26 +79,29 @@ abbrev Lives : Partition → Following → Step Live → Type 0
 Lives p f a = Same p f a.after ⊎ ((is_full a.answer ≡ true) × (a.after ≡ turned false f))
 
 module _ (p : Partition) where
-  held_same : (f : Following) (q : Partition) (h : NumberedReport) → Same p f (held f q h).after
-  held_same f q h =
-      or_as_it_was (λ u (y : Side). y.state ≡ state_in f u) f.sides q
-      (record (at f.sides q) { hold = (at f.sides q).hold ++ h ∷ [] }) refl (λ u. refl) p
+  held_same : (f : Following) (q : Partition) (hs : List NumberedReport) (h : NumberedReport)
+      → state_in f q ≡ Behind hs → Same p f (held f q hs h).after
+  held_same f q hs h e =
+      or_as_it_was (λ u (y : Side). is_level y.state ≡ is_level (state_in f u)) f.sides q
+      (record (at f.sides q) { state = Behind (hs ++ h ∷ []) }) (sym (ap is_level e)) (λ u. refl) p
 
-  if_room : (b : Bool) (f : Following) (q : Partition) (h : NumberedReport) → Lives p f (cond b (held f q h) (overrun f))
-  if_room true f q h = inl (held_same f q h)
-  if_room false f q h = inr (refl, refl)
+  if_room : (b : Bool) (f : Following) (q : Partition) (hs : List NumberedReport) (h : NumberedReport)
+      → state_in f q ≡ Behind hs → Lives p f (cond b (held f q hs h) (overrun f))
+  if_room true f q hs h e = inl (held_same f q hs h e)
+  if_room false f q hs h e = inr (refl, refl)
 
-  by_state : (s : Standing) (f : Following) (q : Partition) (h : NumberedReport) → Lives p f (live_by s f q h)
-  by_state Level f q h = inl (folded_same p live.Folded f q (number_of h) _)
-  by_state Behind f q h = if_room (nat_lt (length (at f.sides q).hold) HOLD) f q h
+  by_state : (s : Standing) (f : Following) (q : Partition) (h : NumberedReport) → state_in f q ≡ s
+      → Lives p f (live_by s f q h)
+  by_state Level f q h e = inl (folded_same p live.Folded f q (number_of h) _)
+  by_state (Behind hs) f q h e = if_room (nat_lt (length hs) HOLD) f q hs h e
 
-  if_there : (b : Bool) (f : Following) (q : Partition) (h : NumberedReport) (s : Standing)
-      → Lives p f (cond b (answered live.Already f) (live_by s f q h))
-  if_there true f q h s = inl refl
-  if_there false f q h s = by_state s f q h
+  if_there : (b : Bool) (f : Following) (q : Partition) (h : NumberedReport)
+      → Lives p f (cond b (answered live.Already f) (live_by (state_in f q) f q h))
+  if_there true f q h = inl refl
+  if_there false f q h = by_state (state_in f q) f q h refl
 
   lived_so : (f : Following) (h : Heard) → Lives p f (lived f h)
-  lived_so f (Report q h) = if_there (nat_le (number_of h) (at f.sides q).place) f q h (at f.sides q).state
+  lived_so f (Report q h) = if_there (nat_le (number_of h) (at f.sides q).place) f q h
   lived_so f (Ack r) = inl refl
   lived_so f (End r) = inl refl
   lived_so f Reject = inl refl
@@ -101,14 +113,14 @@ module _ (p : Partition) where
 
   live_so : (f : Following) (h : Result Heard Fault) → Lives p f (live_step f h)
   live_so f (Err e) = inl refl
-  live_so f (Ok h) = if_up f.up f h
+  live_so f (Ok h) = if_up (is_up f) f h
 
 -- ---- the recovery channel
 
 -- the complete end of its download makes a partition level
 record Levelled (p : Partition) (f : Following) (h : Heard) (a : Step Recovered) : Type 0 where
   pub complete : h ≡ End ending.Complete
-  pub runs : f.download ≡ Running p
+  pub runs : download_of f ≡ Running p
   pub ends : a.answer ≡ Ok recovered.Ended
   pub level : state_in a.after p ≡ Level
 
@@ -137,25 +149,26 @@ module _ (p : Partition) where
       (either {A = Recovered} p f (nat_le (number_of h) (at f.sides q).place) (answered recovered.Already f)
       (folded recovered.Folded f q h) refl (folded_same p recovered.Folded f q (number_of h) _)) refl
 
-  levelled_so : (f : Following) (q : Partition) (r : Result Reached FoldRefusal) → f.download ≡ Running q
+  levelled_so : (f : Following) (q : Partition) (r : Result Reached FoldRefusal) → download_of f ≡ Running q
       → Recovers p f (End ending.Complete) (levelled f q r)
   levelled_so f q (Err e) d = inl refl
-  levelled_so f q (Ok r) d = by (written (λ u (y : Side). (y.state ≡ state_in f u) ⊎ ((q ≡ u) × (y.state ≡ Level)))
-      f.sides q p (record { place = r.place; state = Level; hold = [] }) (λ e. inr (e, refl)) (inl refl))
+  levelled_so f q (Ok r) d = by
+      (written (λ u (y : Side). (is_level y.state ≡ is_level (state_in f u)) ⊎ ((q ≡ u) × (y.state ≡ Level)))
+      f.sides q p (record { place = r.place; state = Level }) (λ e. inr (e, refl)) (inl refl))
     where
       by : Same p f (levelled f q (Ok r)).after ⊎ ((q ≡ p) × (state_in (levelled f q (Ok r)).after p ≡ Level))
           → Recovers p f (End ending.Complete) (levelled f q (Ok r))
       by (inl e) = inl e
       by (inr (e, l)) = inr (record { complete = refl; runs = d ∙ ap Running e; ends = refl; level = l })
 
-  ended_so : (f : Following) (q : Partition) (r : ReportResponse) → f.download ≡ Running q
+  ended_so : (f : Following) (q : Partition) (r : ReportResponse) → download_of f ≡ Running q
       → Recovers p f (End r) (ended_of f q r)
   ended_so f q ending.Complete d =
-      levelled_so f q (caught_up q (reached f.standings (at f.sides q).place) (at f.sides q).hold) d
+      levelled_so f q (caught_up q (reached f.standings (at f.sides q).place) (held_in (state_in f q))) d
   ended_so f q ending.MessageLimit d = inl refl
   ended_so f q ending.ServiceUnavailable d = inl refl
 
-  end_so : (f : Following) (s : Stage) (r : ReportResponse) → f.download ≡ s → Recovers p f (End r) (ended f s r)
+  end_so : (f : Following) (s : Stage) (r : ReportResponse) → download_of f ≡ s → Recovers p f (End r) (ended f s r)
   end_so f Idle r d = inl refl
   end_so f (Asked q) r d = inl refl
   end_so f (Running q) r d = ended_so f q r d
@@ -166,10 +179,10 @@ module _ (p : Partition) where
   rejected_same f (Running q) = refl
 
   recovering_so : (f : Following) (h : Heard) → Recovers p f h (recovering f h)
-  recovering_so f (Report q h) = inl (reported_same f f.download q h)
-  recovering_so f (Ack r) = inl (ack_same f f.download r)
-  recovering_so f (End r) = end_so f f.download r refl
-  recovering_so f Reject = inl (rejected_same f f.download)
+  recovering_so f (Report q h) = inl (reported_same f (download_of f) q h)
+  recovering_so f (Ack r) = inl (ack_same f (download_of f) r)
+  recovering_so f (End r) = end_so f (download_of f) r refl
+  recovering_so f Reject = inl (rejected_same f (download_of f))
   recovering_so f Nothing = inl refl
 
   if_recovering : (b : Bool) (f : Following) (h : Heard)
@@ -180,7 +193,7 @@ module _ (p : Partition) where
   recovered_so : (f : Following) (r : Result Heard Fault)
       → Same p f (recovered_step f r).after ⊎ ((h : Heard) × (r ≡ Ok h) × Levelled p f h (recovered_step f r))
   recovered_so f (Err e) = inl refl
-  recovered_so f (Ok h) = elim (if_recovering f.up f h) [ inl e ↦ inl e | inr l ↦ inr (h, refl, l) ]
+  recovered_so f (Ok h) = elim (if_recovering (is_up f) f h) [ inl e ↦ inl e | inr l ↦ inr (h, refl, l) ]
 
 -- asking leaves the partitions
 asked_sides : (f : Following) (t : Pending) (out : List ℕ) (r : Result Partition FollowerFault)
@@ -188,13 +201,16 @@ asked_sides : (f : Following) (t : Pending) (out : List ℕ) (r : Result Partiti
 asked_sides f t out (Err e) = refl
 asked_sides f t out (Ok p) = refl
 
+asked_as : {X : Type 0} (to : PerPartition Side → X) (d : Desk) (n : ℕ) (out : List ℕ)
+    → to (asks d.follower d.token n out).after.sides ≡ to d.follower.sides
+asked_as to d n out = ap to (asked_sides d.follower d.token out (asking d.follower d.token n (length out)))
+
 asked_same : (d : Desk) (n : ℕ) (out : List ℕ) (p : Partition) → Same p d.follower (asks d.follower d.token n out).after
-asked_same d n out p = ap (λ (x : PerPartition Side). (at x p).state)
-    (asked_sides d.follower d.token out (asking d.follower d.token n (length out)))
+asked_same d n out p = asked_as (λ x. is_level (at x p).state) d n out
 
 -- ---- from level to behind, and from behind to level
 
-turned_behind : (up : Bool) (f : Following) (p : Partition) → (at (turned up f).sides p).state ≡ Behind
+turned_behind : (up : Bool) (f : Following) (p : Partition) → state_in (turned up f) p ≡ Behind []
 turned_behind up f One = refl
 turned_behind up f Two = refl
 turned_behind up f Three = refl
@@ -207,8 +223,8 @@ from_desk : (d e : Desk) (f : Following) (p : Partition) (x : Standing) → e �
     → state_in f p ≡ x
 from_desk d e f p x k l = sym (ap (λ (y : Desk). state_of y p) k) ∙ l
 
-not_both : {X : Type 0} (x : Standing) → x ≡ Behind → x ≡ Level → X
-not_both x b l = absurd (let z : Behind ≡ Level = sym b ∙ l in cc)
+not_both : {X : Type 0} (x : Standing) → x ≡ Behind [] → x ≡ Level → X
+not_both x b l = absurd (let z : Behind [] ≡ Level = sym b ∙ l in cc)
 
 pub stays_level : StaysLevel
 stays_level s d (done.Venue v) w e p (m, k) b l = ap (λ (y : Desk). state_of y p) k ∙ l
@@ -217,20 +233,21 @@ stays_level s d done.Lost w e p h b l = absurd (let z : true ≡ false = b in cc
 stays_level s d (done.Live m r) w e p (i, a, k) b l = by (live_so p d.follower (heard_in m.items))
   where
     by : Lives p d.follower (live_step d.follower (heard_in m.items)) → state_of e p ≡ Level
-    by (inl same) = to_desk d e (live_step d.follower (heard_in m.items)).after p Level k (same ∙ l)
+    by (inl same) = to_desk d e (live_step d.follower (heard_in m.items)).after p Level k (carried _ _ same l)
     by (inr (full, fell)) = absurd (let z : true ≡ false = sym full ∙ (ap is_full (sym a) ∙ b) in cc)
 stays_level s d (done.Recovered m r) w e p (i, a, k) b l = by (recovered_so p d.follower (heard_in m.items))
   where
     by : Same p d.follower (recovered_step d.follower (heard_in m.items)).after
         ⊎ ((h : Heard) × (heard_in m.items ≡ Ok h) × Levelled p d.follower h (recovered_step d.follower (heard_in m.items)))
         → state_of e p ≡ Level
-    by (inl same) = to_desk d e (recovered_step d.follower (heard_in m.items)).after p Level k (same ∙ l)
+    by (inl same) = to_desk d e (recovered_step d.follower (heard_in m.items)).after p Level k (carried _ _ same l)
     by (inr (h, q, now)) = to_desk d e (recovered_step d.follower (heard_in m.items)).after p Level k now.level
 stays_level s d (done.Ask n r) w e p (m, a, c, k) b l =
-    to_desk d e (asks d.follower d.token n r.before.items).after p Level k (asked_same d n r.before.items p ∙ l)
+    to_desk d e (asks d.follower d.token n r.before.items).after p Level k
+    (carried _ _ (asked_same d n r.before.items p) l)
 
 pub level_by_download : LevelByDownload
-level_by_download s d (done.Venue v) w e p (m, k) b l = not_both (state_of d p) b (sym (ap (λ (y : Desk). state_of y p) k) ∙ l)
+level_by_download s d (done.Venue v) w e p (m, k) b l = absurd (b (sym (ap (λ (y : Desk). state_of y p) k) ∙ l))
 level_by_download s d done.Up w e p (m, k) b l = not_both (state_in (turned true d.follower) p)
     (turned_behind true d.follower p) (from_desk d e (turned true d.follower) p Level k l)
 level_by_download s d done.Lost w e p (m, k) b l = not_both (state_in (turned false d.follower) p)
@@ -241,7 +258,7 @@ level_by_download s d (done.Live m r) w e p (i, a, k) b l = by (live_so p d.foll
     now = from_desk d e (live_step d.follower (heard_in m.items)).after p Level k l
 
     by : Lives p d.follower (live_step d.follower (heard_in m.items)) → Completes d p (done.Live m r)
-    by (inl same) = not_both (state_of d p) b (sym same ∙ now)
+    by (inl same) = absurd (b (carried _ _ (sym same) now))
     by (inr (full, fell)) = not_both (state_in (turned false d.follower) p) (turned_behind false d.follower p)
         (ap (λ (f : Following). state_in f p) (sym fell) ∙ now)
 level_by_download s d (done.Recovered m r) w e p (i, a, k) b l = by (recovered_so p d.follower (heard_in m.items))
@@ -252,38 +269,34 @@ level_by_download s d (done.Recovered m r) w e p (i, a, k) b l = by (recovered_s
     by : Same p d.follower (recovered_step d.follower (heard_in m.items)).after
         ⊎ ((h : Heard) × (heard_in m.items ≡ Ok h) × Levelled p d.follower h (recovered_step d.follower (heard_in m.items)))
         → Completes d p (done.Recovered m r)
-    by (inl same) = not_both (state_of d p) b (sym same ∙ now)
+    by (inl same) = absurd (b (carried _ _ (sym same) now))
     by (inr (h, q, z)) = record { complete = q ∙ ap Ok z.complete; ends = a ∙ z.ends; runs = z.runs }
-level_by_download s d (done.Ask n r) w e p (m, a, c, k) b l = not_both (state_of d p) b
-    (sym (asked_same d n r.before.items p) ∙ from_desk d e (asks d.follower d.token n r.before.items).after p Level k l)
+level_by_download s d (done.Ask n r) w e p (m, a, c, k) b l = absurd (b (carried _ _ (sym (asked_same d n r.before.items p))
+    (from_desk d e (asks d.follower d.token n r.before.items).after p Level k l)))
 
 -- ---- a follower that is given nothing
 
--- only what a follower is given is the end of a download
-never : (x : Done) → gives x ≡ false → IsComplete x → ⊥
-never (done.Venue v) g h = h
-never done.Up g h = h
-never done.Lost g h = h
-never (done.Live m r) g h = h
-never (done.Recovered m r) g h = absurd (let z : true ≡ false = g in cc)
-never (done.Ask n r) g h = h
-
 one_behind : (s : State) (d : Desk) (x : Done) (w : State) (e : Desk) (p : Partition) → Does s d x w e → gives x
-    ≡ false → state_of d p ≡ Behind → state_of e p ≡ Behind
-one_behind s d x w e p h g b = by (state_of e p) refl
-  where
-    by : (z : Standing) → state_of e p ≡ z → state_of e p ≡ Behind
-    by Behind q = q
-    by Level q = absurd (never x g (level_by_download s d x w e p h b q).complete)
+    ≡ false → state_of d p ≡ Behind [] → state_of e p ≡ Behind []
+one_behind s d (done.Venue v) w e p (m, k) g b = ap (λ (y : Desk). state_of y p) k ∙ b
+one_behind s d done.Up w e p (m, k) g b =
+    to_desk d e (turned true d.follower) p (Behind []) k (turned_behind true d.follower p)
+one_behind s d done.Lost w e p (m, k) g b =
+    to_desk d e (turned false d.follower) p (Behind []) k (turned_behind false d.follower p)
+one_behind s d (done.Live m r) w e p h g b = absurd (let z : true ≡ false = g in cc)
+one_behind s d (done.Recovered m r) w e p h g b = absurd (let z : true ≡ false = g in cc)
+one_behind s d (done.Ask n r) w e p (m, a, c, k) g b =
+    to_desk d e (asks d.follower d.token n r.before.items).after p (Behind []) k
+    (asked_as (λ x. (at x p).state) d n r.before.items ∙ b)
 
 all_behind : (s : State) (d : Desk) (xs : List Done) (w : State) (e : Desk) (p : Partition) → Runs s d xs w e
-    → list_any gives xs ≡ false → state_of d p ≡ Behind → state_of e p ≡ Behind
+    → list_any gives xs ≡ false → state_of d p ≡ Behind [] → state_of e p ≡ Behind []
 all_behind s d [] w e p (a, b) g l = ap (λ (y : Desk). state_of y p) b ∙ l
 all_behind s d (x ∷ xs) w e p (u, f, m, h, k, n, t, r) g l =
     let (here, later) = or_parts (gives x) (list_any gives xs) g in
     all_behind u f xs w e p r later (one_behind s d x u f p m here l)
 
-fresh_behind : (p : Partition) → state_of fresh p ≡ Behind
+fresh_behind : (p : Partition) → state_of fresh p ≡ Behind []
 fresh_behind One = refl
 fresh_behind Two = refl
 fresh_behind Three = refl

@@ -2,6 +2,7 @@ pub mod Levels
 pub mod Caught
 pub mod Flights
 pub mod Carrying
+pub mod Marks
 pub mod Sendings
 pub mod Keeping
 pub mod Living
@@ -15,5 +16,11 @@ pub mod Levelling
 pub mod Refusals
 pub mod Erasing
 pub mod Kept
+pub mod Passing
+pub mod Granting
+pub mod Waiting
+pub mod Downloading
+pub mod Whole
+pub mod Reaching
 pub mod Turns
 pub mod Rules

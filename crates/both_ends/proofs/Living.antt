@@ -1,22 +1,23 @@
 -- What a report that came makes of both ends. Assumes nothing.
 use Rattle.std.specs.List.{fold as fold_each}
-use Rattle.std.proofs.Common.{◌≡◌, ◌≢◌, ◌⊎◌, inl, inr, ℕ, ◌<◌, ◌≤◌, max, true, cond, List, [], ◌∷◌, ◌++◌, Some, Ok, Result, length, refl, sym, ap, ◌∙◌, subst, arith}
-use Rattle.std.proofs.lemmas.Bool.{le-leb, lt-leb}
+use Rattle.std.proofs.Common.{◌≡◌, ◌≢◌, ◌⊎◌, inl, inr, ℕ, ◌<◌, ◌≤◌, max, true, cond, List, [], ◌∷◌, ◌++◌, Ok, Result, length, refl, sym, ap, ◌∙◌, subst, arith}
+use Rattle.std.proofs.lemmas.Bool.{cases_lt, le-leb, lt-leb}
 use Rattle.codes.specs.declared.session.Partition.{Partition}
 use Rattle.codes.specs.declared.session.Partition.TheVariants.{One, Two, Three}
 use Rattle.codes.specs.Session.{same_partition}
-use Rattle.both_ends.proofs.Carrying.{held, Flows, Holding, holding_up, holding_more, holding_on}
+use Rattle.both_ends.proofs.Carrying.{Tells, Run, Front, reports_of, run_up, run_down, same_or_not}
+use Rattle.both_ends.proofs.Marks.{Whole, folded_to, comes_next, passed_by, held_back}
 use Rattle.both_ends.proofs.Caught.{Folded, folds}
-use Rattle.both_ends.proofs.Flights.{Passed, Next, next_within, passed_less}
-use Rattle.both_ends.proofs.Keeping.{Sided, SidedBy, Taking, Flowing, Up, channelled_on, staged_up, staged_live}
+use Rattle.both_ends.proofs.Flights.{Passed, Next}
+use Rattle.follower.specs.Numbers.{number_of}
+use Rattle.both_ends.proofs.Keeping.{Taking, Only, or_one, Joined, marks_of, place_in, channelled_live}
 use Rattle.both_ends.specs.Allowed.{Line}
 use Rattle.both_ends.specs.Tallied.{there, Tallied}
 use Rattle.follower.specs.Folding.{Reached, reached, moved, caught_one, caught_next}
-use Rattle.follower.specs.Following.{Following}
+use Rattle.follower.specs.Following.{Following, download_of}
 use Rattle.follower.specs.declared.heard.NumberedReport.{NumberedReport}
 use Rattle.follower.specs.declared.side.Side.{Side}
-use Rattle.follower.specs.declared.side.State.{State as Standing}
-use Rattle.follower.specs.declared.side.State.TheVariants.{Level, Behind}
+use Rattle.follower.specs.declared.side.State.TheVariants.{Behind}
 use Rattle.keyed.specs.Numbers.{under}
 use Rattle.limits.specs.declared.TheConstants.{ORDERS}
 use Rattle.partitions.proofs.Written.{at_written, by_partition, or_as_it_was}
@@ -24,7 +25,6 @@ use Rattle.partitions.specs.PerPartition.{at, with_at}
 use Rattle.partitions.specs.declared.per_partition.PerPartition.{PerPartition}
 use Rattle.reports.specs.Fold.{Knowledge, fold}
 use Rattle.reports.specs.Tally.{is_of, tally_to}
-use Rattle.reports.specs.Told.{told_of}
 use Rattle.reports.specs.declared.report.Entry.{Entry}
 use Rattle.reports.specs.declared.standings.FoldRefusal.{FoldRefusal}
 use Rattle.sessions.specs.Sessions.{download}
@@ -32,10 +32,6 @@ use Rattle.sessions.specs.declared.session.Session.{Session}
 use Rattle.std.specs.FinMap.{get}
 use Rattle.store.specs.Kept.{Kept}
 use Rattle.venue.specs.Books.{Books, Sound}
-
--- the number of the last report that was folded in a partition
-abbrev pub place_in : Following → Partition → ℕ
-place_in f p = (at f.sides p).place
 
 -- a place is 0 or the number of a report of the owner's
 abbrev pub Placed : ℕ → Kept → (Partition → ℕ) → Type 0
@@ -55,17 +51,6 @@ module _ (c : ℕ) (v : Books) (sound : Sound v) (few : length v.rows ≤ ORDERS
       → Tallied c v.kept k place → Tallied c v.kept h.after place'
   tallied_on k place place' p n e h here others t q m = by (same_or_not p q)
     where
-      same_or_not : (p q : Partition) → (p ≡ q) ⊎ (p ≢ q)
-      same_or_not One One = inl refl
-      same_or_not One Two = inr (λ e. cc)
-      same_or_not One Three = inr (λ e. cc)
-      same_or_not Two One = inr (λ e. cc)
-      same_or_not Two Two = inl refl
-      same_or_not Two Three = inr (λ e. cc)
-      same_or_not Three One = inr (λ e. cc)
-      same_or_not Three Two = inr (λ e. cc)
-      same_or_not Three Three = inl refl
-
       by : (p ≡ q) ⊎ (p ≢ q) → there q (get h.after m) ≡ get (tally_to q c (at v.kept q) (place' q)) m
       by (inl s) =
           subst (λ u. there u (get h.after m) ≡ get (tally_to u c (at v.kept u) (place' u)) m) s
@@ -74,30 +59,58 @@ module _ (c : ℕ) (v : Books) (sound : Sound v) (few : length v.rows ≤ ORDERS
           h.others q (λ z. s (sym z)) m ∙ t q m ∙ ap (λ z. get (tally_to q c (at v.kept q) z) m) (sym (others q s))
 
   -- what folding the owner's next report leaves of what is known, and of the places
-  pub record Moved (f : Following) (p : Partition) (n : ℕ) (e : Entry) : Type 0 where
+  pub record Moved (f : Following) (p : Partition) (h : NumberedReport) : Type 0 where
     pub after : Knowledge
-    pub taken : fold p (told_of e.report) f.standings ≡ Ok after
-    pub known : Tallied c v.kept after (place_in (after_fold f p n after))
-    pub placed : Placed c v.kept (place_in (after_fold f p n after))
+    pub taken : fold p h.told f.standings ≡ Ok after
+    pub known : Tallied c v.kept after (place_in (after_fold f p (number_of h) after))
+    pub placed : Placed c v.kept (place_in (after_fold f p (number_of h) after))
 
-  pub moves : (f : Following) (p : Partition) (n : ℕ) (e : Entry) → Tallied c v.kept f.standings (place_in f)
-      → Placed c v.kept (place_in f) → Next c (at v.kept p) (place_in f p) n → under (at v.kept p) n ≡ Some e
-      → e.owner ≡ c
-      → Moved f p n e
-  moves f p n e t pl x s o =
-      let h = folds v.instruments v.rows v.kept c f.standings
-      (place_in f) p n e sound.recorded few t x.above x.between s o in
+  pub moves : (f : Following) (p : Partition) (h : NumberedReport) → Tallied c v.kept f.standings (place_in f)
+      → Placed c v.kept (place_in f) → place_in f p < number_of h → Next c (at v.kept p) (place_in f p) (number_of h)
+      → Tells c (at v.kept p) h → Moved f p h
+  moves f p h t pl lt x tl =
+      let n = number_of h in
+      let r = folds v.instruments v.rows v.kept c f.standings
+      (place_in f) p n tl.entry sound.recorded few t lt x.between tl.stands tl.owner in
       let P : Partition → Side → Type 0 = λ q y. (y.place ≡ 0) ⊎ (is_of c (under (at v.kept q) y.place) ≡ true) in
       record {
-        after = h.after;
-        taken = h.taken;
-        known = tallied_on f.standings (place_in f) (place_in (after_fold f p n h.after)) p n e h
+        after = r.after;
+        taken = ap (λ (i : NumberedReport). fold p i.told f.standings) tl.told ∙ r.taken;
+        known = tallied_on f.standings (place_in f) (place_in (after_fold f p n r.after)) p n tl.entry r
             (ap (λ (y : Side). y.place) (at_written f.sides p (to_place f p n)))
             (by_partition (λ q y. p ≢ q → y.place ≡ place_in f q) f.sides p (to_place f p n) (λ ne. absurd (ne refl))
             (λ q ne z. refl))
             t;
         placed = or_as_it_was P f.sides p (to_place f p n) (inr x.hers) pl;
       }
+
+-- ---- a report comes: the marks and the hold that it moves
+
+-- what the line brought of its partition moves to it
+abbrev pub popped : PerPartition ℕ → Partition → NumberedReport → PerPartition ℕ
+popped y p h = with_at y p (max (at y p) (number_of h))
+
+pub taken_popped : (place : Partition → ℕ) (t u : Taking) (y : PerPartition ℕ) (p : Partition) (h : NumberedReport)
+    → Only p (number_of h) u → ((q : Partition) (i : ℕ) → t q i → i ≤ max (place q) (at y q)) → (q : Partition) (i : ℕ)
+    → or_one t u q i → i ≤ max (place q) (at (popped y p h) q)
+taken_popped place t u y p h only was q i (inl a) =
+    let v = was q i a in
+    let g = or_as_it_was (λ r z. at y r ≤ z) y p (max (at y p) (number_of h)) (omega arith) (λ r. omega arith) q in
+    omega (arith, v, g)
+taken_popped place t u y p h only was q i (inr a) =
+    let (e, z) = only q i a in
+    subst (λ r. i ≤ max (place r) (at (popped y p h) r)) e
+    (let v : at (popped y p h) p ≡ max (at y p) (number_of h) = at_written y p (max (at y p) (number_of h)) in omega
+    (arith, v, z))
+
+-- its hold is another
+abbrev pub with_hold : Following → Partition → List NumberedReport → Following
+with_hold f p hs = record f { sides = with_at f.sides p (record (at f.sides p) { state = Behind hs }) }
+
+pub hold_places : (f : Following) (p : Partition) (hs : List NumberedReport) (q : Partition) → place_in (with_hold f p hs) q
+    ≡ place_in f q
+hold_places f p hs =
+    or_as_it_was (λ q y. y.place ≡ place_in f q) f.sides p (record (at f.sides p) { state = Behind hs }) refl (λ q. refl)
 
 -- ---- a fold moves nothing else
 
@@ -106,150 +119,80 @@ module _ (c : ℕ) (k : Kept) (s : Session) where
       → place_in f q ≤ place_in (after_fold f p n w) q
   places_up f p n w le = or_as_it_was (λ q y. place_in f q ≤ y.place) f.sides p (to_place f p n) le (λ q. omega arith)
 
-  pub sided_moved : (z : Standing) (l : List Entry) (y : Side) (n m b : ℕ) → y.place ≤ n → SidedBy z c l y m b
-      → SidedBy z c l (record y { place = n }) m b
-  sided_moved Level l y n m b le (h, p) = (h, passed_less c l y.place n m m le (omega arith) p)
-  sided_moved Behind l y n m b le h = holding_up c l (max y.place b) (max n b) y.hold m (omega (arith, le)) h
-
-  abbrev pub up_folded : (f : Following) (p : Partition) (n : ℕ) (w : Knowledge) (x : Line) (t : Taking)
-      → place_in f p ≤ n → Up c k s f (place_in f) x t
-      → Up c k s (after_fold f p n w) (place_in (after_fold f p n w)) x t
-  up_folded f p n w x t le u =
+  abbrev pub joined_folded : (f : Following) (p : Partition) (n : ℕ) (w : Knowledge) (x : Line) (t : Taking)
+      → place_in f p ≤ n → Joined c k s f x t → Joined c k s (after_fold f p n w) x t
+  joined_folded f p n w x t le u =
       let up = places_up f p n w le in
-      let fl = u.flowing in
       record {
         y = u.y;
         b = u.b;
-        flowing = record {
-          within = fl.within;
-          flows = fl.flows;
-          taken = λ q i h. let a = fl.taken q i h in let z = up q in omega (arith, a, z);
-        };
-        bases = u.bases;
-        sides =
-            or_as_it_was (λ q z. Sided c (at k q) z (at u.y q) (at u.b q)) f.sides p (to_place f p n)
-            (sided_moved (at f.sides p).state (at k p) (at f.sides p) n (at u.y p) (at u.b p) le (u.sides p))
-            u.sides;
-        staged = channelled_on x.opening f.download c k k (place_in f) (place_in (after_fold f p n w)) u.b u.b (download s)
-            (download s) x x refl refl (λ e. e)
-            (λ st. staged_up f.download c k (place_in f) (place_in (after_fold f p n w)) u.b (download s) x up st)
-            u.staged;
+        ds = u.ds;
+        parts = or_as_it_was (λ q z. Whole c (record (marks_of k s f x u.y u.b u.ds q) { side = z })) f.sides p (to_place f p n)
+            (folded_to c (marks_of k s f x u.y u.b u.ds p) n le (u.parts p)) u.parts;
+        taken = λ q i h. let a = u.taken q i h in let z = up q in omega (arith, a, z);
+        staged = u.staged;
       }
 
   -- ---- the next report under way comes
 
-  -- one number more was taken, in one partition
-  abbrev pub Only : Partition → ℕ → Taking → Type 0
-  Only p n t = (q : Partition) (i : ℕ) → t q i → (p ≡ q) × (n ≡ i)
+  module _ (f : Following) (x : Line) (rest : List (List ℕ)) (t : Taking) (p : Partition) (h : NumberedReport)
+      (a : Joined c k s f x t) (fr : Front p h x.live rest) where
+    -- the marks of a partition, but for what is under way
+    pub with_live : (q : Partition) (hs : List NumberedReport) → reports_of q x.live ≡ hs
+        → Whole c (record (marks_of k s f x a.y a.b a.ds q) { live = hs })
+    with_live q hs e = subst (λ z. Whole c (record (marks_of k s f x a.y a.b a.ds q) { live = z })) e (a.parts q)
 
-  abbrev pub or_one : Taking → Taking → Taking
-  or_one t u q i = t q i ⊎ u q i
+    pub in_front : Whole c (record (marks_of k s f x a.y a.b a.ds p) { live = h ∷ reports_of p rest })
+    in_front = with_live p (h ∷ reports_of p rest) fr.here
 
-  marks_up : (y : PerPartition ℕ) (p : Partition) (n : ℕ) → at y p ≤ n → (q : Partition) → at y q ≤ at (with_at y p n) q
-  marks_up y p n le = or_as_it_was (λ q z. at y q ≤ z) y p n le (λ q. omega arith)
+    -- it is the owner's next
+    pub is_next : Tells c (at k p) h × Next c (at k p) (at a.y p) (number_of h)
+    is_next = comes_next c (marks_of k s f x a.y a.b a.ds p) h (reports_of p rest) in_front
 
-  -- what is then under way and taken, where the report is at or below the place, or the mark is at it
-  pub flowing_popped : (place : Partition → ℕ) (x : Line) (m : List ℕ) (rest : List (List ℕ)) (t u : Taking)
-      (y : PerPartition ℕ) (p : Partition) (n : ℕ) → Next c (at k p) (at y p) n → Flows c k s.sent (with_at y p n) rest
-      → Only p n u
-      → Flowing c k s.sent place x t y
-      → Flowing c k s.sent place (record x { live = rest }) (or_one t u) (with_at y p n)
-  flowing_popped place x m rest t u y p n next flows only h = record {
-    within = or_as_it_was (λ q z. z ≤ length (at k q)) y p n (next_within c (at k p) (at y p) n next) h.within;
-    flows = flows;
-    taken = by;
-  }
-    where
-      by : (q : Partition) (i : ℕ) → or_one t u q i → i ≤ max (place q) (at (with_at y p n) q)
-      by q i (inl a) =
-          let w = h.taken q i a in
-          let lt = next.above in
-          let g = marks_up y p n (omega (arith, lt)) q in
-          omega (arith, w, g)
-      by q i (inr a) =
-          let (e, z) = only q i a in
-          subst (λ r. i ≤ max (place r) (at (with_at y p n) r)) e
-          (let w : at (with_at y p n) p ≡ n = at_written y p n in omega (arith, w, z))
+    -- the place has reached it
+    pub joined_passed : (u : Taking) → Only p (number_of h) u → number_of h ≤ place_in f p
+        → Joined c k s f (record x { live = rest }) (or_one t u)
+    joined_passed u only le = record {
+      y = popped a.y p h;
+      b = a.b;
+      ds = a.ds;
+      parts = by_partition (λ q z. Whole c (record (marks_of k s f (record x { live = rest }) a.y a.b a.ds q) { brought = z }))
+          a.y p (max (at a.y p) (number_of h))
+          (passed_by c (marks_of k s f x a.y a.b a.ds p) h (reports_of p rest) in_front le)
+          (λ q ne. with_live q (reports_of q rest) (fr.others q ne));
+      taken = taken_popped (place_in f) t u a.y p h only a.taken;
+      staged = channelled_live x.opening (download_of f) a.ds (download s) x rest a.staged;
+    }
 
-  sided_popped : (z : Standing) (l : List Entry) (y : Side) (m b n : ℕ) → n ≤ y.place → SidedBy z c l y m b
-      → SidedBy z c l y n b
-  sided_popped Level l y m b n le (h, p) = (h, λ j lt q. absurd (omega (arith, lt, q, le)))
-  sided_popped Behind l y m b n le h = holding_on c l (max y.place b) y.hold m n (omega (arith, le)) h
+    other_mark : (n : ℕ) (q : Partition) → p ≢ q → at (with_at a.y p n) q ≡ at a.y q
+    other_mark n = by_partition (λ q z. p ≢ q → z ≡ at a.y q) a.y p n (λ ne. absurd (ne refl)) (λ q ne z. refl)
 
-  pub up_popped : (f : Following) (x : Line) (m : List ℕ) (rest : List (List ℕ)) (t u : Taking) (p : Partition) (n : ℕ)
-      (a : Up c k s f (place_in f) x t) → Next c (at k p) (at a.y p) n → Flows c k s.sent (with_at a.y p n) rest
-      → Only p n u → n ≤ place_in f p
-      → Up c k s f (place_in f) (record x { live = rest }) (or_one t u)
-  up_popped f x m rest t u p n a next flows only le = record {
-    y = with_at a.y p n;
-    b = a.b;
-    flowing = flowing_popped (place_in f) x m rest t u a.y p n next flows only a.flowing;
-    bases = a.bases;
-    sides =
-        or_as_it_was (λ q z. Sided c (at k q) (at f.sides q) z (at a.b q)) a.y p n
-        (sided_popped (at f.sides p).state (at k p) (at f.sides p) (at a.y p) (at a.b p) n le (a.sides p))
-        a.sides;
-    staged = channelled_on x.opening f.download c k k (place_in f) (place_in f) a.b a.b (download s) (download s) x
-        (record x { live = rest }) refl refl (λ e. e)
-        (λ st. staged_live f.download c k (place_in f) a.b (download s) x rest st) a.staged;
-  }
-
-  other_mark : (y : PerPartition ℕ) (p : Partition) (n : ℕ) (q : Partition) → p ≢ q → at (with_at y p n) q ≡ at y q
-  other_mark y p n = by_partition (λ q z. p ≢ q → z ≡ at y q) y p n (λ ne. absurd (ne refl)) (λ q ne z. refl)
-
-  -- the next report under way comes, and is held
-  abbrev pub with_hold : Following → Partition → NumberedReport → Following
-  with_hold f p h =
-      record f { sides = with_at f.sides p (record (at f.sides p) { hold = (at f.sides p).hold ++ h ∷ [] }) }
-
-  pub hold_places : (f : Following) (p : Partition) (h : NumberedReport) (q : Partition) → place_in (with_hold f p h) q
-      ≡ place_in f q
-  hold_places f p h =
-      or_as_it_was (λ q y. y.place ≡ place_in f q) f.sides p
-      (record (at f.sides p) { hold = (at f.sides p).hold ++ h ∷ [] }) refl (λ q. refl)
-
-  holds_more : (l : List Entry) (y : Side) (m b n : ℕ) (e : Entry) → y.state ≡ Behind → under l n ≡ Some e → e.owner
-      ≡ c → Next c l m n → Sided c l y m b → Sided c l (record y { hold = y.hold ++ held n e ∷ [] }) n b
-  holds_more l y m b n e st s o x h =
-      let was : Holding c l (max y.place b) y.hold m = subst (λ z. SidedBy z c l y m b) st h in
-      subst (λ z. SidedBy z c l (record y { hold = y.hold ++ held n e ∷ [] }) n b) (sym st)
-      (holding_more c l (max y.place b) y.hold m n e s o x was)
-
-  pub up_held : (f : Following) (x : Line) (m : List ℕ) (rest : List (List ℕ)) (t u : Taking) (p : Partition) (n : ℕ)
-      (e : Entry) (a : Up c k s f (place_in f) x t) → (at f.sides p).state ≡ Behind → under (at k p) n ≡ Some e
-      → e.owner ≡ c
-      → Next c (at k p) (at a.y p) n → Flows c k s.sent (with_at a.y p n) rest → Only p n u
-      → Up c k s (with_hold f p (held n e)) (place_in (with_hold f p (held n e))) (record x { live = rest })
-      (or_one t u)
-  up_held f x m rest t u p n e a st sd o next flows only =
-      let g = with_hold f p (held n e) in
-      let same = hold_places f p (held n e) in
-      let fl = flowing_popped (place_in f) x m rest t u a.y p n next flows only a.flowing in
-      record {
-        y = with_at a.y p n;
-        b = a.b;
-        flowing = record {
-          within = fl.within;
-          flows = fl.flows;
-          taken = λ q i h. let w = fl.taken q i h in let z : place_in g q
-              ≡ place_in f q = same q in omega (arith, w, z);
-        };
-        bases = a.bases;
-        sides =
-            by_partition (λ q z. Sided c (at k q) z (at (with_at a.y p n) q) (at a.b q)) f.sides p
-            (record (at f.sides p) { hold = (at f.sides p).hold ++ held n e ∷ [] })
-            (subst (λ z. Sided c (at k p) (record (at f.sides p) { hold = (at f.sides p).hold ++ held n e ∷ [] }) z
-            (at a.b p)) (sym (at_written a.y p n))
-            (holds_more (at k p) (at f.sides p) (at a.y p) (at a.b p) n e st sd o next (a.sides p)))
-            (λ q ne. subst (λ z. Sided c (at k q) (at f.sides q) z (at a.b q)) (sym (other_mark a.y p n q ne))
-            (a.sides q));
-        staged =
-            channelled_on x.opening f.download c k k (place_in f) (place_in g) a.b a.b (download s) (download s) x
-            (record x { live = rest }) refl refl (λ e. e)
-            (λ st. staged_live f.download c k (place_in g) a.b (download s) x rest
-            (staged_up f.download c k (place_in f) (place_in g) a.b (download s) x
-            (λ q. let z : place_in g q ≡ place_in f q = same q in omega (arith, z)) st)) a.staged;
-      }
+    -- it is held
+    pub joined_held : (u : Taking) → Only p (number_of h) u → (hs : List NumberedReport) → (at f.sides p).state ≡ Behind hs
+        → Joined c k s (with_hold f p (hs ++ h ∷ [])) (record x { live = rest }) (or_one t u)
+    joined_held u only hs e =
+        let more = hs ++ h ∷ [] in
+        let g = with_hold f p more in
+        let same = hold_places f p more in
+        let mark = max (at a.y p) (number_of h) in
+        let x' : Line = record x { live = rest } in
+        record {
+          y = popped a.y p h;
+          b = a.b;
+          ds = a.ds;
+          parts = by_partition (λ q z. Whole c (record (marks_of k s f x' (popped a.y p h) a.b a.ds q) { side = z })) f.sides p
+              (record (at f.sides p) { state = Behind more })
+              (subst (λ z. Whole c (record (marks_of k s f x' a.y a.b a.ds p) {
+                side = record (at f.sides p) { state = Behind more };
+                brought = z;
+              })) (sym (at_written a.y p mark))
+              (held_back c (marks_of k s f x a.y a.b a.ds p) h (reports_of p rest) in_front hs e))
+              (λ q ne. subst (λ z. Whole c (record (marks_of k s f x' a.y a.b a.ds q) { brought = z }))
+              (sym (other_mark mark q ne)) (with_live q (reports_of q rest) (fr.others q ne)));
+          taken = λ q i w. let v = taken_popped (place_in f) t u a.y p h only a.taken q i w in let z : place_in g q
+              ≡ place_in f q = same q in omega (arith, v, z);
+          staged = channelled_live x.opening (download_of f) a.ds (download s) x rest a.staged;
+        }
 
 -- ---- the hold is folded
 
@@ -303,21 +246,20 @@ module _ (c : ℕ) (v : Books) (sound : Sound v) (few : length v.rows ≤ ORDERS
       by Three Three h o = h
 
   -- the first is at or below the place
-  skipped : (w : Knowledge) (k : ℕ) (p : Partition) (g : NumberedReport) (n : ℕ) (e : Entry) → g ≡ held n e → n ≤ k
+  skipped : (w : Knowledge) (k : ℕ) (p : Partition) (g : NumberedReport) → number_of g ≤ k
       → caught_one p (reached w k) g ≡ Ok (reached w k)
-  skipped w k p g n e i le =
-      ap (caught_one p (reached w k)) i ∙ ap (λ b. cond b (Ok (reached w k)) (moved n (fold p (told_of e.report) w)))
-      (le-leb n k le)
+  skipped w k p g le =
+      ap (λ b. cond b (Ok (reached w k)) (moved (number_of g) (fold p g.told w))) (le-leb (number_of g) k le)
 
   -- or it is the next
-  folded_next : (w : Knowledge) (k : ℕ) (p : Partition) (g : NumberedReport) (n : ℕ) (e : Entry) (w' : Knowledge) → g ≡ held n e
-      → k < n → fold p (told_of e.report) w ≡ Ok w' → caught_one p (reached w k) g ≡ Ok (reached w' n)
-  folded_next w k p g n e w' i lt q =
-      ap (caught_one p (reached w k)) i ∙ ap (λ b. cond b (Ok (reached w k)) (moved n (fold p (told_of e.report) w)))
-      (lt-leb n k lt) ∙ ap (moved n) q
+  folded_next : (w : Knowledge) (k : ℕ) (p : Partition) (g : NumberedReport) (w' : Knowledge) → k < number_of g
+      → fold p g.told w ≡ Ok w' → caught_one p (reached w k) g ≡ Ok (reached w' (number_of g))
+  folded_next w k p g w' lt q =
+      ap (λ b. cond b (Ok (reached w k)) (moved (number_of g) (fold p g.told w))) (lt-leb (number_of g) k lt)
+      ∙ ap (moved (number_of g)) q
 
   pub reaches : (w : Knowledge) (pl : Partition → ℕ) (p : Partition) (hs : List NumberedReport) (y : ℕ) → Tallied c v.kept w pl
-      → (pl p ≡ 0) ⊎ (is_of c (under (at v.kept p) (pl p)) ≡ true) → Holding c (at v.kept p) (pl p) hs y
+      → (pl p ≡ 0) ⊎ (is_of c (under (at v.kept p) (pl p)) ≡ true) → Run c (at v.kept p) (pl p) hs y
       → Reaches w pl p hs y
   reaches w pl p [] y t z h = record {
     after = reached w (pl p);
@@ -327,33 +269,37 @@ module _ (c : ℕ) (v : Books) (sound : Sound v) (few : length v.rows ≤ ORDERS
     up = omega arith;
     passed = h;
   }
-  reaches w pl p (g ∷ hs) y t z (n, e, s, o, i, is, inl (le, h)) =
-      let on = reaches w pl p hs y t z h in
-      record {
-        after = on.after;
-        done = ap (λ (a : Result Reached FoldRefusal). fold_each (caught_next p) a hs)
-            (skipped w (pl p) p g n e i le) ∙ on.done;
-        known = on.known;
-        placed = on.placed;
-        up = on.up;
-        passed = on.passed;
-      }
-  reaches w pl p (g ∷ hs) y t z (n, e, s, o, i, is, inr (x, h)) =
-      let f = folds v.instruments v.rows v.kept c w pl p n e sound.recorded few t x.above x.between s o in
-      let here = moved_here pl p n in
-      let apart = moved_other pl p n in
-      let now = tallied_on c v sound few w pl (moved_to pl p n) p n e f here apart t in
-      let on = reaches f.after (moved_to pl p n) p hs y now
-      (inr (subst (λ u. is_of c (under (at v.kept p) u) ≡ true) (sym here) x.hers))
-      (subst (λ u. Holding c (at v.kept p) u hs y) (sym here) h) in
-      record {
-        after = on.after;
-        done =
-            ap (λ (a : Result Reached FoldRefusal). fold_each (caught_next p) a hs)
-            (folded_next w (pl p) p g n e f.after i x.above f.taken)
-            ∙ ap (λ u. fold_each (caught_next p) (Ok (reached f.after u)) hs) (sym here) ∙ on.done;
-        known = λ pl' there others. on.known pl' there (λ q ne. others q ne ∙ sym (apart q ne));
-        placed = on.placed;
-        up = (let a = on.up in let lt = x.above in let e' : moved_to pl p n p ≡ n = here in omega (arith, a, lt, e'));
-        passed = on.passed;
-      }
+  reaches w pl p (g ∷ hs) y t z (tl, x, r) = elim (cases_lt (pl p) (number_of g)) [
+    | inr le ↦
+        let on = reaches w pl p hs y t z (run_down c (at v.kept p) (pl p) (max (pl p) (number_of g)) hs y
+        (λ j lt q. absurd (omega (arith, lt, q, le))) r) in
+        record {
+          after = on.after;
+          done = ap (λ (a : Result Reached FoldRefusal). fold_each (caught_next p) a hs) (skipped w (pl p) p g le) ∙ on.done;
+          known = on.known;
+          placed = on.placed;
+          up = on.up;
+          passed = on.passed;
+        }
+    | inl lt ↦
+        let n = number_of g in
+        let f = folds v.instruments v.rows v.kept c w pl p n tl.entry sound.recorded few t lt x.between tl.stands tl.owner in
+        let here = moved_here pl p n in
+        let apart = moved_other pl p n in
+        let now = tallied_on c v sound few w pl (moved_to pl p n) p n tl.entry f here apart t in
+        let on = reaches f.after (moved_to pl p n) p hs y now
+        (inr (subst (λ u. is_of c (under (at v.kept p) u) ≡ true) (sym here) x.hers))
+        (subst (λ u. Run c (at v.kept p) u hs y) (sym here)
+        (run_up c (at v.kept p) (max (pl p) n) n hs y (omega (arith, lt)) r)) in
+        record {
+          after = on.after;
+          done =
+              ap (λ (a : Result Reached FoldRefusal). fold_each (caught_next p) a hs)
+              (folded_next w (pl p) p g f.after lt (ap (λ (i : NumberedReport). fold p i.told w) tl.told ∙ f.taken))
+              ∙ ap (λ u. fold_each (caught_next p) (Ok (reached f.after u)) hs) (sym here) ∙ on.done;
+          known = λ pl' there others. on.known pl' there (λ q ne. others q ne ∙ sym (apart q ne));
+          placed = on.placed;
+          up = (let a = on.up in let e' : moved_to pl p n p ≡ n = here in omega (arith, a, lt, e'));
+          passed = on.passed;
+        }
+  ]

@@ -43,12 +43,12 @@ module _ {Q A : Type 0} where
       (r : Result (Result (Unit {0}) Breach) E) → i < length xs
       → after_log c (made xs) l ≡ after_log c (made (drop i xs)) w
       → IfOk r (λ q. after_entry c (get_or xs i d) w ≡ onto q n) → r ≡ Ok (Err b)
-      → Err b ≡ verdict (after_log c (made xs) l)
+      → Err b ≡ after_log c (made xs) l
   refused_at c i xs d w l n b r lt was call e =
       let now : after_entry c (get_or xs i d) w ≡ Err b = subst
       (λ s. IfOk s (λ q. after_entry c (get_or xs i d) w ≡ onto q n)) e call in
-      sym (ap verdict (was ∙ ap (λ ys. after_log c (made ys) w) (drop_more xs i d lt)
-      ∙ refused_one c (get_or xs i d) (drop (i + 1) xs) w b now))
+      sym (was ∙ ap (λ ys. after_log c (made ys) w) (drop_more xs i d lt)
+      ∙ refused_one c (get_or xs i d) (drop (i + 1) xs) w b now)
 
 -- where the verdict is Ok, the line allows the log
 pub allowed_by : (c : ℕ) (xs : List Done) (r : Result (Unit {0}) Breach) → r ≡ verdict (after_log c xs quiet) → IsOk r

@@ -1,6 +1,6 @@
 -- What is sent next, and what a download hands out next. Assumes nothing.
 use Rattle.std.specs.Prelude.{nat_le}
-use Rattle.std.proofs.Common.{◌≡◌, ◌⊎◌, inl, inr, ℕ, ◌+◌, ◌<◌, ◌≤◌, max, Bool, true, false, cond, leb, List, Some, None, Option, length, refl, subst, arith}
+use Rattle.std.proofs.Common.{◌≡◌, ◌≢◌, ℕ, ◌+◌, ◌<◌, ◌≤◌, max, Bool, true, false, cond, leb, List, Some, None, Option, length, refl, subst, arith}
 use Rattle.std.proofs.lemmas.Bool.{leb-false}
 use Rattle.codes.specs.declared.session.Partition.{Partition}
 use Rattle.codes.specs.declared.session.Partition.TheVariants.{One, Two, Three}
@@ -29,11 +29,10 @@ SentBy c k s s' None = (p : Partition) → Moves c (at k p) (at s p) (at s' p)
 SentBy c k s s' (Some (q, n)) = Sent c k s s' q n
 
 stay : (c : ℕ) (l : List Entry) (s : ℕ) → s ≤ length l → Moves c l s s
-stay c l s w = record { from = omega arith; within = w; passed = λ j lt le. absurd (omega (arith, lt, le)) }
+stay c l s w = record { within = w; passed = λ j lt le. absurd (omega (arith, lt, le)) }
 
 pass : (c : ℕ) (l : List Entry) (s : ℕ) → s ≤ length l → Lowest l c s None → Moves c l s (max s (length l))
 pass c l s w h = record {
-  from = omega arith;
   within = omega (arith, w);
   passed = passed_all c l s (max s (length l)) h;
 }
@@ -43,23 +42,23 @@ module _ (c : ℕ) (k : Kept) (s : PerPartition ℕ) (w : (p : Partition) → at
       → SentBy c k s (after r1 r2 r3 k s) (first r1 r2 r3)
   looks (Some n) r2 r3 h1 h2 h3 = record { next = found c k.one s.one n h1; mark = refl; others = others }
     where
-      others : (p : Partition) → (One ≡ p) ⊎ Moves c (at k p) (at s p) (at (with_at s One n) p)
-      others One = inl refl
-      others Two = inr (stay c k.two s.two (w Two))
-      others Three = inr (stay c k.three s.three (w Three))
+      others : (p : Partition) → One ≢ p → Moves c (at k p) (at s p) (at (with_at s One n) p)
+      others One ne = absurd (ne refl)
+      others Two ne = stay c k.two s.two (w Two)
+      others Three ne = stay c k.three s.three (w Three)
   looks None (Some n) r3 h1 h2 h3 = record { next = found c k.two s.two n h2; mark = refl; others = others }
     where
-      others : (p : Partition) → (Two ≡ p) ⊎ Moves c (at k p) (at s p)
+      others : (p : Partition) → Two ≢ p → Moves c (at k p) (at s p)
           (at (with_at (with_at s One (max s.one (length k.one))) Two n) p)
-      others One = inr (pass c k.one s.one (w One) h1)
-      others Two = inl refl
-      others Three = inr (stay c k.three s.three (w Three))
+      others One ne = pass c k.one s.one (w One) h1
+      others Two ne = absurd (ne refl)
+      others Three ne = stay c k.three s.three (w Three)
   looks None None (Some n) h1 h2 h3 = record { next = found c k.three s.three n h3; mark = refl; others = others }
     where
-      others : (p : Partition) → (Three ≡ p) ⊎ Moves c (at k p) (at s p) (at (after None None (Some n) k s) p)
-      others One = inr (pass c k.one s.one (w One) h1)
-      others Two = inr (pass c k.two s.two (w Two) h2)
-      others Three = inl refl
+      others : (p : Partition) → Three ≢ p → Moves c (at k p) (at s p) (at (after None None (Some n) k s) p)
+      others One ne = pass c k.one s.one (w One) h1
+      others Two ne = pass c k.two s.two (w Two) h2
+      others Three ne = absurd (ne refl)
   looks None None None h1 h2 h3 = all
     where
       all : (p : Partition) → Moves c (at k p) (at s p) (at (after None None None k s) p)
@@ -89,7 +88,7 @@ none_in c l d (Some n) h e = by (leb n d.target) refl e
     by true f g = absurd cc
     by false f g = let lt : d.target < n = leb-false n d.target f in λ j p q. h.2 j p (omega (arith, q, lt))
 
-one_in : (c : ℕ) (l : List Entry) (d : Download) (r : Option ℕ) (n : ℕ) → Lowest l c d.last r → up_to d.target r
+pub one_in : (c : ℕ) (l : List Entry) (d : Download) (r : Option ℕ) (n : ℕ) → Lowest l c d.last r → up_to d.target r
     ≡ Some n → Next c l d.last n
 one_in c l d None n h e = absurd cc
 one_in c l d (Some m) n h e = by (leb m d.target) refl e

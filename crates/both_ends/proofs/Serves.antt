@@ -9,14 +9,17 @@ use Rattle.answers.specs.declared.answer.Answer.TheVariants as answer
 use Rattle.codes.specs.Session.{partition_code}
 use Rattle.codes.specs.declared.session.AckResponse.{AckResponse}
 use Rattle.codes.specs.declared.session.AckResponse.TheVariants.{Successful, LimitReached, InvalidAppId, ServiceUnavailable}
+use Rattle.codes.specs.declared.session.ReportResponse.{ReportResponse}
+use Rattle.codes.specs.declared.session.ReportResponse.TheVariants as ending
 use Rattle.codes.specs.declared.session.Partition.{Partition}
 use Rattle.codes.specs.declared.session.Partition.TheVariants.{One, Two, Three}
-use Rattle.both_ends.proofs.Carrying.{held, Brings, Flows, Ahead, Moves, Sent, Loads, flows_grown, flows_on, flows_more, loads_more, loads_end}
+use Rattle.both_ends.proofs.Carrying.{held, Tells, Sent, reports_of, Back, back, same_or_not, Delivery, OfPart, Over, delivery_runs, delivery_more, delivery_end}
+use Rattle.both_ends.proofs.Marks.{Marks, Whole, SidedBy, Load, Loaded, loaded_on, none_loaded, reloaded, begun as begun_to, handed_out as handed_more, completed, stored_more, sent_past, sent_more}
 use Rattle.both_ends.proofs.Caught.{grows}
 use Rattle.both_ends.proofs.Flights.{Passed, Next, there_within, hers_grown, longer, hers_is}
-use Rattle.both_ends.proofs.Follows.{to_up, to_ready, to_away, next_is, same_ok, ok_err}
+use Rattle.both_ends.proofs.Follows.{next_is, same_ok, ok_err}
 use Rattle.both_ends.proofs.Heard.{report_heard, end_heard, ack_heard, reject_heard, logon_heard, nothing_heard}
-use Rattle.both_ends.proofs.Keeping.{Keeps, Phase, Ready, Up, Staged, Channelled, AskedAs, Waits, Refuses, Taking, Flowing, channelled_on, Refusing, opened, refusing_more, sided_grown, staged_grown, staged_cut, staged_live}
+use Rattle.both_ends.proofs.Keeping.{Keeps, Phase, Joined, marks_of, Staged, Channelled, AskedAs, Waits, Refuses, Taking, channelled_on, channelled_live, phase_on, idle_where, unloads, at_unloads, Refusing, opened, refusing_more, staged_cut}
 use Rattle.both_ends.proofs.Sendings.{SentBy, sends, HandedBy, hands}
 use Rattle.both_ends.specs.Agreement.{is_hers, place}
 use Rattle.both_ends.specs.Allowed.{Line, connected, accepted, next_of, after_logon, behind, answered, after_recovery, after_failure, given_recovery, is_failed_logon, is_grant, is_reject, left_reject}
@@ -25,16 +28,15 @@ use Rattle.both_ends.specs.declared.allowed.Breach.TheVariants.{StillUp, NotAske
 use Rattle.both_ends.specs.declared.opening.Opening.{Opening}
 use Rattle.both_ends.specs.declared.opening.Opening.TheVariants.{Awaited, Open, Failed}
 use Rattle.both_ends.specs.Connecting.{up_in}
-use Rattle.both_ends.specs.declared.connection.Connection.{Connection}
-use Rattle.both_ends.specs.declared.connection.Connection.TheVariants as conn
 use Rattle.gateway_runs.specs.declared.call.Reply.{Reply}
 use Rattle.gateway.specs.declared.fault.GatewayFault.{GatewayFault}
 use Rattle.gateway_runs.specs.Runs.{bytes_of, left}
 use Rattle.follower.specs.Asking.{request, IsRequest}
-use Rattle.follower.specs.Following.{Following}
+use Rattle.follower.specs.Following.{Following, is_up, download_of}
 use Rattle.follower.specs.Hearing.{heard_in}
 use Rattle.follower.specs.declared.heard.Heard.{Heard}
 use Rattle.follower.specs.declared.heard.Heard.TheVariants.{Report, Ack, End, Reject, Nothing}
+use Rattle.follower.specs.declared.heard.NumberedReport.{NumberedReport}
 use Rattle.follower.specs.declared.stage.Stage.{Stage}
 use Rattle.follower.specs.declared.stage.Stage.TheVariants.{Idle, Asked, Running}
 use Rattle.gateway.specs.Calls.{entry_bytes, sent_bytes, recovered_bytes}
@@ -47,6 +49,7 @@ use Rattle.limits.specs.declared.TheConstants.{ORDERS}
 use Rattle.gateway_runs.proofs.Effects.{Stays, Closes, Opens, RealTimeDoes, Grants, RecoveryDoes, SendDoes, RecoverDoes}
 use Rattle.gateway_runs.proofs.Growing.{Grows}
 use Rattle.session_messages.specs.declared.missed_message_request.MissedMessageRequest.{MissedMessageRequest}
+use Rattle.partitions.proofs.Written.{at_written, or_as_it_was}
 use Rattle.partitions.specs.PerPartition.{at, with_at}
 use Rattle.partitions.specs.declared.per_partition.PerPartition.{PerPartition}
 use Rattle.reports.specs.Tally.{is_of}
@@ -70,12 +73,21 @@ behind_some ms [] h e = absurd (let (f, g) = nothing_heard in let z : Ok h ≡ E
 behind_some ms (b ∷ m) h e = refl
 
 -- the owner's report under a number is heard in its bytes
+pub record Brought (c : ℕ) (l : List Entry) (p : Partition) (n : ℕ) (m : List ℕ) : Type 0 where
+  pub entry : Entry
+  pub tells : Tells c l (held n entry)
+  pub heard : heard_in m ≡ Ok (Report p (held n entry))
+
 brought : (c : ℕ) (l : List Entry) (p : Partition) (n : ℕ) → is_of c (under l n) ≡ true → EntryTold p n (under l n)
-    → Brings c l p n (entry_bytes p n (under l n))
+    → Brought c l p n (entry_bytes p n (under l n))
 brought c l p n t told =
     let h = hers_is c l n t in
-    subst (λ (o : Option Entry). EntryTold p n o → Brings c l p n (entry_bytes p n o)) (sym h.stands)
-    (λ w. record { entry = h.entry; stands = h.stands; owner = h.owner; heard = report_heard p n h.entry.report w })
+    subst (λ (o : Option Entry). EntryTold p n o → Brought c l p n (entry_bytes p n o)) (sym h.stands)
+    (λ w. record {
+      entry = h.entry;
+      tells = record { entry = h.entry; stands = h.stands; owner = h.owner; told = refl };
+      heard = report_heard p n h.entry.report w;
+    })
     told
 
 -- ---- what does not depend on the call
@@ -105,7 +117,7 @@ module _ (c : ℕ) (s : State) (d : Desk) (x : Line) (t : Taking) (k : Keeps c s
       by (inl e) = inl e
       by (inr h) = inr (hers_grown c (at old p) (at new p) (place d p) (g p) h)
 
-  keeps_on : (x' : Line) → up_in x'.connection ≡ up_in x.connection → Phase x'.connection c new (session w c) f (place d) x' t → Keeps c w d x' t
+  keeps_on : (x' : Line) → up_in x'.connection ≡ up_in x.connection → Phase x'.connection c new (session w c) f x' t → Keeps c w d x' t
   keeps_on x' e ph = record {
     up = e ∙ k.up;
     quiet = k.quiet;
@@ -117,79 +129,62 @@ module _ (c : ℕ) (s : State) (d : Desk) (x : Line) (t : Taking) (k : Keeps c s
     phase = ph;
   }
 
-  -- what is under way live stays
-  flowing_on : (sent' : PerPartition ℕ) (y : PerPartition ℕ) (x' : Line) → sent' ≡ (session s c).sent → x'.live
-      ≡ x.live → Flowing c old (session s c).sent (place d) x t y → Flowing c new sent' (place d) x' t y
-  flowing_on sent' y x' e l h = record {
-    within = λ p. let a = h.within p in let b = longer (at old p) (at new p) (g p) in omega (arith, a, b);
-    flows = subst (λ z. Flows c new z y x'.live) (sym e)
-        (subst (λ z. Flows c new (session s c).sent y z) (sym l)
-        (flows_grown c old new (session s c).sent y x.live g h.flows));
-    taken = h.taken;
-  }
+  -- the downloads and the recovery channel as the call leaves them
+  pub record Carried (x' : Line) (a : Stage) (b : PerPartition ℕ) : Type 0 where
+    pub ds : PerPartition Load
+    pub loaded : (p : Partition) → Loaded c (at new p) (place d p) (at b p) (at ds p)
+    pub staged : Channelled x'.opening a ds (download (session w c)) x'
 
-  abbrev Now : Stage → PerPartition ℕ → Type 0
-  Now a b = Channelled x.opening a c new (place d) b (download (session s c)) x
-
-  -- what the call makes of the recovery channel
   abbrev Carries : Line → Type 0
   Carries x' =
-      (a : Stage) (b : PerPartition ℕ) → ((p : Partition) → at b p ≤ length (at old p)) → Now a b
-      → Channelled x'.opening a c new (place d) b (download (session w c)) x'
+      (a : Stage) (b : PerPartition ℕ) (ds : PerPartition Load) → ((p : Partition) → at b p ≤ length (at old p))
+      → ((p : Partition) → Loaded c (at new p) (place d p) (at b p) (at ds p))
+      → Channelled x.opening a ds (download (session s c)) x → Carried x' a b
 
-  grown : (a : Stage) (b : PerPartition ℕ) → Channelled x.opening a c old (place d) b (download (session s c)) x
-      → Now a b
-  grown a b st = channelled_on x.opening a c old new (place d) (place d) b b (download (session s c))
-      (download (session s c)) x x refl refl (λ e. e)
-      (λ z. staged_grown a c old new (place d) b (download (session s c)) x g z) st
+  -- the marks, but for the store and the downloads, as the call leaves them
+  abbrev Parts : Line → PerPartition ℕ → PerPartition ℕ → PerPartition ℕ → PerPartition Load → Type 0
+  Parts x' sent y b ds = (p : Partition) → Whole c (record (marks_of old (session s c) f x' y b ds p) { sent = at sent p })
 
-  -- so does the rest, but for the recovery channel
-  up_on : (x' : Line) → (session w c).sent ≡ (session s c).sent → x'.live ≡ x.live → Carries x' → Up c old (session s c) f (place d) x t → Up c new (session w c) f (place d) x' t
-  up_on x' e l st u = record {
-    y = u.y;
-    b = u.b;
-    flowing = flowing_on (session w c).sent u.y x' e l u.flowing;
-    bases = λ p. let a = u.bases p in let b = longer (at old p) (at new p) (g p) in omega (arith, a, b);
-    sides = λ p. sided_grown c (at old p) (at new p) (at f.sides p) (at u.y p) (at u.b p) (g p) (u.flowing.within p)
-        (u.sides p);
-    staged = st f.download u.b u.bases (grown f.download u.b u.staged);
-  }
-
-  ready_on : (x' : Line) → (session w c).sent ≡ (session s c).sent → x'.live ≡ x.live → Carries x' → Ready c old (session s c) (place d) x t
-      → Ready c new (session w c) (place d) x' t
-  ready_on x' e l st r = record {
-    y = r.y;
-    flowing = flowing_on
-        (session w c).sent r.y x' e l r.flowing;
-    still = st Idle r.y r.flowing.within (grown Idle r.y r.still);
-  }
-
-  -- by the phase, where the line goes on
-  goes_on : (x' : Line) → x'.connection ≡ x.connection
-      → (Ready c old (session s c) (place d) x t → Ready c new (session w c) (place d) x' t)
-      → (Up c old (session s c) f (place d) x t → Up c new (session w c) f (place d) x' t)
-      → Keeps c w d x' t
-  goes_on x' same on_ready on_up = keeps_on x' (ap up_in same) (by x.connection same k.phase)
+  -- by what it makes of them and of the recovery channel, where the line goes on
+  goes_on : (x' : Line) (sent' : PerPartition ℕ) → x'.connection ≡ x.connection → (session w c).sent ≡ sent'
+      → ((y b : PerPartition ℕ) (ds : PerPartition Load) → Parts x (session s c).sent y b ds → Parts x' sent' y b ds)
+      → Carries x' → Keeps c w d x' t
+  goes_on x' sent' same es moved st = keeps_on x' (ap up_in same)
+      (subst (λ a. Phase a c new (session w c) f x' t) (sym same)
+      (phase_on c old new (session s c) (session w c) f f x x' t t on x.connection k.phase))
     where
-      by : (a : Connection) → x'.connection ≡ a → Phase a c old (session s c) f (place d) x t
-          → Phase x'.connection c new (session w c) f (place d) x' t
-      by conn.Away e z = to_away c new (session w c) f (place d) x' t x'.connection e
-      by conn.Ready e z = to_ready c new (session w c) f (place d) x' t x'.connection e (on_ready z)
-      by conn.Up e z = to_up c new (session w c) f (place d) x' t x'.connection e (on_up z)
+      on : Joined c old (session s c) f x t → Joined c new (session w c) f x' t
+      on u =
+          let cr = st (download_of f) u.b u.ds (λ p. (u.parts p).based)
+          (λ p. loaded_on c (at old p) (at new p) (place d p) (place d p) (at u.b p) (at u.ds p) (g p) (omega arith)
+          (u.parts p).loaded) u.staged in
+          record {
+            y = u.y;
+            b = u.b;
+            ds = cr.ds;
+            parts = λ p. subst (λ z. Whole c (record (marks_of new (session w c) f x' u.y u.b cr.ds p) { sent = at z p }))
+                (sym es) (reloaded c (record (marks_of new (session s c) f x' u.y u.b u.ds p) { sent = at sent' p })
+                (at cr.ds p) (cr.loaded p)
+                (stored_more c (record (marks_of old (session s c) f x' u.y u.b u.ds p) { sent = at sent' p }) (at new p) (g p)
+                (moved u.y u.b u.ds u.parts p)));
+            taken = u.taken;
+            staged = cr.staged;
+          }
 
   -- the session stays, or its channels are closed
   pub quietly : Stays (session s c) (session w c) ⊎ Closes (session s c) (session w c) → Keeps c w d x t
-  quietly (inl (es, ed)) = goes_on x refl (ready_on x es refl on) (up_on x es refl on)
-    where
-      on : Carries x
-      on a b bases st = subst (λ o. Channelled x.opening a c new (place d) b o x) (sym ed) st
-  quietly (inr (es, ed)) = goes_on x refl (ready_on x es refl on) (up_on x es refl on)
-    where
-      on : Carries x
-      on a b bases st =
-          subst (λ o. Channelled x.opening a c new (place d) b o x) (sym ed)
-          (channelled_on x.opening a c new new (place d) (place d) b b (download (session s c)) None x x refl refl
-          (λ e. refl) (λ z. staged_cut a c new (place d) b (download (session s c)) x z) st)
+  quietly (inl (es, ed)) = goes_on x (session s c).sent refl es (λ y b ds h. h) (λ a b ds bases lds st. record {
+    ds = ds;
+    loaded = lds;
+    staged = subst (λ o. Channelled x.opening a ds o x) (sym ed) st;
+  })
+  quietly (inr (es, ed)) = goes_on x (session s c).sent refl es (λ y b ds h. h) (λ a b ds bases lds st. record {
+    ds = ds;
+    loaded = lds;
+    staged = subst (λ o. Channelled x.opening a ds o x) (sym ed)
+        (channelled_on x.opening a ds ds (download (session s c)) None x x refl refl (λ e. refl)
+        (staged_cut a ds (download (session s c)) x) st);
+  })
 
   -- ---- a Logon is accepted
 
@@ -209,17 +204,34 @@ module _ (c : ℕ) (s : State) (d : Desk) (x : Line) (t : Taking) (k : Keeps c s
           let a = longer (at old p) (at new p) (g p) in let z : at (lasts old) p
           ≡ length (at old p) = last p in omega (arith, a, z)
 
-      ready : Ready c new (session w c) (place d) connected t
+      dn : is_up f ≡ false
+      dn = sym k.up ∙ e
+
+      ready : Joined c new (session w c) f connected t
       ready = record {
         y = lasts old;
-        flowing = record {
-          within = none;
-          flows = λ p. subst (λ z. Ahead c (at new p) (at (lasts old) p) (at z p)) (sym es)
-              (record { from = omega arith; within = none p; passed = λ j lt le. absurd (omega (arith, lt, le)) });
-          taken = λ p n h. let a = there_within c (at old p) n (k.hers p n h) in let z : at (lasts old) p
-              ≡ length (at old p) = last p in omega (arith, a, z);
-        };
-        still = (tt, (refl, refl, ed), (refl, refl, refl, ed));
+        b = lasts old;
+        ds = unloads (lasts old);
+        parts = λ p. subst (λ z. Whole c
+            (record (marks_of new (session w c) f connected (lasts old) (lasts old) (unloads (lasts old)) p) {
+              sent = at z p;
+            })) (sym es) (subst (λ i. Whole c
+            (record (marks_of new (session s c) f connected (lasts old) (lasts old) (unloads (lasts old)) p) {
+              sent = at (lasts old) p;
+              load = i;
+            })) (sym (at_unloads (lasts old) p)) (record {
+              within = none p;
+              ahead = none p;
+              based = none p;
+              run = λ j lt le. absurd (omega (arith, lt, le));
+              sided = subst (λ z. SidedBy z c (at new p) (place d p) (at (lasts old) p) (at (lasts old) p))
+                  (sym (k.quiet.fallen dn p)) (λ j lt le. absurd (omega (arith, lt, le)));
+              loaded = none_loaded c (at new p) (place d p) (at (lasts old) p) (none p);
+            }));
+        taken = λ p n h. let a = there_within c (at old p) n (k.hers p n h) in let z : at (lasts old) p
+            ≡ length (at old p) = last p in omega (arith, a, z);
+        staged = subst (λ i. Channelled connected.opening i (unloads (lasts old)) (download (session w c)) connected)
+            (sym (idle_where f.line dn)) (tt, (refl, refl, ed), (refl, refl, refl, ed));
       }
 
   pub real_time : (bytes : List ℕ) → RealTimeDoes old bytes (session s c) (session w c) → (b : Bool)
@@ -237,78 +249,54 @@ module _ (c : ℕ) (s : State) (d : Desk) (x : Line) (t : Taking) (k : Keeps c s
       → Keeps c w d (record x { live = behind x.live bytes }) t
   sent_nothing bytes e h = subst (λ z. Keeps c w d (record x { live = behind x.live z }) t) (sym e) h
 
-  sent_within : (p : Partition) → (y : PerPartition ℕ) (ms : List (List ℕ)) → Flows c old (session s c).sent y ms
-      → at (session s c).sent p ≤ length (at old p)
-  sent_within p y [] h = (h p).within
-  sent_within p y (m ∷ ms) (q, n, b, nx, h) = sent_within p (with_at y q n) ms h
-
-  -- the marks moved on, and nothing was sent
-  marks_moved : (sent' y : PerPartition ℕ) → (session w c).sent ≡ sent'
-      → ((p : Partition) → Moves c (at old p) (at (session s c).sent p) (at sent' p))
-      → Flowing c old (session s c).sent (place d) x t y → Flowing c new (session w c).sent (place d) x t y
-  marks_moved sent' y e mv h = record {
-    within = λ p. let a = h.within p in let b = longer (at old p) (at new p) (g p) in omega (arith, a, b);
-    flows = subst (λ z. Flows c new z y x.live) (sym e)
-        (flows_grown c old new sent' y x.live g (flows_on c old (session s c).sent sent' y x.live mv h.flows));
-    taken = h.taken;
-  }
-
   -- a report was sent
-  report_sent : (sent' y : PerPartition ℕ) (q : Partition) (n : ℕ) (m : List ℕ) → (session w c).sent ≡ sent'
-      → Sent c old (session s c).sent sent' q n → Brings c (at old q) q n m
-      → Flowing c old (session s c).sent (place d) x t y
-      → Flowing c new (session w c).sent (place d) (record x { live = x.live ++ m ∷ [] }) t y
-  report_sent sent' y q n m e st b h = record {
-    within = λ p. let a = h.within p in let b' = longer (at old p) (at new p) (g p) in omega (arith, a, b');
-    flows = subst (λ z. Flows c new z y (x.live ++ m ∷ [])) (sym e)
-        (flows_grown c old new sent' y (x.live ++ m ∷ []) g
-        (flows_more c old (session s c).sent sent' y x.live q n m st b h.flows));
-    taken = h.taken;
-  }
+  report_sent : (sent' y b : PerPartition ℕ) (ds : PerPartition Load) (q : Partition) (n : ℕ) (m : List ℕ) (i : Entry)
+      → Sent c old (session s c).sent sent' q n → heard_in m ≡ Ok (Report q (held n i)) → Tells c (at old q) (held n i)
+      → Parts x (session s c).sent y b ds → Parts (record x { live = x.live ++ m ∷ [] }) sent' y b ds
+  report_sent sent' y b ds q n m i st hd tl h p = by (same_or_not q p)
+    where
+      to : Back q (held n i) x.live m
+      to = back q (held n i) x.live m hd
+
+      marks : Partition → List NumberedReport → ℕ → Marks
+      marks p hs n = record (marks_of old (session s c) f x y b ds p) { live = hs; sent = n }
+
+      here : Whole c (marks q (reports_of q (x.live ++ m ∷ [])) (at sent' q))
+      here =
+          subst (λ hs. Whole c (marks q hs (at sent' q))) (sym to.here)
+          (subst (λ z. Whole c (marks q (reports_of q x.live ++ held n i ∷ []) z)) (sym st.mark)
+          (sent_more c (marks_of old (session s c) f x y b ds q) (held n i) tl st.next (h q)))
+
+      by : (q ≡ p) ⊎ (q ≢ p) → Whole c (marks p (reports_of p (x.live ++ m ∷ [])) (at sent' p))
+      by (inl e) = subst (λ u. Whole c (marks u (reports_of u (x.live ++ m ∷ [])) (at sent' u))) e here
+      by (inr ne) =
+          let mv = st.others p ne in
+          subst (λ hs. Whole c (marks p hs (at sent' p))) (sym (to.others p ne))
+          (sent_past c (marks_of old (session s c) f x y b ds p) (at sent' p) mv.within mv.passed (h p))
 
   -- by what was sent, one thing under way live more or none
-  goes_live : (ms : List (List ℕ)) → download (session w c) ≡ download (session s c)
-      → ((y : PerPartition ℕ) → Flowing c old (session s c).sent (place d) x t y
-      → Flowing c new (session w c).sent (place d) (record x { live = ms }) t y)
+  goes_live : (ms : List (List ℕ)) (sent' : PerPartition ℕ) → (session w c).sent ≡ sent'
+      → download (session w c) ≡ download (session s c)
+      → ((y b : PerPartition ℕ) (ds : PerPartition Load) → Parts x (session s c).sent y b ds
+      → Parts (record x { live = ms }) sent' y b ds)
       → Keeps c w d (record x { live = ms }) t
-  goes_live ms ed on = goes_on (record x { live = ms }) refl on_ready on_up
-    where
-      carry : Carries (record x { live = ms })
-      carry a b bases st =
-          subst (λ o. Channelled x.opening a c new (place d) b o (record x { live = ms })) (sym ed)
-          (channelled_on x.opening a c new new (place d) (place d) b b (download (session s c))
-          (download (session s c)) x (record x { live = ms }) refl refl (λ e. e)
-          (λ z. staged_live a c new (place d) b (download (session s c)) x ms z) st)
-
-      on_ready : Ready c old (session s c) (place d) x t
-          → Ready c new (session w c) (place d) (record x { live = ms }) t
-      on_ready r =
-          record {
-            y = r.y;
-            flowing = on r.y r.flowing;
-            still = carry Idle r.y r.flowing.within (grown Idle r.y r.still);
-          }
-
-      on_up : Up c old (session s c) f (place d) x t → Up c new (session w c) f (place d) (record x { live = ms }) t
-      on_up u = record {
-        y = u.y;
-        b = u.b;
-        flowing = on u.y u.flowing;
-        bases = λ p. let a = u.bases p in let b = longer (at old p) (at new p) (g p) in omega (arith, a, b);
-        sides = λ p. sided_grown c (at old p) (at new p) (at f.sides p) (at u.y p) (at u.b p) (g p)
-            (u.flowing.within p) (u.sides p);
-        staged = carry f.download u.b u.bases (grown f.download u.b u.staged);
-      }
+  goes_live ms sent' es ed moved = goes_on (record x { live = ms }) sent' refl es moved (λ a b ds bases lds st. record {
+    ds = ds;
+    loaded = lds;
+    staged = subst (λ o. Channelled x.opening a ds o (record x { live = ms })) (sym ed)
+        (channelled_live x.opening a ds (download (session s c)) x ms st);
+  })
 
   sends_by : (o : Option (Partition × ℕ)) (sent' : PerPartition ℕ) (bytes : List ℕ)
-      → ((y : PerPartition ℕ) → Flowing c old (session s c).sent (place d) x t y
+      → ((y b : PerPartition ℕ) (ds : PerPartition Load) → Parts x (session s c).sent y b ds
       → SentBy c old (session s c).sent sent' o)
       → bytes ≡ sent_bytes old o → (session w c).sent ≡ sent' → download (session w c) ≡ download (session s c)
       → SentTold old o
       → Keeps c w d (record x { live = behind x.live bytes }) t
   sends_by None sent' bytes by e es ed told =
       subst (λ z. Keeps c w d (record x { live = behind x.live z }) t) (sym e)
-      (goes_live x.live ed (λ y h. marks_moved sent' y es (by y h) h))
+      (goes_live x.live sent' es ed (λ y b ds h p. let mv = by y b ds h p in
+      sent_past c (marks_of old (session s c) f x y b ds p) (at sent' p) mv.within mv.passed (h p)))
   sends_by (Some (q, n)) sent' bytes by e es ed told =
       subst (λ z. Keeps c w d (record x { live = behind x.live z }) t) (sym e) (all (under (at old q) n) refl told)
     where
@@ -316,26 +304,25 @@ module _ (c : ℕ) (s : State) (d : Desk) (x : Line) (t : Taking) (k : Keeps c s
           → Keeps c w d (record x { live = behind x.live (entry_bytes q n (under (at old q) n)) }) t
       all None z tl =
           subst (λ (i : Option Entry). Keeps c w d (record x { live = behind x.live (entry_bytes q n i) }) t) (sym z)
-          (goes_live x.live ed (λ y h. absurd (none y h)))
+          (goes_live x.live sent' es ed (λ y b ds h. absurd (none y b ds h)))
         where
-          none : (y : PerPartition ℕ) → Flowing c old (session s c).sent (place d) x t y → ⊥
-          none y h =
-              let a = (by y h).next.hers in let b : is_of c None
+          none : (y b : PerPartition ℕ) (ds : PerPartition Load) → Parts x (session s c).sent y b ds → ⊥
+          none y b ds h =
+              let a = (by y b ds h).next.hers in let b : is_of c None
               ≡ true = subst (λ (i : Option Entry). is_of c i ≡ true) z a in cc
       all (Some i) z tl =
           let m = entry_bytes q n (under (at old q) n) in
           let hd : heard_in m ≡ Ok (Report q (held n i)) = ap
           (λ (j : Option Entry). heard_in (entry_bytes q n j)) z ∙ report_heard q n i.report tl in
           subst (λ ms. Keeps c w d (record x { live = ms }) t) (sym (behind_some x.live m (Report q (held n i)) hd))
-          (goes_live (x.live ++ m ∷ []) ed (λ y h. report_sent sent' y q n m es (by y h) (brings y h m hd) h))
+          (goes_live (x.live ++ m ∷ []) sent' es ed (λ y b ds h. report_sent sent' y b ds q n m i (by y b ds h) hd (tells y b ds h) h))
         where
-          brings : (y : PerPartition ℕ) → Flowing c old (session s c).sent (place d) x t y → (m : List ℕ) → heard_in m
-              ≡ Ok (Report q (held n i)) → Brings c (at old q) q n m
-          brings y h m hd = record {
+          tells : (y b : PerPartition ℕ) (ds : PerPartition Load) → Parts x (session s c).sent y b ds → Tells c (at old q) (held n i)
+          tells y b ds h = record {
             entry = i;
             stands = z;
-            owner = eqb-true i.owner c (subst (λ (j : Option Entry). is_of c j ≡ true) z (by y h).next.hers);
-            heard = hd;
+            owner = eqb-true i.owner c (subst (λ (j : Option Entry). is_of c j ≡ true) z (by y b ds h).next.hers);
+            told = refl;
           }
 
   pub sends_on : (room : ℕ) (bytes : List ℕ) → SendDoes s c room bytes (session w c) → SendTold room c s
@@ -343,7 +330,7 @@ module _ (c : ℕ) (s : State) (d : Desk) (x : Line) (t : Taking) (k : Keeps c s
   sends_on room bytes (inl (e, h)) told = sent_nothing bytes e (quietly (inl h))
   sends_on room bytes (inr (e, es, ed, fault)) told =
       sends_by (next_to_send old c (session s c).sent) (sent_after old c (session s c).sent) bytes
-      (λ y h. sends c old (session s c).sent (λ p. sent_within p y x.live h.flows)) e es ed (told fault)
+      (λ y b ds h. sends c old (session s c).sent (λ p. (h p).ahead)) e es ed (told fault)
 
   -- ---- the recovery channel
 
@@ -351,9 +338,7 @@ module _ (c : ℕ) (s : State) (d : Desk) (x : Line) (t : Taking) (k : Keeps c s
   goes_recovered : (rec ask : List (List ℕ)) → (session w c).sent ≡ (session s c).sent
       → Carries (record x { recovered = rec; asked = ask }) → Keeps c w d (record x { recovered = rec; asked = ask }) t
   goes_recovered rec ask es on =
-      goes_on (record x { recovered = rec; asked = ask }) refl
-      (ready_on (record x { recovered = rec; asked = ask }) es refl on)
-      (up_on (record x { recovered = rec; asked = ask }) es refl on)
+      goes_on (record x { recovered = rec; asked = ask }) (session s c).sent refl es (λ y b ds h. h) on
 
   no_asked : {X : Type 0} (m : List ℕ) (rest : List (List ℕ)) → x.asked ≡ m ∷ rest → x.asked ≡ [] → X
   no_asked m rest e h = absurd (let z : m ∷ rest ≡ [] = sym e ∙ h in cc)
@@ -367,10 +352,16 @@ module _ (c : ℕ) (s : State) (d : Desk) (x : Line) (t : Taking) (k : Keeps c s
     answer_line = record x { recovered = x.recovered ++ reply ∷ []; asked = rest }
 
     -- what the answer makes of a request that waits
+    pub record Answered (p : Partition) (b : ℕ) : Type 0 where
+      pub load : Load
+      pub loaded : Loaded c (at new p) (place d p) b load
+      pub again : load.again ≡ []
+      pub asked : AskedAs p load (download (session w c)) answer_line
+
     abbrev pub Answers : Type 0
     Answers =
-        (p : Partition) (b : ℕ) → b ≤ length (at old p) → Waits p (place d p) (download (session s c)) x
-        → AskedAs c (at new p) p b (place d p) (download (session w c)) answer_line
+        (p : Partition) (b : ℕ) (i : Load) → b ≤ length (at old p) → Loaded c (at new p) (place d p) b i → i.again ≡ []
+        → Waits p i (download (session s c)) x → Answered p b
 
     -- and of a channel whose first Logon was no message
     abbrev Fails : Type 0
@@ -380,26 +371,36 @@ module _ (c : ℕ) (s : State) (d : Desk) (x : Line) (t : Taking) (k : Keeps c s
     request_answered : (session w c).sent ≡ (session s c).sent → Answers → x.opening ≢ Awaited → Fails
         → Keeps c w d answer_line t
     request_answered es ans began fails = goes_recovered (x.recovered ++ reply ∷ []) rest es
-        (λ a b bases st. channelled a b bases x.opening refl st)
+        (λ a b ds bases lds st. channelled a b ds bases lds x.opening refl st)
       where
-        by : (g : Stage) (b : PerPartition ℕ) → ((p : Partition) → at b p ≤ length (at old p))
-            → Staged g c new (place d) b (download (session s c)) x
-            → Staged g c new (place d) b (download (session w c)) answer_line
-        by Idle b bases st = no_asked m rest front st.0
-        by (Asked p) b bases (ag, inl h) = (ag, ans p (at b p) (bases p) h)
-        by (Asked p) b bases (ag, inr (inl (k', o, h))) = no_asked m rest front k'
-        by (Asked p) b bases (ag, inr (inr (k', m', ms, e, h, z, le, l))) = no_asked m rest front k'
-        by (Running p) b bases (k', r, z, zk, l) = no_asked m rest front k'
+        by : (g : Stage) (b : PerPartition ℕ) (ds : PerPartition Load) → ((p : Partition) → at b p ≤ length (at old p))
+            → ((p : Partition) → Loaded c (at new p) (place d p) (at b p) (at ds p)) → x.opening ≡ Open
+            → Staged g ds (download (session s c)) x → Carried answer_line g b
+        by Idle b ds bases lds i st = no_asked m rest front st.0
+        by (Asked p) b ds bases lds i (ag, ga, inl h) =
+            let an = ans p (at b p) (at ds p) (bases p) (lds p) ga h in
+            let (gb, st) = subst (λ z. (z.again ≡ []) × AskedAs p z (download (session w c)) answer_line)
+            (sym (at_written ds p an.load)) (an.again, an.asked) in
+            record {
+              ds = with_at ds p an.load;
+              loaded = or_as_it_was (λ q z. Loaded c (at new q) (place d q) (at b q) z) ds p an.load an.loaded lds;
+              staged = opened x.opening (Asked p) (with_at ds p an.load) (download (session w c)) answer_line i (ag, gb, st);
+            }
+        by (Asked p) b ds bases lds i (ag, ga, inr (inl (k', o, h))) = no_asked m rest front k'
+        by (Asked p) b ds bases lds i (ag, ga, inr (inr (k', m', ms, e, h, l))) = no_asked m rest front k'
+        by (Running p) b ds bases lds i (k', r, l) = no_asked m rest front k'
 
-        channelled : (a : Stage) (b : PerPartition ℕ) → ((p : Partition) → at b p ≤ length (at old p))
-            → (o : Opening) → x.opening ≡ o → Channelled o a c new (place d) b (download (session s c)) x
-            → Channelled x.opening a c new (place d) b (download (session w c)) answer_line
-        channelled a b bases Awaited i st = absurd (began i)
-        channelled a b bases Open i st =
-            opened x.opening a c new (place d) b (download (session w c)) answer_line i (by a b bases st)
-        channelled a b bases Failed i (n, r, ag, e) =
-            subst (λ o. Channelled o a c new (place d) b (download (session w c)) answer_line) (sym i)
-            (n, refusing_more x.recovered reply (fails i).0 r, ag, (fails i).1 e)
+        channelled : (a : Stage) (b : PerPartition ℕ) (ds : PerPartition Load) → ((p : Partition) → at b p ≤ length (at old p))
+            → ((p : Partition) → Loaded c (at new p) (place d p) (at b p) (at ds p))
+            → (o : Opening) → x.opening ≡ o → Channelled o a ds (download (session s c)) x → Carried answer_line a b
+        channelled a b ds bases lds Awaited i st = absurd (began i)
+        channelled a b ds bases lds Open i st = by a b ds bases lds i st
+        channelled a b ds bases lds Failed i (n, r, ag, e) = record {
+          ds = ds;
+          loaded = lds;
+          staged = subst (λ o. Channelled o a ds (download (session w c)) answer_line) (sym i)
+              (n, refusing_more x.recovered reply (fails i).0 r, ag, (fails i).1 e);
+        }
 
     reply_alone : x.recovered ≡ [] → x.recovered ++ reply ∷ [] ≡ reply ∷ []
     reply_alone e = ap (λ ms. ms ++ reply ∷ []) e
@@ -408,8 +409,12 @@ module _ (c : ℕ) (s : State) (d : Desk) (x : Line) (t : Taking) (k : Keeps c s
     refuses : Refuses (heard_in reply) → Stays (session s c) (session w c) ⊎ Closes (session s c) (session w c)
         → x.opening ≢ Awaited → Keeps c w d answer_line t
     refuses r h began = request_answered (sent_same h)
-        (λ p b bases (z, e, back, le, ra, o). inr
-        (inl ((one_asked m (request p z) rest front e).1, none_after h o, inr (reply, reply_alone ra, r))))
+        (λ p b i bases ld ga (e, back, ra, o). record {
+          load = i;
+          loaded = ld;
+          again = ga;
+          asked = inr (inl ((one_asked m (request p i.from) rest front e).1, none_after h o, inr (reply, reply_alone ra, r)));
+        })
         began (λ i. (r, none_after h))
       where
         sent_same : Stays (session s c) (session w c) ⊎ Closes (session s c) (session w c) → (session w c).sent
@@ -436,30 +441,33 @@ module _ (c : ℕ) (s : State) (d : Desk) (x : Line) (t : Taking) (k : Keeps c s
     granted i q reads is hd es ed began whole = request_answered es ans began (λ e. absurd (whole e))
       where
         ans : Answers
-        ans p b bases (z, e, back, le, ra, o) =
-            let same = one_asked m (request p z) rest front e in
-            let asks : IsRequest p z (message.MissedMessageRequest i) = back.read (message.MissedMessageRequest i)
+        ans p b j bases ld ga (e, back, ra, o) =
+            let same = one_asked m (request p j.from) rest front e in
+            let asks : IsRequest p j.from (message.MissedMessageRequest i) = back.read (message.MissedMessageRequest i)
             (subst (λ bs. Reads reader.Recovery bs (message.MissedMessageRequest i)) (sym same.0) reads) in
             let part : q ≡ p = partition_as p q (subst (λ y. partition_of y ≡ Some q) asks.0 is) in
-            inr (inr (
-              same.1,
-              reply,
-              [],
-              reply_alone ra,
-              hd,
-              z,
-              le,
-              inr (
-                begun q i.last.value (length (at old q)),
-                ed,
-                record {
-                  partition = part;
-                  last = asks.1;
-                  covers = subst (λ y. b ≤ length (at old y)) (sym part) bases;
-                  within = subst (λ y. length (at old q) ≤ length (at new y)) part (longer (at old q) (at new q) (g q));
-                },
-              ),
-            ))
+            let more = longer (at old p) (at new p) (g p) in
+            record {
+              load = record j { loaded = []; to = j.from; aim = length (at old p) };
+              loaded = begun_to c (at new p) (place d p) b j ld (length (at old p))
+                  (let a = place_within p in omega (arith, a, more)) bases more;
+              again = ga;
+              asked = inr (inr (
+                same.1,
+                reply,
+                [],
+                reply_alone ra,
+                hd,
+                (
+                  refl,
+                  inr (
+                    begun q i.last.value (length (at old q)),
+                    ed,
+                    record { partition = part; last = asks.1; target = ap (λ y. length (at old y)) part },
+                  ),
+                ),
+              ));
+            }
           where
             partition_as : (p q : Partition) → partition_of (pos (partition_code p)) ≡ Some q → q ≡ p
             partition_as One q h = cc
@@ -530,49 +538,68 @@ module _ (c : ℕ) (s : State) (d : Desk) (x : Line) (t : Taking) (k : Keeps c s
 
   -- ---- what a download hands out
 
-  loads_of : (p : Partition) (b z : ℕ) (q : Download) (rec : List (List ℕ)) → Loads c (at new p) p b (Some q) z rec
-      → q.partition ≡ p
-  loads_of p b z q [] (inl e) = absurd cc
-  loads_of p b z q [] (inr (i, e, r)) = let same : q ≡ i = cc in ap (λ (u : Download). u.partition) same ∙ r.partition
-  loads_of p b z q (m ∷ rec) (inl (r, h, e1, e2, v)) = absurd cc
-  loads_of p b z q (m ∷ rec) (inr (n, h, nx, l)) = loads_of p b n q rec l
-
   -- the download that is under way goes on
+  pub record Onward (p : Partition) (b : ℕ) (i : Load) (ms : List (List ℕ)) : Type 0 where
+    pub load : Load
+    pub again : i.again ≡ load.again
+    pub loaded : Loaded c (at new p) (place d p) b load
+    pub delivery : Delivery p (download (session w c)) ms load.loaded load.to load.aim
+
   abbrev Loading : List (List ℕ) → Type 0
-  Loading ms = (p : Partition) (b z : ℕ) (rec : List (List ℕ)) → Loads c (at new p) p b (download (session s c)) z rec
-      → Loads c (at new p) p b (download (session w c)) z (rec ++ ms)
+  Loading ms = (p : Partition) (b : ℕ) (i : Load) (rec : List (List ℕ)) → Loaded c (at new p) (place d p) b i
+      → Delivery p (download (session s c)) rec i.loaded i.to i.aim → Onward p b i (rec ++ ms)
 
-  loads_live : (rec ms : List (List ℕ)) → download (session s c) ≢ None → (session w c).sent ≡ (session s c).sent
-      → Loading ms → x.recovered ≡ rec → Keeps c w d (record x { recovered = rec ++ ms; asked = x.asked }) t
-  loads_live rec ms some es ld er = goes_recovered (rec ++ ms) x.asked es (λ a b bases st. channelled a b x.opening refl st)
+  loads_live : (ms : List (List ℕ)) → download (session s c) ≢ None → (session w c).sent ≡ (session s c).sent
+      → Loading ms → Keeps c w d (record x { recovered = x.recovered ++ ms }) t
+  loads_live ms some es ld = goes_recovered (x.recovered ++ ms) x.asked es (λ a b ds bases lds st. channelled a b ds lds x.opening refl st)
     where
-      by : (g : Stage) (b : PerPartition ℕ) → Staged g c new (place d) b (download (session s c)) x
-          → Staged g c new (place d) b (download (session w c)) (record x { recovered = rec ++ ms; asked = x.asked })
-      by Idle b (a, r, ag, o) = absurd (some o)
-      by (Asked p) b (ag, inl (z, e, back, le, ra, o)) = absurd (some o)
-      by (Asked p) b (ag, inr (inl (k', o, h))) = absurd (some o)
-      by (Asked p) b (ag, inr (inr (k', m', rest, e, h, z, le, l))) = (
-        ag,
-        inr
-            (inr (k', m', rest ++ ms, ap (λ y. y ++ ms) (sym er ∙ e), h, z, le, ld p (at b p) z rest l)),
-      )
-      by (Running p) b (k', r, z, zk, l) = (
-        k',
-        r,
-        z,
-        zk,
-        ld p (at b p) z rec
-            (subst (λ y. Loads c (at new p) p (at b p) (download (session s c)) z y) er l),
-      )
+      carried : (g : Stage) (p : Partition) (b : PerPartition ℕ) (ds : PerPartition Load)
+          → ((p : Partition) → Loaded c (at new p) (place d p) (at b p) (at ds p)) → x.opening ≡ Open
+          → (rec : List (List ℕ)) (on : Onward p (at b p) (at ds p) rec)
+          → (((at (with_at ds p on.load) p) ≡ on.load) → Staged g (with_at ds p on.load) (download (session w c)) (record x { recovered = x.recovered ++ ms }))
+          → Carried (record x { recovered = x.recovered ++ ms }) g b
+      carried g p b ds lds i rec on st = record {
+        ds = with_at ds p on.load;
+        loaded = or_as_it_was (λ q z. Loaded c (at new q) (place d q) (at b q) z) ds p on.load on.loaded lds;
+        staged = opened x.opening g (with_at ds p on.load) (download (session w c)) (record x { recovered = x.recovered ++ ms }) i
+            (st (at_written ds p on.load));
+      }
 
-      channelled : (a : Stage) (b : PerPartition ℕ) → (o : Opening) → x.opening ≡ o
-          → Channelled o a c new (place d) b (download (session s c)) x
-          → Channelled x.opening a c new (place d) b (download (session w c))
-          (record x { recovered = rec ++ ms; asked = x.asked })
-      channelled a b Awaited i (n, (r, ag, e), st) = absurd (some e)
-      channelled a b Open i st = opened x.opening a c new (place d) b (download (session w c))
-          (record x { recovered = rec ++ ms; asked = x.asked }) i (by a b st)
-      channelled a b Failed i (n, r, ag, e) = absurd (some e)
+      by : (g : Stage) (b : PerPartition ℕ) (ds : PerPartition Load)
+          → ((p : Partition) → Loaded c (at new p) (place d p) (at b p) (at ds p)) → x.opening ≡ Open
+          → Staged g ds (download (session s c)) x → Carried (record x { recovered = x.recovered ++ ms }) g b
+      by Idle b ds lds i (a, r, ag, o) = absurd (some o)
+      by (Asked p) b ds lds i (ag, ga, inl (e, back, ra, o)) = absurd (some o)
+      by (Asked p) b ds lds i (ag, ga, inr (inl (k', o, h))) = absurd (some o)
+      by (Asked p) b ds lds i (ag, ga, inr (inr (k', m', rest, e, h, l))) =
+          let on = ld p (at b p) (at ds p) rest (lds p) l in
+          carried (Asked p) p b ds lds i (rest ++ ms) on (λ q. (
+            ag,
+            ap (λ (z : Load). z.again) q ∙ sym on.again ∙ ga,
+            inr (inr (
+              k',
+              m',
+              rest ++ ms,
+              ap (λ y. y ++ ms) e,
+              h,
+              subst
+                  (λ z. Delivery p (download (session w c)) (rest ++ ms) z.loaded z.to z.aim) (sym q) on.delivery,
+            )),
+          ))
+      by (Running p) b ds lds i (k', r, l) =
+          let on = ld p (at b p) (at ds p) x.recovered (lds p) l in
+          carried (Running p) p b ds lds i (x.recovered ++ ms) on (λ q. (
+            k',
+            subst (λ z. OfPart p x.again z) (on.again ∙ sym (ap (λ (z : Load). z.again) q)) r,
+            subst (λ z. Delivery p (download (session w c)) (x.recovered ++ ms) z.loaded z.to z.aim) (sym q) on.delivery,
+          ))
+
+      channelled : (a : Stage) (b : PerPartition ℕ) (ds : PerPartition Load)
+          → ((p : Partition) → Loaded c (at new p) (place d p) (at b p) (at ds p)) → (o : Opening) → x.opening ≡ o
+          → Channelled o a ds (download (session s c)) x → Carried (record x { recovered = x.recovered ++ ms }) a b
+      channelled a b ds lds Awaited i (n, (r, ag, e), st) = absurd (some e)
+      channelled a b ds lds Open i st = by a b ds lds i st
+      channelled a b ds lds Failed i (n, r, ag, e) = absurd (some e)
 
   -- by what it hands out, from a store that stays
   handed_on : (q : Download) (r : HandedOut × Option Download) → download (session s c) ≡ Some q
@@ -584,23 +611,40 @@ module _ (c : ℕ) (s : State) (d : Desk) (x : Line) (t : Taking) (k : Keeps c s
   handed_on q (handed.Ended r, None) e h es ed told =
       subst (λ ms. Keeps c w d (record x { recovered = ms }) t)
       (sym (behind_some x.recovered (end_bytes r) (End r) (end_heard r)))
-      (loads_live x.recovered (end_bytes r ∷ []) none es ld refl)
+      (loads_live (end_bytes r ∷ []) none es (λ p b i rec lo l. ends p b i rec lo
+      (subst (λ o. Delivery p o rec i.loaded i.to i.aim) e l) r h (end_heard r)))
     where
       none : download (session s c) ≡ None → ⊥
       none z = let y : Some q ≡ None = sym e ∙ z in cc
 
-      ld : Loading (end_bytes r ∷ [])
-      ld p b z rec l =
-          let l' = subst (λ o. Loads c (at new p) p b o z rec) e l in
-          let part = loads_of p b z q rec l' in
-          subst (λ o. Loads c (at new p) p b o z (rec ++ end_bytes r ∷ [])) (sym ed)
-          (loads_end c (at new p) p b q z rec r (end_bytes r)
-          (λ y. subst (λ u. Passed c (at new u) q.last q.target) part (h y)) (end_heard r) l')
+      over : (p : Partition) (b : ℕ) (i : Load) (rec : List (List ℕ)) (y : ℕ) (r' : ReportResponse)
+          → Loaded c (at new p) (place d p) b (record i { to = y }) → Delivery p (Some q) rec i.loaded i.to i.aim
+          → heard_in (end_bytes r) ≡ Ok (End r') → Over r' y i.aim → Onward p b i (rec ++ end_bytes r ∷ [])
+      over p b i rec y r' lo l hd ov = record {
+        load = record i { to = y };
+        again = refl;
+        loaded = lo;
+        delivery = subst (λ o. Delivery p o (rec ++ end_bytes r ∷ []) i.loaded y i.aim) (sym ed)
+            (delivery_end p q rec i.loaded i.to y i.aim (end_bytes r) r' hd ov l);
+      }
+
+      ends : (p : Partition) (b : ℕ) (i : Load) (rec : List (List ℕ)) → Loaded c (at new p) (place d p) b i
+          → Delivery p (Some q) rec i.loaded i.to i.aim → (r' : ReportResponse)
+          → (r' ≡ ending.Complete → Passed c (at new q.partition) q.last q.target) → heard_in (end_bytes r) ≡ Ok (End r')
+          → Onward p b i (rec ++ end_bytes r ∷ [])
+      ends p b i rec lo l ending.Complete h hd =
+          let ru = delivery_runs p q rec i.loaded i.to i.aim l in
+          let ps : Passed c (at new p) i.to i.aim = subst (λ u. Passed c (at new p) i.to u) ru.target
+          (subst (λ u. Passed c (at new p) u q.target) ru.last
+          (subst (λ u. Passed c (at new u) q.last q.target) ru.partition (h refl))) in
+          over p b i rec i.aim ending.Complete (completed c (at new p) (place d p) b i lo ps) l hd refl
+      ends p b i rec lo l ending.MessageLimit h hd = over p b i rec i.to ending.MessageLimit lo l hd tt
+      ends p b i rec lo l ending.ServiceUnavailable h hd = over p b i rec i.to ending.ServiceUnavailable lo l hd tt
   handed_on q (handed.Report p n, Some i) e (is, nx, fu) es ed told =
       let b = brought c (at new p) p n (subst (λ u. is_of c (under (at new u) n) ≡ true) (sym is) nx.hers) told in
       subst (λ ms. Keeps c w d (record x { recovered = ms }) t)
       (sym (behind_some x.recovered m (Report p (held n b.entry)) b.heard))
-      (loads_live x.recovered (m ∷ []) none es (ld b) refl)
+      (loads_live (m ∷ []) none es (ld b))
     where
       m : List ℕ
       m = entry_bytes p n (under (at new p) n)
@@ -608,14 +652,21 @@ module _ (c : ℕ) (s : State) (d : Desk) (x : Line) (t : Taking) (k : Keeps c s
       none : download (session s c) ≡ None → ⊥
       none z = let y : Some q ≡ None = sym e ∙ z in cc
 
-      ld : Brings c (at new p) p n m → Loading (m ∷ [])
-      ld b u y z rec l =
-          let l' = subst (λ o. Loads c (at new u) u y o z rec) e l in
-          let part = loads_of u y z q rec l' in
-          let here : p ≡ u = is ∙ part in
-          subst (λ o. Loads c (at new u) u y o z (rec ++ m ∷ [])) (sym ed)
-          (loads_more c (at new u) u y q i z rec n m fu (subst (λ v. Next c (at new v) q.last n) part nx)
-          (subst (λ v. Brings c (at new v) v n m) here b) l')
+      ld : Brought c (at new p) p n m → Loading (m ∷ [])
+      ld br u b j rec lo l =
+          let h = held n br.entry in
+          let l' = subst (λ o. Delivery u o rec j.loaded j.to j.aim) e l in
+          let ru = delivery_runs u q rec j.loaded j.to j.aim l' in
+          let (hd, tl) = subst (λ v. (heard_in m ≡ Ok (Report v h)) × Tells c (at new v) h) (is ∙ ru.partition)
+          (br.heard, br.tells) in
+          record {
+            load = record j { loaded = j.loaded ++ h ∷ []; to = n };
+            again = refl;
+            loaded = handed_more c (at new u) (place d u) b j lo h tl (subst (λ v. Next c (at new u) v n) ru.last
+                (subst (λ v. Next c (at new v) q.last n) ru.partition nx));
+            delivery = subst (λ o. Delivery u o (rec ++ m ∷ []) (j.loaded ++ h ∷ []) n j.aim) (sym ed)
+                (delivery_more u q i rec j.loaded j.to j.aim m h fu hd l');
+          }
 
   -- nothing runs, or a download
   hands_on : (o : Option Download) → download (session s c) ≡ o → (session w c).sent ≡ (session s c).sent
@@ -639,11 +690,11 @@ module _ (c : ℕ) (s : State) (d : Desk) (x : Line) (t : Taking) (k : Keeps c s
 
 -- ---- a message on the recovery channel, by how the channel began
 
-staged_opened : (a : Stage) (c : ℕ) (k : Kept) (place : Partition → ℕ) (b : PerPartition ℕ) (o : Option Download)
-    (x : Line) → Staged a c k place b o x → Staged a c k place b o (record x { opening = Open })
-staged_opened Idle c k place b o x h = h
-staged_opened (Asked p) c k place b o x h = h
-staged_opened (Running p) c k place b o x h = h
+staged_opened : (a : Stage) (ds : PerPartition Load) (o : Option Download) (x : Line) → Staged a ds o x
+    → Staged a ds o (record x { opening = Open })
+staged_opened Idle ds o x h = h
+staged_opened (Asked p) ds o x h = h
+staged_opened (Running p) ds o x h = h
 
 -- what is no message leaves no answer
 failed_silent : (a : Result ℕ GatewayFault) (m buffer : List ℕ) → is_failed_logon a m ≡ true → left a buffer ≡ []
@@ -661,9 +712,9 @@ refuses_reject (Err e) h = absurd cc
 module _ (c : ℕ) (s : State) (d : Desk) (x : Line) (t : Taking) (k : Keeps c s d x t) where
   -- the channel alone is another
   reopened : (o : Opening) (rec : List (List ℕ))
-      → ((a : Stage) (b : PerPartition ℕ)
-      → Channelled x.opening a c s.venue.kept (place d) b (download (session s c)) x
-      → Channelled o a c s.venue.kept (place d) b (download (session s c)) (record x { opening = o; recovered = rec }))
+      → ((a : Stage) (b : PerPartition Load)
+      → Channelled x.opening a b (download (session s c)) x
+      → Channelled o a b (download (session s c)) (record x { opening = o; recovered = rec }))
       → Keeps c s d (record x { opening = o; recovered = rec }) t
   reopened o rec on = record {
     up = k.up;
@@ -673,33 +724,24 @@ module _ (c : ℕ) (s : State) (d : Desk) (x : Line) (t : Taking) (k : Keeps c s
     hers = k.hers;
     sound = k.sound;
     few = k.few;
-    phase = by x.connection k.phase;
+    phase = phase_on c s.venue.kept s.venue.kept (session s c) (session s c) d.follower d.follower x
+        (record x { opening = o; recovered = rec }) t t (λ z. record {
+          y = z.y;
+          b = z.b;
+          ds = z.ds;
+          parts = z.parts;
+          taken = z.taken;
+          staged = on (download_of d.follower) z.ds z.staged;
+        }) x.connection k.phase;
   }
-    where
-      flowing : (z : PerPartition ℕ) → Flowing c s.venue.kept (session s c).sent (place d) x t z
-          → Flowing c s.venue.kept (session s c).sent (place d) (record x { opening = o; recovered = rec }) t z
-      flowing z h = record { within = h.within; flows = h.flows; taken = h.taken }
-
-      by : (a : Connection) → Phase a c s.venue.kept (session s c) d.follower (place d) x t
-          → Phase a c s.venue.kept (session s c) d.follower (place d) (record x { opening = o; recovered = rec }) t
-      by conn.Away z = tt
-      by conn.Ready z = record { y = z.y; flowing = flowing z.y z.flowing; still = on Idle z.y z.still }
-      by conn.Up z = record {
-        y = z.y;
-        b = z.b;
-        flowing = flowing z.y z.flowing;
-        bases = z.bases;
-        sides = z.sides;
-        staged = on d.follower.download z.b z.staged;
-      }
 
   opens_channel : x.opening ≡ Awaited → Keeps c s d (record x { opening = Open }) t
   opens_channel i = reopened Open x.recovered (λ a b st. by a b x.opening i st)
     where
-      by : (a : Stage) (b : PerPartition ℕ) (o : Opening) → o ≡ Awaited
-          → Channelled o a c s.venue.kept (place d) b (download (session s c)) x
-          → Staged a c s.venue.kept (place d) b (download (session s c)) (record x { opening = Open })
-      by a b Awaited e (n, u, st) = staged_opened a c s.venue.kept (place d) b (download (session s c)) x st
+      by : (a : Stage) (b : PerPartition Load) (o : Opening) → o ≡ Awaited
+          → Channelled o a b (download (session s c)) x
+          → Staged a b (download (session s c)) (record x { opening = Open })
+      by a b Awaited e (n, u, st) = staged_opened a b (download (session s c)) x st
       by a b Open e st = absurd cc
       by a b Failed e st = absurd cc
 
@@ -707,9 +749,9 @@ module _ (c : ℕ) (s : State) (d : Desk) (x : Line) (t : Taking) (k : Keeps c s
       → Keeps c s d (record x { opening = Failed; recovered = x.recovered ++ m ∷ [] }) t
   fails_channel m r i = reopened Failed (x.recovered ++ m ∷ []) (λ a b st. by a b x.opening i st)
     where
-      by : (a : Stage) (b : PerPartition ℕ) (o : Opening) → o ≡ Awaited
-          → Channelled o a c s.venue.kept (place d) b (download (session s c)) x
-          → Channelled Failed a c s.venue.kept (place d) b (download (session s c))
+      by : (a : Stage) (b : PerPartition Load) (o : Opening) → o ≡ Awaited
+          → Channelled o a b (download (session s c)) x
+          → Channelled Failed a b (download (session s c))
           (record x { opening = Failed; recovered = x.recovered ++ m ∷ [] })
       by a b Awaited e (n, (rec, ag, z), st) =
           (n, subst (λ ms. Refusing (ms ++ m ∷ [])) (sym rec) (r, tt), ag, z)

@@ -10,6 +10,7 @@ use Rattle.both_ends.specs.Runs.{Desk, Does, Runs, fresh}
 use Rattle.both_ends.specs.Tallied.{there, Tallied}
 use Rattle.both_ends.specs.declared.call.Done.{Done}
 use Rattle.both_ends.specs.declared.call.Done.TheVariants as done
+use Rattle.follower.specs.Following.{is_up, download_of}
 use Rattle.follower.specs.Hearing.{heard_in}
 use Rattle.follower.specs.Numbers.{number_of}
 use Rattle.follower.specs.declared.fault.FollowerFault.{FollowerFault}
@@ -97,4 +98,4 @@ abbrev pub DownloadsLevel : Type 0
 DownloadsLevel =
     (c : ℕ) (ps : List Participant) (v : Books) (xs : List Done) (s : State) (d : Desk) (x : Done) (w : State) (e : Desk)
     (p : Partition) → Runs (fresh_state ps v) fresh xs s d → Allowed c (xs ++ x ∷ []) → Does s d x w e → IsComplete x
-    → d.follower.up ≡ true → d.follower.download ≡ Running p → state_of e p ≡ Level
+    → is_up d.follower ≡ true → download_of d.follower ≡ Running p → state_of e p ≡ Level

@@ -1,9 +1,11 @@
 -- What a program answers that decides whether the line allows a log. Assumes nothing.
-use Rattle.std.specs.Prelude.{ℕ, Ok, Err, Result}
+use Rattle.std.specs.Prelude.{ℕ, Bool, true, false, Ok, Err, Result}
 use Rattle.both_ends.specs.Allowed.{Line, after_call}
 use Rattle.both_ends.specs.declared.allowed.Breach.{Breach}
 use Rattle.both_ends.specs.declared.entry.Entry.{Entry}
 use Rattle.both_ends.specs.declared.entry.Entry.TheVariants.{Made, Midpoint, Asked}
+use Rattle.both_ends.specs.declared.opening.Opening.{Opening}
+use Rattle.both_ends.specs.declared.opening.Opening.TheVariants.{Awaited, Open, Failed}
 
 -- the line after a call that was allowed, or the breach
 abbrev pub onto : Result (Unit {0}) Breach → Line → Result Line Breach
@@ -20,3 +22,13 @@ after_entry c (Asked q a) l = Ok l
 abbrev pub verdict : Result Line Breach → Result (Unit {0}) Breach
 verdict (Ok l) = Ok tt
 verdict (Err b) = Err b
+
+abbrev pub is_failed : Opening → Bool
+is_failed Awaited = false
+is_failed Open = false
+is_failed Failed = true
+
+-- whether the recovery channel of the line began with a Logon that is no message
+abbrev pub failed_in : Result Line Breach → Bool
+failed_in (Ok l) = is_failed l.opening
+failed_in (Err b) = false

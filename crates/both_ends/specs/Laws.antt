@@ -1,11 +1,12 @@
 -- What a desk asks of its follower, of any call in any state. Assumes nothing.
-use Rattle.std.specs.Prelude.{◌≡◌, Bool, true, false, List, Ok, Err, Result}
+use Rattle.std.specs.Prelude.{◌≡◌, ◌≢◌, Bool, true, false, List, [], Ok, Err, Result}
 use Rattle.std.specs.List.{list_any}
 use Rattle.codes.specs.declared.session.Partition.{Partition}
 use Rattle.codes.specs.declared.session.ReportResponse.TheVariants.{Complete}
 use Rattle.both_ends.specs.Runs.{Desk, Does, Runs, fresh}
 use Rattle.both_ends.specs.declared.call.Done.{Done}
 use Rattle.both_ends.specs.declared.call.Done.TheVariants as done
+use Rattle.follower.specs.Following.{download_of}
 use Rattle.follower.specs.Hearing.{heard_in}
 use Rattle.follower.specs.declared.answer.Live.{Live}
 use Rattle.follower.specs.declared.answer.Recovered.TheVariants.{Ended}
@@ -18,7 +19,7 @@ use Rattle.follower.specs.declared.stage.Stage.TheVariants.{Running}
 use Rattle.gateway.specs.State.{State}
 use Rattle.partitions.specs.PerPartition.{at}
 
--- whether a partition is level or behind
+-- whether a partition is level or behind, and with what held
 abbrev pub state_of : Desk → Partition → Standing
 state_of d p = (at d.follower.sides p).state
 
@@ -53,12 +54,12 @@ IsEnded x = ⊥
 pub record Completes (d : Desk) (p : Partition) (x : Done) : Type 0 where
   pub complete : IsComplete x
   pub ends : IsEnded x
-  pub runs : d.follower.download ≡ Running p
+  pub runs : download_of d.follower ≡ Running p
 
 -- nothing else makes a partition level
 abbrev pub LevelByDownload : Type 0
 LevelByDownload =
-    (s : State) (d : Desk) (x : Done) (w : State) (e : Desk) (p : Partition) → Does s d x w e → state_of d p ≡ Behind
+    (s : State) (d : Desk) (x : Done) (w : State) (e : Desk) (p : Partition) → Does s d x w e → state_of d p ≢ Level
     → state_of e p ≡ Level → Completes d p x
 
 -- whether the follower is given a message
@@ -67,8 +68,8 @@ gives (done.Live bs r) = true
 gives (done.Recovered bs r) = true
 gives d = false
 
--- a follower that is never given anything stays behind
+-- a follower that is never given anything stays behind, with nothing held
 abbrev pub StaysBehind : Type 0
 StaysBehind =
     (s : State) (xs : List Done) (w : State) (e : Desk) (p : Partition) → Runs s fresh xs w e
-    → list_any gives xs ≡ false → state_of e p ≡ Behind
+    → list_any gives xs ≡ false → state_of e p ≡ Behind []

@@ -3,7 +3,7 @@ ghost use Rattle.std.specs.Prelude.{◌≡◌, IfOk};
 ghost use Rattle.both_ends.specs.Allowed.{after_log, quiet};
 ghost use Rattle.both_ends.specs.Breaches.{breach_text};
 ghost use Rattle.both_ends.specs.Asking.{made};
-ghost use Rattle.both_ends.specs.Deciding.{after_entry, onto, verdict};
+ghost use Rattle.both_ends.specs.Deciding.{after_entry, failed_in, onto, verdict};
 
 use crate::entry::Entry;
 use crate::watch::Watch;
@@ -55,6 +55,23 @@ fn after_entry<'a, Q, A>(
     }
 }
 
+// The line of a CompID after a log, or the first breach.
+fn watched<'a, Q, A>(
+    alloc: Global,
+    line: usize,
+    log: &'a [Entry<Q, A>],
+) -> Result<Result<Watch<'a>, Breach>, AllocError>
+    ensures { IfOk result (λ r. r ≡ after_log line (made log.now) quiet) }
+{
+    let mut watch = Watch::quiet(alloc);
+    for entry in log {
+        if let Err(breach) = after_entry(&mut watch, line, entry)? {
+            return Ok(Err(breach));
+        }
+    }
+    Ok(Ok(watch))
+}
+
 /// Whether the line of a CompID allows the calls of a log, or the first breach. Want of memory is its one error.
 pub fn line_allows<Q, A>(
     alloc: Global,
@@ -63,11 +80,22 @@ pub fn line_allows<Q, A>(
 ) -> Result<Result<(), Breach>, AllocError>
     ensures { IfOk result (λ r. r ≡ verdict (after_log line (made log.now) quiet)) }
 {
-    let mut watch = Watch::quiet(alloc);
-    for entry in log {
-        if let Err(breach) = after_entry(&mut watch, line, entry)? {
-            return Ok(Err(breach));
-        }
+    match watched(alloc, line, log)? {
+        Ok(_) => Ok(Ok(())),
+        Err(breach) => Ok(Err(breach)),
     }
-    Ok(Ok(()))
+}
+
+/// Whether the recovery channel of a line that allows a log began with a Logon that is no message.
+pub(crate) fn has_failed<Q, A>(
+    alloc: Global,
+    line: usize,
+    log: &[Entry<Q, A>],
+) -> Result<bool, AllocError>
+    ensures { IfOk result (λ r. r ≡ failed_in (after_log line (made log.now) quiet)) }
+{
+    match watched(alloc, line, log)? {
+        Ok(watch) => Ok(watch.has_failed()),
+        Err(_) => Ok(false),
+    }
 }

@@ -3,6 +3,7 @@
 
 pub mod allowed;
 pub mod call;
+mod catching;
 pub mod connection;
 pub mod entry;
 pub mod laws;

@@ -3,9 +3,11 @@ ghost use Rattle.std.specs.Prelude.{◌≡◌, take};
 ghost use Rattle.std.specs.Str.{bytes_eq};
 ghost use Rattle.follower.specs.Hearing.{heard_in};
 ghost use Rattle.both_ends.specs.Allowed.{accepted, is_failed_logon, is_grant, is_no_message, is_reject, left_reject};
+ghost use Rattle.both_ends.specs.Downloading.{written};
 ghost use Rattle.both_ends.specs.Laws.{is_full};
 ghost use Rattle.gateway_runs.specs.Runs.{bytes_of};
 
+use crate::call::Asked;
 use answers::answer::{Admission, Answer};
 use codes::session::AckResponse;
 use follower::answer::Live;
@@ -37,6 +39,16 @@ pub(crate) fn bytes<'a>(reply: &'a Reply) -> &'a [u8]
 {
     match reply.answer {
         Ok(count) => front(reply, count),
+        Err(_) => &[],
+    }
+}
+
+/// The request that a call which asks wrote; a refused one none.
+pub(crate) fn written<'a>(asked: &'a Asked) -> &'a [u8]
+    ensures { result.now ≡ written asked.now.answer asked.now.after.items }
+{
+    match asked.answer {
+        Ok(count) => &asked.after[..count.min(asked.after.len())],
         Err(_) => &[],
     }
 }

@@ -35,7 +35,7 @@ pub struct BothEnds<M: Matcher, S: Store, Q: Question<A>, A: Copy> {
     follower: Follower,
     token: Pending,
     log: Vec<Entry<Q, A>>,
-    heap: Global,
+    pub(crate) heap: Global,
 }
 
 impl<M: Matcher, S: Store, Q: Question<A>, A: Copy> Model for BothEnds<M, S, Q, A> {

@@ -49,7 +49,7 @@ impl<'a> Model for Watch<'a> {
 
 impl<'a> Watch<'a> {
     ghost use Rattle.both_ends.specs.Allowed.{quiet, answered, next_of, after_logon, after_recovery, after_failure, given_recovery, after_venue, after_up, out_of_turn, given_live, or_lost, given_recovered, next_report, next_other, after_ask, after_call};
-    ghost use Rattle.both_ends.specs.Deciding.{onto};
+    ghost use Rattle.both_ends.specs.Deciding.{is_failed, onto};
 
     /// A line on which nothing was said.
     pub(crate) fn quiet(alloc: Global) -> Watch<'a>
@@ -63,6 +63,13 @@ impl<'a> Watch<'a> {
             again: UnderWay::new(alloc),
             asked: UnderWay::new(alloc),
         }
+    }
+
+    /// Whether the recovery channel of the connection began with a Logon that is no message.
+    pub(crate) fn has_failed(&self) -> bool
+        ensures { result ≡ is_failed self.now.opening }
+    {
+        matches!(self.opening, Opening::Failed)
     }
 
     // An accepted Logon begins a new connection.

@@ -22,8 +22,9 @@ use Rattle.follower.specs.declared.side.State.TheVariants.{Level, Behind}
 use Rattle.follower.specs.declared.stage.Stage.{Stage}
 use Rattle.follower.specs.declared.stage.Stage.TheVariants.{Idle, Asked, Running}
 use Rattle.follower.specs.Numbers.{number_of}
+use Rattle.follower.specs.Sides.{held_in}
 use Rattle.follower.specs.Folding.{Reached, reached, caught_up}
-use Rattle.follower.specs.Following.{Following, Step, answered, refused, folded, folded_to, held, overrun, live_by, lived, acked_of, acked, recovered_of, reported, levelled, ended_of, ended, rejected, recovering}
+use Rattle.follower.specs.Following.{Following, download_of, Step, answered, refused, folded, folded_to, held, overrun, live_by, lived, acked_of, acked, recovered_of, reported, levelled, ended_of, ended, rejected, recovering}
 use Rattle.follower.specs.Owing.{owed, awaited, handed, token_after, BeginsNone, Tied, count, Covers}
 
 -- ---- a message begins no download
@@ -43,8 +44,8 @@ module _ {A : Type 0} (f : Following) where
 module _ (f : Following) where
   live_at : (s : State) (p : Partition) (h : NumberedReport) → On f (live_by s f p h)
   live_at Level p h = on_folded f live.Folded p (number_of h) (fold p h.told f.standings)
-  live_at Behind p h =
-      on_either f (nat_lt (length (at f.sides p).hold) HOLD) (held f p h) (overrun f) (inl refl) (inr refl)
+  live_at (Behind hs) p h =
+      on_either f (nat_lt (length hs) HOLD) (held f p hs h) (overrun f) (inl refl) (inr refl)
 
   live_heard : (h : Heard) → On f (lived f h)
   live_heard (Report p h) =
@@ -55,13 +56,13 @@ module _ (f : Following) where
   live_heard Reject = inl refl
   live_heard Nothing = inl refl
 
-  acked_on : (p : Partition) (r : AckResponse) → f.download ≡ Asked p → On f (acked_of f p r)
+  acked_on : (p : Partition) (r : AckResponse) → (download_of f) ≡ Asked p → On f (acked_of f p r)
   acked_on p Successful s = inl (sym (ap awaited s))
   acked_on p LimitReached s = inr refl
   acked_on p InvalidAppId s = inr refl
   acked_on p ServiceUnavailable s = inr refl
 
-  ack_on : (s : Stage) (r : AckResponse) → f.download ≡ s → On f (acked f s r)
+  ack_on : (s : Stage) (r : AckResponse) → (download_of f) ≡ s → On f (acked f s r)
   ack_on Idle r d = inl refl
   ack_on (Asked p) r d = acked_on p r d
   ack_on (Running p) r d = inl refl
@@ -85,7 +86,7 @@ module _ (f : Following) where
 
   end_of_on : (p : Partition) (r : ReportResponse) → On f (ended_of f p r)
   end_of_on p ending.Complete =
-      levelled_on p (caught_up p (reached f.standings (at f.sides p).place) (at f.sides p).hold)
+      levelled_on p (caught_up p (reached f.standings (at f.sides p).place) (held_in (at f.sides p).state))
   end_of_on p ending.MessageLimit = inr refl
   end_of_on p ending.ServiceUnavailable = inr refl
 
@@ -100,10 +101,10 @@ module _ (f : Following) where
   reject_on (Running p) = inr refl
 
   recovered_heard : (h : Heard) → On f (recovering f h)
-  recovered_heard (Report p h) = report_on f.download p h
-  recovered_heard (Ack r) = ack_on f.download r refl
-  recovered_heard (End r) = end_on f.download r
-  recovered_heard Reject = reject_on f.download
+  recovered_heard (Report p h) = report_on (download_of f) p h
+  recovered_heard (Ack r) = ack_on (download_of f) r refl
+  recovered_heard (End r) = end_on (download_of f) r
+  recovered_heard Reject = reject_on (download_of f)
   recovered_heard Nothing = inl refl
 
 -- what is heard live, and on the recovery channel
@@ -135,15 +136,15 @@ on_covers : (a : Option Partition) (t : Pending) → count (owed t) + count a �
 on_covers None t = omega arith
 on_covers (Some p) t = omega arith
 
-pub begins_none : (f g : Following) → BeginsNone f g → awaited f.download ≡ None → awaited g.download ≡ None
+pub begins_none : (f g : Following) → BeginsNone f g → awaited (download_of f) ≡ None → awaited (download_of g) ≡ None
 begins_none f g (inl e) n = e ∙ n
 begins_none f g (inr e) n = e
 
 pub settled_tied : (f g : Following) (t u : Pending) → BeginsNone f g → u ≡ token_after f g t → Tied t f → Tied u g
 settled_tied f g t u (inl e) k tied =
-    ap owed k ∙ subst (λ b. owed (handed (awaited f.download) b t) ≡ b) (sym e) (on_tied (awaited f.download) t tied)
+    ap owed k ∙ subst (λ b. owed (handed (awaited (download_of f)) b t) ≡ b) (sym e) (on_tied (awaited (download_of f)) t tied)
 settled_tied f g t u (inr e) k tied =
-    ap owed k ∙ subst (λ b. owed (handed (awaited f.download) b t) ≡ b) (sym e) (ended_tied (awaited f.download) t tied)
+    ap owed k ∙ subst (λ b. owed (handed (awaited (download_of f)) b t) ≡ b) (sym e) (ended_tied (awaited (download_of f)) t tied)
 
 pub settled_covers : (f g : Following) (t u : Pending) → BeginsNone f g → u ≡ token_after f g t → Covers t f u g
 settled_covers f g t u b k =
@@ -151,11 +152,11 @@ settled_covers f g t u b k =
   where
     by : BeginsNone f g → Covers t f (token_after f g t) g
     by (inl e) = subst
-        (λ b. count (owed t) + count b ≤ count (owed (handed (awaited f.download) b t)) + count (awaited f.download))
-        (sym e) (on_covers (awaited f.download) t)
+        (λ b. count (owed t) + count b ≤ count (owed (handed (awaited (download_of f)) b t)) + count (awaited (download_of f)))
+        (sym e) (on_covers (awaited (download_of f)) t)
     by (inr e) = subst
-        (λ b. count (owed t) + count b ≤ count (owed (handed (awaited f.download) b t)) + count (awaited f.download))
-        (sym e) (ended_covers (awaited f.download) t)
+        (λ b. count (owed t) + count b ≤ count (owed (handed (awaited (download_of f)) b t)) + count (awaited (download_of f)))
+        (sym e) (ended_covers (awaited (download_of f)) t)
 
 -- what a call that begins none leaves
 pub ruleset settled = (begins_none, settled_tied, settled_covers)

@@ -15,9 +15,10 @@ use Rattle.follower.specs.declared.fault.FollowerFault.{FollowerFault}
 use Rattle.follower.specs.declared.fault.FollowerFault.TheVariants as fault
 use Rattle.follower.specs.declared.pending.Pending.{Pending}
 use Rattle.wire.specs.declared.message.TheConstants.{BUFFER}
+use Rattle.follower.specs.declared.line.Line.TheVariants.{Up}
 use Rattle.follower.specs.declared.stage.Stage.{Stage}
 use Rattle.follower.specs.declared.stage.Stage.TheVariants.{Idle, Asked, Running}
-use Rattle.follower.specs.Following.{Following}
+use Rattle.follower.specs.Following.{Following, is_up, download_of}
 use Rattle.follower.specs.Owing.{owed}
 
 -- the bytes of the request for a partition's reports above a number
@@ -49,13 +50,13 @@ is_free (Running q) o = false
 
 abbrev pub asking_of : Following → Pending → Option Partition → Result Partition FollowerFault
 asking_of f t None = Err fault.Partition
-asking_of f t (Some p) = if is_free f.download (owed t) then Ok p else Err fault.OutOfTurn
+asking_of f t (Some p) = if is_free (download_of f) (owed t) then Ok p else Err fault.OutOfTurn
 
 -- the partition to ask of, or the first check that fails
 abbrev pub asking : Following → Pending → ℕ → ℕ → Result Partition FollowerFault
 asking f t n room =
     if nat_lt room BUFFER then Err fault.Buffer
-    else if f.up then asking_of f t (partition_of n)
+    else if is_up f then asking_of f t (partition_of n)
     else Err fault.NotUp
 
 -- what asking answers, and what it leaves of the follower and the buffer
@@ -68,7 +69,7 @@ abbrev pub asks_of : Following → Pending → List ℕ → Result Partition Fol
 asks_of f t out (Err e) = record { answer = Err e; after = f; out = out }
 asks_of f t out (Ok p) = record {
   answer = Ok (total_of Request);
-  after = record f { download = Asked p };
+  after = record f { line = Up (Asked p) };
   out = request p (at f.sides p).place ++ drop (total_of Request) out;
 }
 

@@ -1,5 +1,5 @@
 -- What a follower is, and what each of its calls answers and leaves. Assumes nothing.
-use Rattle.std.specs.Prelude.{ℕ, Bool, false, ◌∷◌, [], ◌++◌, length, Ok, Err, Result, Some, None, Option, nat_le, nat_lt, if◌then◌else◌}
+use Rattle.std.specs.Prelude.{ℕ, Bool, false, List, ◌∷◌, [], ◌++◌, length, Ok, Err, Result, Some, None, Option, nat_le, nat_lt, if◌then◌else◌}
 use Rattle.codes.specs.Session.{same_partition}
 use Rattle.codes.specs.declared.session.Partition.{Partition}
 use Rattle.codes.specs.declared.session.AckResponse.{AckResponse}
@@ -21,31 +21,39 @@ use Rattle.follower.specs.declared.heard.NumberedReport.{NumberedReport}
 use Rattle.follower.specs.declared.heard.Heard.{Heard}
 use Rattle.follower.specs.declared.heard.Heard.TheVariants.{Report, Ack, End, Reject, Nothing}
 use Rattle.follower.specs.declared.hold.TheConstants.{HOLD}
+use Rattle.follower.specs.declared.line.Line.{Line}
+use Rattle.follower.specs.declared.line.Line.TheVariants.{Away, Up}
 use Rattle.follower.specs.declared.side.Side.{Side}
 use Rattle.follower.specs.declared.side.State.{State}
 use Rattle.follower.specs.declared.side.State.TheVariants.{Level, Behind}
 use Rattle.follower.specs.declared.stage.Stage.{Stage}
 use Rattle.follower.specs.declared.stage.Stage.TheVariants.{Idle, Asked, Running}
+use Rattle.follower.specs.Lines.{up_on, stage_on, turned_line}
 use Rattle.follower.specs.Numbers.{number_of}
 use Rattle.follower.specs.Folding.{Reached, reached, caught_up}
-use Rattle.follower.specs.Sides.{new_side, fallen}
+use Rattle.follower.specs.Sides.{new_side, fallen, held_in}
 
--- what a follower knows of its orders, each partition, whether it is up, and its download
+-- what a follower knows of its orders, each partition, and whether it is up, with its download then
 pub record Following : Type 0 where
   pub standings : Knowledge
   pub sides : PerPartition Side
-  pub up : Bool
-  pub download : Stage
+  pub line : Line
+
+abbrev pub is_up : Following → Bool
+is_up f = up_on f.line
+
+-- the download that is asked or runs; none where it is not up
+abbrev pub download_of : Following → Stage
+download_of f = stage_on f.line
 
 abbrev pub start : Following
-start = record { standings = nothing_known; sides = for_each new_side; up = false; download = Idle }
+start = record { standings = nothing_known; sides = for_each new_side; line = Away }
 
 -- the line is up or lost: all partitions behind, nothing held, no download
 abbrev pub turned : Bool → Following → Following
 turned up f = record f {
   sides = record { one = fallen f.sides.one; two = fallen f.sides.two; three = fallen f.sides.three };
-  up = up;
-  download = Idle;
+  line = turned_line up;
 }
 
 -- what a call answers, and what stands after it
@@ -70,11 +78,12 @@ module _ {A : Type 0} where
   abbrev pub folded : A → Following → Partition → NumberedReport → Step A
   folded a f p h = folded_to a f p (number_of h) (fold p h.told f.standings)
 
--- one report more is held
-abbrev pub held : Following → Partition → NumberedReport → Step Live
-held f p h =
-    let s = at f.sides p in
-    answered live.Held (record f { sides = with_at f.sides p (record s { hold = s.hold ++ h ∷ [] }) })
+-- one report more is held, behind those that are
+abbrev pub held : Following → Partition → List NumberedReport → NumberedReport → Step Live
+held f p hs h =
+    answered live.Held (record f {
+      sides = with_at f.sides p (record (at f.sides p) { state = Behind (hs ++ h ∷ []) });
+    })
 
 -- as many are held as there is room for: the one refusal that changes something, as a lost line does
 abbrev pub overrun : Following → Step Live
@@ -83,7 +92,7 @@ overrun f = record { answer = Err fault.HoldFull; after = turned false f }
 -- a report above its partition's place: folded where the partition is level, held where it is behind
 abbrev pub live_by : State → Following → Partition → NumberedReport → Step Live
 live_by Level f p h = folded live.Folded f p h
-live_by Behind f p h = if nat_lt (length (at f.sides p).hold) HOLD then held f p h else overrun f
+live_by (Behind hs) f p h = if nat_lt (length hs) HOLD then held f p hs h else overrun f
 
 -- the state of the partition that a message is for
 abbrev pub state_for : Following → Heard → Option State
@@ -101,14 +110,14 @@ lived f Reject = answered live.Nothing f
 lived f Nothing = answered live.Nothing f
 
 abbrev pub no_download : Following → Following
-no_download f = record f { download = Idle }
+no_download f = record f { line = Up Idle }
 
 abbrev pub download_ended : Following → Step Recovered
 download_ended f = answered recovered.Ended (no_download f)
 
 -- an Ack of what was asked of a partition: only Successful begins a download
 abbrev pub acked_of : Following → Partition → AckResponse → Step Recovered
-acked_of f p Successful = answered recovered.Begun (record f { download = Running p })
+acked_of f p Successful = answered recovered.Begun (record f { line = Up (Running p) })
 acked_of f p LimitReached = download_ended f
 acked_of f p InvalidAppId = download_ended f
 acked_of f p ServiceUnavailable = download_ended f
@@ -136,12 +145,12 @@ abbrev pub levelled : Following → Partition → Result Reached FoldRefusal →
 levelled f p (Err e) = refused (fault.Fold e) f
 levelled f p (Ok r) = answered recovered.Ended (record f {
   standings = r.known;
-  sides = with_at f.sides p (record { place = r.place; state = Level; hold = [] });
-  download = Idle;
+  sides = with_at f.sides p (record { place = r.place; state = Level });
+  line = Up Idle;
 })
 
 abbrev pub completed : Following → Partition → Step Recovered
-completed f p = levelled f p (caught_up p (reached f.standings (at f.sides p).place) (at f.sides p).hold)
+completed f p = levelled f p (caught_up p (reached f.standings (at f.sides p).place) (held_in (at f.sides p).state))
 
 -- the end of a download that runs: where it is not complete, no more changes than that none runs
 abbrev pub ended_of : Following → Partition → ReportResponse → Step Recovered
@@ -162,16 +171,16 @@ rejected f (Running p) = download_ended f
 
 -- what comes on the recovery channel
 abbrev pub recovering : Following → Heard → Step Recovered
-recovering f (Report p h) = reported f f.download p h
-recovering f (Ack r) = acked f f.download r
-recovering f (End r) = ended f f.download r
-recovering f Reject = rejected f f.download
+recovering f (Report p h) = reported f (download_of f) p h
+recovering f (Ack r) = acked f (download_of f) r
+recovering f (End r) = ended f (download_of f) r
+recovering f Reject = rejected f (download_of f)
 recovering f Nothing = answered recovered.Nothing f
 
 -- a call that takes a message: first its bytes are checked, then whether the follower is up
 abbrev pub taking : {A : Type 0} → (Following → Heard → Step A) → Following → Result Heard Fault → Step A
 taking takes f (Err e) = refused (fault.Message e) f
-taking takes f (Ok h) = if f.up then takes f h else refused fault.NotUp f
+taking takes f (Ok h) = if is_up f then takes f h else refused fault.NotUp f
 
 abbrev pub live_step : Following → Result Heard Fault → Step Live
 live_step f h = taking lived f h

@@ -1,5 +1,6 @@
 pub mod Numbers
 pub mod Sides
+pub mod Lines
 pub mod Folding
 pub mod Answers
 pub mod Faults

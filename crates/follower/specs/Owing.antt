@@ -5,7 +5,7 @@ use Rattle.follower.specs.declared.pending.Pending.{Pending}
 use Rattle.follower.specs.declared.pending.Pending.TheVariants as pending
 use Rattle.follower.specs.declared.stage.Stage.{Stage}
 use Rattle.follower.specs.declared.stage.Stage.TheVariants as stage
-use Rattle.follower.specs.Following.{Following}
+use Rattle.follower.specs.Following.{Following, download_of}
 
 -- the partition of the download that a token stands for
 abbrev pub owed : Pending → Option Partition
@@ -32,15 +32,15 @@ handed (Some p) (Some q) t = t
 
 -- the same, by the follower before the call and after it
 abbrev pub token_after : Following → Following → Pending → Pending
-token_after f g t = handed (awaited f.download) (awaited g.download) t
+token_after f g t = handed (awaited (download_of f)) (awaited (download_of g)) t
 
 -- a call that begins no download: what is awaited before it is still awaited, or no more
 abbrev pub BeginsNone : Following → Following → Type 0
-BeginsNone f g = (awaited g.download ≡ awaited f.download) ⊎ (awaited g.download ≡ None)
+BeginsNone f g = (awaited (download_of g) ≡ awaited (download_of f)) ⊎ (awaited (download_of g) ≡ None)
 
 -- a token is owed exactly where a download is asked or runs, and it is of that partition
 abbrev pub Tied : Pending → Following → Type 0
-Tied t f = owed t ≡ awaited f.download
+Tied t f = owed t ≡ awaited (download_of f)
 
 -- how many there are of what there is one of or none
 abbrev pub count : Option Partition → ℕ
@@ -50,4 +50,4 @@ count (Some p) = 1
 -- from token t and follower f to token u and follower g, what is owed falls by no more than what is awaited does: so no
 -- fewer tokens are owed than downloads are awaited, whosever they are
 abbrev pub Covers : Pending → Following → Pending → Following → Type 0
-Covers t f u g = count (owed t) + count (awaited g.download) ≤ count (owed u) + count (awaited f.download)
+Covers t f u g = count (owed t) + count (awaited (download_of g)) ≤ count (owed u) + count (awaited (download_of f))

@@ -2,7 +2,7 @@
 // ends a download of this follower spends it, and any other gives it back, so none is lost by a follower that it is
 // not of.
 ghost use Rattle.std.specs.Prelude.{◌≡◌, true, false, length, IfOk};
-ghost use Rattle.follower.specs.Following.{turned, live_step, recovered_step};
+ghost use Rattle.follower.specs.Following.{download_of, turned, live_step, recovered_step};
 ghost use Rattle.follower.specs.Hearing.{heard_in};
 ghost use Rattle.follower.specs.Owing.{owed, token_after, BeginsNone, Tied, Covers};
 ghost use Rattle.follower.specs.declared.stage.Stage.TheVariants.{Idle};
@@ -11,6 +11,7 @@ ghost use Rattle.partitions.specs.PerPartition.{at};
 
 use crate::answer::{Live, Recovered};
 use crate::fault::FollowerFault;
+use crate::line::Line;
 use crate::pending::Pending;
 use crate::reading::hear;
 use crate::request::write_request;
@@ -30,9 +31,9 @@ impl Follower {
         ensures tie { Tied pending self.old → Tied result self.new }
         ensures covered { Covers pending self.old result self.new }
     {
-        let before = self.stage;
+        let before = self.line.download();
         self.turn(true);
-        pending.settle(before, self.stage)
+        pending.settle(before, self.line.download())
     }
 
     /// The line is lost: the same, but the follower is not up.
@@ -43,9 +44,9 @@ impl Follower {
         ensures tie { Tied pending self.old → Tied result self.new }
         ensures covered { Covers pending self.old result self.new }
     {
-        let before = self.stage;
+        let before = self.line.download();
         self.turn(false);
-        pending.settle(before, self.stage)
+        pending.settle(before, self.line.download())
     }
 
     /// Takes a message that came on the real-time channel. Refused with 1 to 5 where the bytes are no message that a
@@ -60,9 +61,9 @@ impl Follower {
         ensures tie { Tied pending self.old → Tied result.1 self.new }
         ensures covered { Covers pending self.old result.1 self.new }
     {
-        let before = self.stage;
+        let before = self.line.download();
         let answer = self.take_live(bytes);
-        (answer, pending.settle(before, self.stage))
+        (answer, pending.settle(before, self.line.download()))
     }
 
     /// Takes a message that came on the recovery channel. Refused with 1 to 5 where the bytes are no message that a
@@ -82,9 +83,9 @@ impl Follower {
         ensures tie { Tied pending self.old → Tied result.1 self.new }
         ensures covered { Covers pending self.old result.1 self.new }
     {
-        let before = self.stage;
+        let before = self.line.download();
         let answer = self.take_recovered(bytes);
-        (answer, pending.settle(before, self.stage))
+        (answer, pending.settle(before, self.line.download()))
     }
 
     /// Writes a request for the reports of a partition above its place, and says how many bytes it has; the bytes
@@ -110,7 +111,7 @@ impl Follower {
         match self.asked(partition, out.len(), &pending) {
             Ok(partition) => {
                 let len = write_request(partition, &self.sides.at(partition).place, out);
-                self.stage = Stage::Asked(partition);
+                self.line = Line::Up(Stage::Asked(partition));
                 (Ok(len), pending.begin(partition))
             }
             Err(fault) => (Err(fault), pending),
@@ -123,7 +124,7 @@ impl Follower {
         ensures none { BeginsNone self.old self.new }
     {
         let heard = hear(bytes)?;
-        if !self.up {
+        if !self.line.is_up() {
             return Err(FollowerFault::NotUp);
         }
         self.live_heard(heard)
@@ -135,7 +136,7 @@ impl Follower {
         ensures none { BeginsNone self.old self.new }
     {
         let heard = hear(bytes)?;
-        if !self.up {
+        if !self.line.is_up() {
             return Err(FollowerFault::NotUp);
         }
         self.recovered_heard(heard)
@@ -149,16 +150,16 @@ impl Follower {
         pending: &Pending,
     ) -> Result<Partition, FollowerFault>
         ensures answer { result ≡ asking self.now pending.now partition room }
-        ensures free { IfOk result (λ _. (self.now.download ≡ Idle) × (owed pending.now ≡ None)) }
+        ensures free { IfOk result (λ _. (download_of self.now ≡ Idle) × (owed pending.now ≡ None)) }
     {
         if room < BUFFER {
             return Err(FollowerFault::Buffer);
         }
-        if !self.up {
+        if !self.line.is_up() {
             return Err(FollowerFault::NotUp);
         }
         let partition = <Partition as Code>::of(partition).ok_or(FollowerFault::Partition)?;
-        match (self.stage, pending.owed()) {
+        match (self.line.download(), pending.owed()) {
             (Stage::Idle, None) => Ok(partition),
             _ => Err(FollowerFault::OutOfTurn),
         }

@@ -69,12 +69,6 @@ impl Hold {
         out
     }
 
-    pub(crate) fn clear(&mut self)
-        ensures { self.new ≡ [] }
-    {
-        self.marks.len = 0;
-    }
-
     // Folds the reports that are held, the first to come first, and says the place that is reached; they stay held.
     pub(crate) fn fold_into(
         &mut self,

@@ -13,8 +13,7 @@ pub fn reports_are_heard()
     ensures { ReportsHeard }
 {}
 
-/// A partition that is level holds nothing; a follower that is not up is behind in all of them, holds nothing and has no
-/// download.
+/// A follower that is not up is behind in all partitions and holds nothing.
 pub fn followers_stay_quiet()
     ensures { StaysQuiet }
 {}

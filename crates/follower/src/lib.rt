@@ -8,6 +8,7 @@ mod folding;
 pub mod heard;
 pub mod hold;
 pub mod laws;
+pub mod line;
 pub mod number;
 mod ordered;
 pub mod pending;

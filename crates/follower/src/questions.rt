@@ -2,6 +2,8 @@
 ghost use Rattle.std.specs.Prelude.{◌≡◌, length};
 ghost use Rattle.std.specs.FinMap.{get, len};
 ghost use Rattle.partitions.specs.PerPartition.{at};
+ghost use Rattle.follower.specs.Following.{is_up, download_of};
+ghost use Rattle.follower.specs.Sides.{held_in, is_level};
 ghost use Rattle.follower.specs.Orders.{FirstFrom};
 
 use crate::ordered::first_from;
@@ -42,31 +44,38 @@ impl Follower {
         self.sides.at(partition).place.get()
     }
 
-    /// Whether a partition is level.
-    pub fn state(&self, partition: Partition) -> State
-        ensures { result ≡ (at self.now.sides partition).state }
+    /// Whether a partition is level or behind, and with what held.
+    pub fn state(&self, partition: Partition) -> &State
+        ensures { result.now ≡ (at self.now.sides partition).state }
     {
-        self.sides.at(partition).state
+        &self.sides.at(partition).state
     }
 
-    /// How many reports a partition holds.
-    pub fn held(&self, partition: Partition) -> usize
-        ensures { result ≡ length (at self.now.sides partition).hold }
+    /// Whether a partition is level.
+    pub fn is_level(&self, partition: Partition) -> bool
+        ensures { result ≡ is_level (at self.now.sides partition).state }
     {
-        self.sides.at(partition).hold.len()
+        self.sides.at(partition).state.is_level()
+    }
+
+    /// How many reports a partition holds; one that is level holds none.
+    pub fn held(&self, partition: Partition) -> usize
+        ensures { result ≡ length (held_in (at self.now.sides partition).state) }
+    {
+        self.sides.at(partition).state.held()
     }
 
     /// Whether the follower is up.
     pub fn is_up(&self) -> bool
-        ensures { result ≡ self.now.up }
+        ensures { result ≡ is_up self.now }
     {
-        self.up
+        self.line.is_up()
     }
 
-    /// The download that is asked or runs.
+    /// The download that is asked or runs; none where the follower is not up.
     pub fn download(&self) -> Stage
-        ensures { result ≡ self.now.download }
+        ensures { result ≡ download_of self.now }
     {
-        self.stage
+        self.line.download()
     }
 }

@@ -2,23 +2,22 @@
 ghost use Rattle.std.specs.Prelude.{◌≡◌, IfOk};
 ghost use Rattle.follower.specs.Following.{start};
 
+use crate::line::Line;
 use crate::side::Side;
-use crate::stage::Stage;
 use partitions::per_partition::PerPartition;
 use reports::standings::Standings;
 use std::alloc::{AllocError, Global};
 use std::marker::Model;
 
 /// A desk's own table of what its orders have open: in a contract, what it knows of each order, each partition's
-/// place, state and hold, whether it is up, and the download that is asked or runs.
+/// place and state, and whether it is up, with its download then.
 #[derive(Drop)]
 pub struct Follower {
     pub(crate) standings: Standings,
     // where the reports of a hold are folded to see whether one is refused
     pub(crate) trial: Standings,
     pub(crate) sides: PerPartition<Side>,
-    pub(crate) up: bool,
-    pub(crate) stage: Stage,
+    pub(crate) line: Line,
 }
 
 impl Model for Follower {
@@ -31,7 +30,7 @@ impl Model for Follower {
 
     ghost coded = { Prim.hlevel (codes, map.code) };
 
-    ghost view = { λ f. record { standings = known f.standings; sides = f.sides; up = f.up; download = f.stage } };
+    ghost view = { λ f. record { standings = known f.standings; sides = f.sides; line = f.line } };
 }
 
 impl Follower {
@@ -50,8 +49,7 @@ impl Follower {
                 two: Side::new(),
                 three: Side::new(),
             },
-            up: false,
-            stage: Stage::Idle,
+            line: Line::Away,
         })
     }
 }

@@ -1,14 +1,16 @@
 // What a follower that is up does with what it hears.
-ghost use Rattle.std.specs.Prelude.{◌≡◌, ◌==◌, nat_le, Ok};
+ghost use Rattle.std.specs.Prelude.{◌≡◌, ◌==◌, false, nat_le, Ok};
+ghost use Rattle.std.specs.Option.{option_copied};
 ghost use Rattle.partitions.specs.PerPartition.{at};
-ghost use Rattle.follower.specs.declared.side.State.TheVariants.{Behind};
+ghost use Rattle.follower.specs.Sides.{is_level};
 ghost use Rattle.follower.specs.Numbers.{number_of};
 ghost use Rattle.codes.specs.Session.{same_partition};
-ghost use Rattle.follower.specs.Following.{turned, state_for, lived, live_by, folded, no_download, acked, reported, recovered_of, completed, ended, rejected, recovering};
+ghost use Rattle.follower.specs.Following.{download_of, turned, state_for, lived, live_by, folded, no_download, acked, reported, recovered_of, completed, ended, rejected, recovering};
 
 use crate::answer::{Live, Recovered};
 use crate::fault::FollowerFault;
 use crate::heard::{Heard, NumberedReport};
+use crate::line::Line;
 use crate::side::State;
 use crate::stage::Stage;
 use crate::state::Follower;
@@ -28,16 +30,19 @@ impl Follower {
         self.sides.one.fall();
         self.sides.two.fall();
         self.sides.three.fall();
-        self.up = up;
-        self.stage = Stage::Idle;
+        self.line = if up {
+            Line::Up(Stage::Idle)
+        } else {
+            Line::Away
+        };
     }
 
     // The state of the partition that a message is for; one without a number is for none.
-    fn state_for(&self, heard: &Heard) -> Option<State>
-        ensures { result ≡ state_for self.now heard.now }
+    fn state_for(&self, heard: &Heard) -> Option<&State>
+        ensures { option_copied result ≡ state_for self.now heard.now }
     {
         match heard {
-            Heard::Report(partition, _) => Some(self.sides.at(*partition).state),
+            Heard::Report(partition, _) => Some(&self.sides.at(*partition).state),
             _ => None,
         }
     }
@@ -66,10 +71,11 @@ impl Follower {
 
     // Holds a report of a partition that is behind; where the hold is full, the line counts as lost.
     fn hold(&mut self, partition: Partition, report: NumberedReport) -> Result<Live, FollowerFault>
-        ensures answer { result ≡ (live_by Behind self.old partition report).answer }
-        ensures after { self.new ≡ (live_by Behind self.old partition report).after }
+        requires { is_level (at self.old.sides partition).state ≡ false }
+        ensures answer { result ≡ (live_by (at self.old.sides partition).state self.old partition report).answer }
+        ensures after { self.new ≡ (live_by (at self.old.sides partition).state self.old partition report).after }
     {
-        match self.sides.at_mut(partition).hold.push(report) {
+        match self.sides.at_mut(partition).state.hold(report) {
             Ok(()) => Ok(Live::Held),
             Err(_) => {
                 self.turn(false);
@@ -90,7 +96,9 @@ impl Follower {
             (Some(State::Level), Heard::Report(partition, report)) => {
                 self.fold(partition, &report, Live::Folded)
             }
-            (Some(State::Behind), Heard::Report(partition, report)) => self.hold(partition, report),
+            (Some(State::Behind(_)), Heard::Report(partition, report)) => {
+                self.hold(partition, report)
+            }
             _ => Ok(Live::Nothing),
         }
     }
@@ -100,17 +108,17 @@ impl Follower {
         ensures answer { result ≡ Recovered.Ended }
         ensures after { self.new ≡ no_download self.old }
     {
-        self.stage = Stage::Idle;
+        self.line = Line::Up(Stage::Idle);
         Recovered::Ended
     }
 
     fn ack(&mut self, response: AckResponse) -> Result<Recovered, FollowerFault>
-        ensures answer { result ≡ (acked self.old self.old.download response).answer }
-        ensures after { self.new ≡ (acked self.old self.old.download response).after }
+        ensures answer { result ≡ (acked self.old (download_of self.old) response).answer }
+        ensures after { self.new ≡ (acked self.old (download_of self.old) response).after }
     {
-        match (self.stage, response) {
+        match (self.line.download(), response) {
             (Stage::Asked(partition), AckResponse::Successful) => {
-                self.stage = Stage::Running(partition);
+                self.line = Line::Up(Stage::Running(partition));
                 Ok(Recovered::Begun)
             }
             (Stage::Asked(_), _) => Ok(self.end()),
@@ -123,10 +131,10 @@ impl Follower {
         partition: Partition,
         report: NumberedReport,
     ) -> Result<Recovered, FollowerFault>
-        ensures answer { result ≡ (reported self.old self.old.download partition report).answer }
-        ensures after { self.new ≡ (reported self.old self.old.download partition report).after }
+        ensures answer { result ≡ (reported self.old (download_of self.old) partition report).answer }
+        ensures after { self.new ≡ (reported self.old (download_of self.old) partition report).after }
     {
-        match self.stage {
+        match self.line.download() {
             Stage::Asked(asked) if !same(asked, partition) => Err(FollowerFault::Partition),
             Stage::Running(running) if !same(running, partition) => Err(FollowerFault::Partition),
             Stage::Running(_) => self.report_of(partition, &report),
@@ -157,19 +165,18 @@ impl Follower {
     {
         self.trial.copy_from(&self.standings);
         let side = self.sides.at_mut(partition);
-        let place = side.hold.fold_into(&mut self.trial, partition, side.place)?;
+        let place = side.fold_held(&mut self.trial, partition)?;
         side.place = place;
         side.state = State::Level;
-        side.hold.clear();
         self.standings.copy_from(&self.trial);
         Ok(self.end())
     }
 
     fn ended(&mut self, response: ReportResponse) -> Result<Recovered, FollowerFault>
-        ensures answer { result ≡ (ended self.old self.old.download response).answer }
-        ensures after { self.new ≡ (ended self.old self.old.download response).after }
+        ensures answer { result ≡ (ended self.old (download_of self.old) response).answer }
+        ensures after { self.new ≡ (ended self.old (download_of self.old) response).after }
     {
-        match (self.stage, response) {
+        match (self.line.download(), response) {
             (Stage::Running(partition), ReportResponse::Complete) => self.complete(partition),
             (Stage::Running(_), _) => Ok(self.end()),
             (Stage::Idle | Stage::Asked(_), _) => Err(FollowerFault::OutOfTurn),
@@ -179,10 +186,10 @@ impl Follower {
     // A Reject ends what is asked or runs; where nothing is, it is an answer to something else, and is nothing
     // here.
     fn reject(&mut self) -> Result<Recovered, FollowerFault>
-        ensures answer { result ≡ (rejected self.old self.old.download).answer }
-        ensures after { self.new ≡ (rejected self.old self.old.download).after }
+        ensures answer { result ≡ (rejected self.old (download_of self.old)).answer }
+        ensures after { self.new ≡ (rejected self.old (download_of self.old)).after }
     {
-        match self.stage {
+        match self.line.download() {
             Stage::Idle => Ok(Recovered::Nothing),
             Stage::Asked(_) | Stage::Running(_) => Ok(self.end()),
         }

@@ -2,7 +2,7 @@
 // cannot be let go.
 ghost use Rattle.std.specs.Prelude.{◌≡◌, false};
 ghost use Rattle.follower.specs.declared.stage.Stage.TheVariants.{Idle};
-ghost use Rattle.follower.specs.Following.{turned};
+ghost use Rattle.follower.specs.Following.{download_of, is_up, turned};
 ghost use Rattle.follower.specs.Owing.{Tied};
 
 use follower::answer::{Live, Recovered};
@@ -115,7 +115,7 @@ fn take(
 // waits for the download can spend it.
 fn hang_up(follower: &mut Follower, other: &mut Follower, pending: Pending)
     requires tie { Tied pending follower.old }
-    requires other { other.old.download ≡ Idle }
+    requires other { download_of other.old ≡ Idle }
     ensures after { follower.new ≡ turned false follower.old }
     ensures other_after { other.new ≡ turned false other.old }
 {
@@ -131,10 +131,10 @@ pub fn day<R: Print>(
     other: &mut Follower,
     events: &[Event],
 ) -> io::Result<()>
-    requires follower { follower.old.download ≡ Idle }
-    requires other { other.old.download ≡ Idle }
-    ensures down { follower.new.up ≡ false }
-    ensures none { follower.new.download ≡ Idle }
+    requires follower { download_of follower.old ≡ Idle }
+    requires other { download_of other.old ≡ Idle }
+    ensures down { is_up follower.new ≡ false }
+    ensures none { download_of follower.new ≡ Idle }
     ensures other { other.new ≡ turned false other.old }
 {
     let mut out = [0; BUFFER];

@@ -95,7 +95,7 @@ fn events(alloc: Global) -> Result<Vec<Event>, AllocError> {
 fn show<R: Print>(rt: &R, follower: &Follower) -> io::Result<()> {
     let state = match follower.state(Partition::One) {
         State::Level => "level",
-        State::Behind => "behind",
+        State::Behind(_) => "behind",
     };
     println!(rt; "{state} at {}", follower.place(Partition::One))?;
     let mut from = 0;

@@ -2,7 +2,7 @@ use Rattle.std.proofs.Common.{◌≡◌, IfOk, arith, subst}
 use Rattle.both_ends.specs.Deciding.{after_entry, onto}
 use Rattle.both_ends.specs.declared.entry.Entry.{Entry}
 use Rattle.both_ends.proofs.Refusals.{refused_at}
-use Rattle.both_ends.proofs.allowed.line_allows.Goals as goal
+use Rattle.both_ends.proofs.allowed.watched.Goals as goal
 
 pub returns-in-Err : goal.returns-in-Err
 returns-in-Err g c =
