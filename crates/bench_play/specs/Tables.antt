@@ -1,5 +1,5 @@
 -- What both ends show of an order and of a partition. Assumes nothing.
-use Rattle.std.specs.Prelude.{length}
+use Rattle.std.specs.Prelude.{ℕ, length}
 use Rattle.std.specs.FinMap.{get}
 use Rattle.bench_play.specs.declared.tables.Look.{Look}
 use Rattle.bench_play.specs.declared.tables.Look.TheVariants as look
@@ -10,7 +10,8 @@ use Rattle.gateway.specs.State.{State}
 use Rattle.keyed.specs.Numbers.{under}
 use Rattle.partitions.specs.PerPartition.{at}
 
-abbrev pub answer : Look → State → Following → Shown
-answer (look.Order n) s f = shown.Order (under s.venue.rows n) (get f.standings n)
-answer (look.Partition p) s f =
+-- where so many places are free
+abbrev pub answer : Look → State → ℕ → Following → Shown
+answer (look.Order n) s free f = shown.Order (under s.venue.rows n) (get f.standings n)
+answer (look.Partition p) s free f =
     let side = at f.sides p in shown.Partition side.place side.state (length side.hold)
