@@ -81,7 +81,7 @@ fn place_shown(partition: Partition, shown: Shown) -> Place
             level: is_level(state),
             held,
         },
-        Shown::Order(..) => Place {
+        Shown::Order(..) | Shown::Preview(_) => Place {
             partition,
             number: 0,
             level: false,
