@@ -35,6 +35,11 @@ The gateway's calls, as they are. TIME is SECONDS.MICROSECONDS, two whole number
   send LINE
   send-recovered LINE
 
+A question, which changes nothing: what would go if these bytes were given to the line as a mass cancel. It is answered with
+the orders and their open shares in partitions 1, 2 and 3, or as the mass cancel would be refused:
+
+  preview LINE HEX
+
 The follower's calls:
 
   up
@@ -71,6 +76,8 @@ where no word says ioc:
   replace LINE SYMBOL buy|sell QTY PRICE CLIENTID ORIGINAL [ioc]
                    ioc: the order is immediate or cancel
   mass-cancel LINE CLIENTID own|firm [instrument SYMBOL | segment SEGMENT]
+  preview-mass-cancel LINE CLIENTID own|firm [instrument SYMBOL | segment SEGMENT]
+                   sends nothing: what would go by this mass cancel
   missed LINE PARTITION LAST
                    asks for a download of the reports of a partition behind number LAST
 

@@ -1,5 +1,5 @@
 -- What a day shows, whichever engine and store it has. Assumes nothing.
-use Rattle.std.specs.Prelude.{◌≡◌, List, [], ◌∷◌, ◌++◌}
+use Rattle.std.specs.Prelude.{◌≡◌, ℕ, List, [], ◌∷◌, ◌++◌}
 use Rattle.both_ends.specs.Asking.{made, step_of}
 use Rattle.both_ends.specs.Runs.{Desk}
 use Rattle.both_ends.specs.declared.entry.Entry.{Entry}
@@ -24,6 +24,13 @@ state_of (LitWire b) = b.gateway.state
 state_of (TapeRecords b) = b.gateway.state
 state_of (TapeWire b) = b.gateway.state
 
+-- how many places its store has free
+abbrev pub free_of : Day → ℕ
+free_of (LitRecords b) = b.gateway.free
+free_of (LitWire b) = b.gateway.free
+free_of (TapeRecords b) = b.gateway.free
+free_of (TapeWire b) = b.gateway.free
+
 abbrev pub desk_of : Day → Desk
 desk_of (LitRecords b) = b.desk
 desk_of (LitWire b) = b.desk
@@ -32,9 +39,10 @@ desk_of (TapeWire b) = b.desk
 
 -- a question was kept with its answer, as both ends show it, and they stay
 pub record Answers (q : Look) (a : Shown) (b e : Day) : Type 0 where
-  pub answer_is : a ≡ answer q (state_of b) (desk_of b).follower
+  pub answer_is : a ≡ answer q (state_of b) (free_of b) (desk_of b).follower
   pub log : log_of e ≡ log_of b ++ Asked q a ∷ []
   pub gateway : state_of e ≡ state_of b
+  pub free : free_of e ≡ free_of b
   pub desk : desk_of e ≡ desk_of b
 
 -- a step was taken, and kept with what came back

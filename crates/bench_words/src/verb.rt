@@ -32,6 +32,8 @@ pub enum Verb {
     Cancel,
     Replace,
     MassCancel,
+    Preview,
+    PreviewMassCancel,
     Missed,
     Follow,
     Up,
@@ -48,7 +50,7 @@ pub enum Verb {
 }
 
 /// All that a line can ask for.
-pub const VERBS: [Verb; 40] = [
+pub const VERBS: [Verb; 42] = [
     Verb::CompId,
     Verb::Instrument,
     Verb::Matcher,
@@ -76,6 +78,8 @@ pub const VERBS: [Verb; 40] = [
     Verb::Cancel,
     Verb::Replace,
     Verb::MassCancel,
+    Verb::Preview,
+    Verb::PreviewMassCancel,
     Verb::Missed,
     Verb::Follow,
     Verb::Up,
@@ -124,6 +128,8 @@ impl Verb {
             Verb::Cancel => "cancel",
             Verb::Replace => "replace",
             Verb::MassCancel => "mass-cancel",
+            Verb::Preview => "preview",
+            Verb::PreviewMassCancel => "preview-mass-cancel",
             Verb::Missed => "missed",
             Verb::Follow => "follow",
             Verb::Up => "up",

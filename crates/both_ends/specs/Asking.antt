@@ -1,5 +1,5 @@
 -- Calls with questions among them. Assumes nothing.
-use Rattle.std.specs.Prelude.{◌≡◌, ◌≤◌, List, [], ◌∷◌, length, map}
+use Rattle.std.specs.Prelude.{◌≡◌, ℕ, ◌≤◌, List, [], ◌∷◌, length, map}
 use Rattle.both_ends.specs.declared.call.Call.{Call}
 use Rattle.both_ends.specs.declared.call.Done.{Done}
 use Rattle.both_ends.specs.Runs.{Desk, Does, Sided, Tells, call_of}
@@ -14,9 +14,9 @@ use Rattle.limits.specs.declared.TheConstants.{ORDERS}
 use Rattle.matching.specs.Asked.{Asked}
 use Rattle.venue.specs.Books.{Over, Sound}
 
--- a question's answer, as a function of what both ends show
+-- a question's answer, as a function of what both ends show: the gateway's state, the free places, the follower
 abbrev pub Answer : Type 0 → Type 0 → Type 0
-Answer Q A = Q → State → Following → A
+Answer Q A = Q → State → ℕ → Following → A
 
 -- one call: its end moves as its contract has it, the other stays, and both keep what they are to keep
 pub record Moves {M : Type 0} (did : M → Asked → M → Type 0) (x : Over State M) (d : Desk) (a : Done)
@@ -51,7 +51,7 @@ module _ {M Q A : Type 0} (did : M → Asked → M → Type 0) (answer : Answer 
   -- one step: a call moves its end; to a question both ends stay, and the answer is its definition's
   abbrev pub Takes : Over State M → Desk → Entry Q A → Over State M → Desk → Type 0
   Takes x d (Made a) y e = Moves did x d a y e
-  Takes x d (Answered q a) y e = (y ≡ x) × (e ≡ d) × (a ≡ answer q x.state d.follower)
+  Takes x d (Answered q a) y e = (y ≡ x) × (e ≡ d) × (a ≡ answer q x.state x.free d.follower)
 
   -- calls and questions, one after the other
   abbrev pub Goes : Over State M → Desk → List (Entry Q A) → Over State M → Desk → Type 0
