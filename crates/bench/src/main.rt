@@ -16,6 +16,8 @@ const ABOUT: About = About {
                    a CompID, whose line is its place in the list, from 0; yes: its marked orders end with the line
   instrument SYMBOL SEGMENT PARTITION
   matcher lit      the lit book, which is the matcher where no line says so
+  matcher dark     the dark midpoint book
+  matcher pair     both of them: an order goes to the book that it is for
   matcher tape ORDER,QTY,PRICE ORDER,QTY,PRICE ..
                    a list of trades, each against one open order
   store records PLACES
@@ -40,6 +42,10 @@ the orders and their open shares in partitions 1, 2 and 3, or as the mass cancel
 
   preview LINE HEX
 
+The matcher's midpoint of an instrument, by its number in the script, from 0; PRICE is one above 0:
+
+  midpoint INSTRUMENT PRICE|none
+
 The follower's calls:
 
   up
@@ -61,22 +67,22 @@ is under way to the desk until it is delivered:
   catch up         asks for each partition and downloads it until it is level
 
 Messages that are built from words and taken in on a line at the time of the clock. QTY is a whole number, PRICE a decimal number
-with up to eight places, such as 101 or 100.5; orders are for the lit book, as principal on the house's account, and day orders
-where no word says ioc:
+with up to eight places, such as 101 or 100.5; orders are as principal on the house's account, day orders where no word says
+ioc, and for the lit book where none says dark:
 
   time TIME        sets the clock
   logon LINE       with the CompID and the password of the line
   recover LINE     the same on the recovery channel
   logout LINE
-  buy LINE SYMBOL QTY PRICE|market CLIENTID [ioc] [marked]
-  sell LINE SYMBOL QTY PRICE|market CLIENTID [ioc] [marked]
+  buy LINE SYMBOL QTY PRICE|market CLIENTID [ioc] [marked] [dark]
+  sell LINE SYMBOL QTY PRICE|market CLIENTID [ioc] [marked] [dark]
                    ioc: immediate or cancel, what does not trade at once expires; marked: ends with the line, where the
                    CompID is so configured
-  cancel LINE SYMBOL buy|sell CLIENTID ORIGINAL
-  replace LINE SYMBOL buy|sell QTY PRICE CLIENTID ORIGINAL [ioc]
+  cancel LINE SYMBOL buy|sell CLIENTID ORIGINAL [dark]
+  replace LINE SYMBOL buy|sell QTY PRICE CLIENTID ORIGINAL [ioc] [dark]
                    ioc: the order is immediate or cancel
-  mass-cancel LINE CLIENTID own|firm [instrument SYMBOL | segment SEGMENT]
-  preview-mass-cancel LINE CLIENTID own|firm [instrument SYMBOL | segment SEGMENT]
+  mass-cancel LINE CLIENTID own|firm [instrument SYMBOL [dark] | segment SEGMENT]
+  preview-mass-cancel LINE CLIENTID own|firm [instrument SYMBOL [dark] | segment SEGMENT]
                    sends nothing: what would go by this mass cancel
   missed LINE PARTITION LAST
                    asks for a download of the reports of a partition behind number LAST

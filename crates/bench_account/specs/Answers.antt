@@ -36,6 +36,7 @@ answer_text (answer.Expired n) = codes "expired " ++ decimal n
 answer_text (answer.Traded t) = trade_text t
 answer_text answer.Cancelled = codes "cancelled"
 answer_text answer.Closed = codes "closed"
+answer_text answer.Set = codes "midpoint set"
 answer_text answer.Up = codes "up"
 answer_text answer.Lost = codes "lost"
 answer_text (answer.Request p) = codes "request " ++ payload_text p

@@ -82,6 +82,8 @@ pub enum Answer<'a> {
     Cancelled,
     /// A line is closed.
     Closed,
+    /// A midpoint is set, or gone.
+    Set,
     /// The follower is up.
     Up,
     /// Its line is lost.
@@ -111,6 +113,7 @@ impl fmt::Display for Answer<'_> {
             Answer::Traded(trade) => write!(f, "{trade}"),
             Answer::Cancelled => f.write_str("cancelled"),
             Answer::Closed => f.write_str("closed"),
+            Answer::Set => f.write_str("midpoint set"),
             Answer::Up => f.write_str("up"),
             Answer::Lost => f.write_str("lost"),
             Answer::Request(message) => write!(f, "request {message}"),

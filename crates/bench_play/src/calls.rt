@@ -11,6 +11,7 @@ use gateway::fault::GatewayFault;
 use gateway_runs::call::{Call as VenueCall, Done as VenueDone, Reply};
 use std::alloc::{AllocError, Global};
 use std::io;
+use texts::values::Price;
 use venue::step::Step;
 use wire::kinds::{Channel, Kind};
 use wire::message::BUFFER;
@@ -222,6 +223,20 @@ pub fn make<R: Print + AllocGlobal>(
     match day.last() {
         Some(Entry::Made(done)) => tell(rt, state, done),
         _ => Ok(false),
+    }
+}
+
+/// Tells the matcher a midpoint, and prints whether it is set.
+pub fn midpoint<R: Print>(
+    rt: &R,
+    state: &mut State,
+    day: &mut Day,
+    instrument: usize,
+    price: Option<Price>,
+) -> io::Result<()> {
+    match day.midpoint(instrument, price)? {
+        Ok(()) => state.tell(rt, Answer::Set),
+        Err(refusal) => state.tell(rt, Answer::Refused(refusal.number())),
     }
 }
 

@@ -1,6 +1,6 @@
-// A day of both ends, over either engine and either store.
+// A day of both ends, over any of the engines and either store.
 ghost use Rattle.std.specs.Prelude.{◌≡◌, IfOk, IsOk, OnOk, OnErr};
-ghost use Rattle.bench_play.specs.Days.{Answers, Keeps, desk_of, log_of, state_of};
+ghost use Rattle.bench_play.specs.Days.{Answers, Guides, Keeps, desk_of, log_of, state_of};
 ghost use Rattle.both_ends.specs.Agreement.{Agrees};
 ghost use Rattle.both_ends.specs.Allowed.{Allowed, after_log, quiet};
 ghost use Rattle.both_ends.specs.Catching.{CanCatchUp};
@@ -19,28 +19,37 @@ use both_ends::allowed::Breach;
 use both_ends::call::Call;
 use both_ends::entry::Entry;
 use both_ends::state::BothEnds;
+use book_pair::pair::BookPair;
 use byte_store::buffered::Buffered;
 use configuration::config::{Config, StartRefusal};
 use configuration::instrument::Instrument;
 use configuration::participant::Participant;
+use dark_book::book::DarkBook;
 use follower::state::Follower;
 use lit_book::book::LitBook;
 use matching::matcher::Matcher;
-use matching::tape::Tape;
+use matching::midpoint::MidpointRefusal;
+use matching::tape::{Line, Tape};
 use std::alloc::{AllocError, Global};
 use std::io;
 use store::Store;
 use store::records::Records;
-use texts::values::Time;
+use texts::values::{Price, Time};
 use wire_store::codec::WireCodec;
 
 type WireStore = Buffered<WireCodec>;
 
-/// Both ends over one of the two engines and one of the two stores.
+type Pair = BookPair<LitBook, DarkBook>;
+
+/// Both ends over one of the four engines and one of the two stores.
 #[derive(Drop)]
 pub enum Day {
     LitRecords(BothEnds<LitBook, Records, Look, Shown>),
     LitWire(BothEnds<LitBook, WireStore, Look, Shown>),
+    DarkRecords(BothEnds<DarkBook, Records, Look, Shown>),
+    DarkWire(BothEnds<DarkBook, WireStore, Look, Shown>),
+    PairRecords(BothEnds<Pair, Records, Look, Shown>),
+    PairWire(BothEnds<Pair, WireStore, Look, Shown>),
     TapeRecords(BothEnds<Tape, Records, Look, Shown>),
     TapeWire(BothEnds<Tape, WireStore, Look, Shown>),
 }
@@ -51,6 +60,10 @@ macro_rules! of_day {
         match $day {
             Day::LitRecords($both) => $work,
             Day::LitWire($both) => $work,
+            Day::DarkRecords($both) => $work,
+            Day::DarkWire($both) => $work,
+            Day::PairRecords($both) => $work,
+            Day::PairWire($both) => $work,
             Day::TapeRecords($both) => $work,
             Day::TapeWire($both) => $work,
         }
@@ -69,32 +82,81 @@ fn started<M: Matcher + Drop, S: Store + Drop>(
     }
 }
 
+fn lit(heap: Global, config: Config, shelf: Shelf) -> Result<Day, StartRefusal> {
+    let book = LitBook::new(heap)?;
+    match shelf {
+        Shelf::Records(places) => {
+            let store = Records::new(heap, places)?;
+            Ok(Day::LitRecords(started(heap, config, book, store)?))
+        }
+        Shelf::Wire(bytes) => {
+            let store = wire_store::new(heap, bytes)?;
+            Ok(Day::LitWire(started(heap, config, book, store)?))
+        }
+    }
+}
+
+fn dark(heap: Global, config: Config, shelf: Shelf) -> Result<Day, StartRefusal> {
+    let book = DarkBook::new(heap)?;
+    match shelf {
+        Shelf::Records(places) => {
+            let store = Records::new(heap, places)?;
+            Ok(Day::DarkRecords(started(heap, config, book, store)?))
+        }
+        Shelf::Wire(bytes) => {
+            let store = wire_store::new(heap, bytes)?;
+            Ok(Day::DarkWire(started(heap, config, book, store)?))
+        }
+    }
+}
+
+fn pair(heap: Global, config: Config, shelf: Shelf) -> Result<Day, StartRefusal> {
+    let lit = LitBook::new(heap)?;
+    let dark = DarkBook::new(heap)?;
+    let Ok(pair) = BookPair::join(lit, dark) else {
+        return Err(StartRefusal::NotEmpty);
+    };
+    match shelf {
+        Shelf::Records(places) => {
+            let store = Records::new(heap, places)?;
+            Ok(Day::PairRecords(started(heap, config, pair, store)?))
+        }
+        Shelf::Wire(bytes) => {
+            let store = wire_store::new(heap, bytes)?;
+            Ok(Day::PairWire(started(heap, config, pair, store)?))
+        }
+    }
+}
+
+fn tape(
+    heap: Global,
+    config: Config,
+    lines: Vec<Line>,
+    shelf: Shelf,
+) -> Result<Day, StartRefusal> {
+    let tape = Tape::new(heap, lines)?;
+    match shelf {
+        Shelf::Records(places) => {
+            let store = Records::new(heap, places)?;
+            Ok(Day::TapeRecords(started(heap, config, tape, store)?))
+        }
+        Shelf::Wire(bytes) => {
+            let store = wire_store::new(heap, bytes)?;
+            Ok(Day::TapeWire(started(heap, config, tape, store)?))
+        }
+    }
+}
+
 impl Day {
     /// Starts a day.
     pub fn start(heap: Global, opening: Opening) -> Result<Day, StartRefusal> {
         let (config, engine, shelf) = opening.finish(heap);
         let config = config?;
-        match (engine, shelf) {
-            (Engine::Lit, Shelf::Records(places)) => {
-                let book = LitBook::new(heap)?;
-                let store = Records::new(heap, places)?;
-                Ok(Day::LitRecords(started(heap, config, book, store)?))
-            }
-            (Engine::Lit, Shelf::Wire(bytes)) => {
-                let book = LitBook::new(heap)?;
-                let store = wire_store::new(heap, bytes)?;
-                Ok(Day::LitWire(started(heap, config, book, store)?))
-            }
-            (Engine::Tape(lines), Shelf::Records(places)) => {
-                let tape = Tape::new(heap, lines)?;
-                let store = Records::new(heap, places)?;
-                Ok(Day::TapeRecords(started(heap, config, tape, store)?))
-            }
-            (Engine::Tape(lines), Shelf::Wire(bytes)) => {
-                let tape = Tape::new(heap, lines)?;
-                let store = wire_store::new(heap, bytes)?;
-                Ok(Day::TapeWire(started(heap, config, tape, store)?))
-            }
+        match engine {
+            Engine::Lit => lit(heap, config, shelf),
+            Engine::Dark => dark(heap, config, shelf),
+            Engine::Pair => pair(heap, config, shelf),
+            Engine::Tape(lines) => tape(heap, config, lines, shelf),
         }
     }
 
@@ -104,6 +166,19 @@ impl Day {
         ensures error { OnErr result (self.new ≡ self.old) }
     {
         of_day!(self, both => both.make(call))
+    }
+
+    /// Tells the matcher a midpoint, keeps the answer and hands it out; all that both ends show stays. Its one error is want of
+    /// memory; then nothing was told.
+    pub fn midpoint(
+        &mut self,
+        instrument: usize,
+        price: Option<Price>,
+    ) -> Result<Result<(), MidpointRefusal>, AllocError>
+        ensures told { IfOk result (λ r. Guides instrument price r self.old self.new) }
+        ensures error { OnErr result (self.new ≡ self.old) }
+    {
+        of_day!(self, both => both.midpoint(instrument, price))
     }
 
     /// Asks both ends for a part of their tables, keeps the answer and hands it out. Its one error is want of memory; then

@@ -11,6 +11,9 @@ use std::alloc::{AllocError, Global};
 #[derive(Drop)]
 pub enum Engine {
     Lit,
+    Dark,
+    /// The lit and the dark book, as one.
+    Pair,
     /// A tape of these trades.
     Tape(Vec<Line>),
 }

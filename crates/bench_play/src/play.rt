@@ -69,6 +69,9 @@ fn obey<R: Print + AllocGlobal>(
         Command::Run => asking::run(rt, state, day)?,
         Command::Drain(line) => asking::drain(rt, state, day, line)?,
         Command::Download(line) => asking::download(rt, state, day, line)?,
+        Command::Midpoint(instrument, price) => {
+            calls::midpoint(rt, state, day, instrument, price)?;
+        }
         Command::Orders => day.show_orders(rt)?,
         _ => {}
     }
@@ -196,6 +199,8 @@ impl Play {
                 partition,
             } => self.opening.instrument(symbol, segment, partition)?,
             Setup::Lit => self.opening.engine(Engine::Lit),
+            Setup::Dark => self.opening.engine(Engine::Dark),
+            Setup::Pair => self.opening.engine(Engine::Pair),
             Setup::Tape(tape) => {
                 let lines = tape.lines(rt.alloc())?;
                 self.opening.engine(Engine::Tape(lines));

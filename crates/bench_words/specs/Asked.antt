@@ -21,11 +21,12 @@ abbrev pub asked : List ℕ → List ℕ → Request → List Content
 asked name password request.Logon = logon_asked name password
 asked name password request.Recover = logon_asked name password
 asked name password request.Logout = logout_asked
-asked name password (request.Order side symbol shares pricing client lifetime marked) =
-    order_asked side symbol.now shares pricing client.now lifetime marked
-asked name password (request.Cancel symbol side client original) = cancel_asked symbol.now side client.now original.now
-asked name password (request.Replace symbol side shares price client original lifetime) =
-    replace_asked symbol.now side shares price client.now original.now lifetime
+asked name password (request.Order side symbol shares pricing client lifetime marked book) =
+    order_asked side symbol.now shares pricing client.now lifetime marked book
+asked name password (request.Cancel symbol side client original book) =
+    cancel_asked symbol.now side client.now original.now book
+asked name password (request.Replace symbol side shares price client original lifetime book) =
+    replace_asked symbol.now side shares price client.now original.now lifetime book
 asked name password (request.MassCancel client firm scope) = mass_asked client.now firm (scope_said scope)
 asked name password (request.Missed partition last) = missed_asked partition last
 
@@ -34,9 +35,9 @@ abbrev pub wrong_of : Request → Option Misread
 wrong_of request.Logon = None
 wrong_of request.Recover = None
 wrong_of request.Logout = None
-wrong_of (request.Order side symbol shares pricing client lifetime marked) = order_wrong symbol.now client.now
-wrong_of (request.Cancel symbol side client original) = cancel_wrong symbol.now client.now original.now
-wrong_of (request.Replace symbol side shares price client original lifetime) =
+wrong_of (request.Order side symbol shares pricing client lifetime marked book) = order_wrong symbol.now client.now
+wrong_of (request.Cancel symbol side client original book) = cancel_wrong symbol.now client.now original.now
+wrong_of (request.Replace symbol side shares price client original lifetime book) =
     cancel_wrong symbol.now client.now original.now
 wrong_of (request.MassCancel client firm scope) = mass_wrong client.now scope
 wrong_of (request.Missed partition last) = missed_wrong last
@@ -45,9 +46,9 @@ abbrev pub kind_asked : Request → Kind
 kind_asked request.Logon = kind.Logon
 kind_asked request.Recover = kind.Logon
 kind_asked request.Logout = kind.Logout
-kind_asked (request.Order side symbol shares pricing client lifetime marked) = kind.NewOrder
-kind_asked (request.Cancel symbol side client original) = kind.OrderCancelRequest
-kind_asked (request.Replace symbol side shares price client original lifetime) = kind.OrderCancelReplaceRequest
+kind_asked (request.Order side symbol shares pricing client lifetime marked book) = kind.NewOrder
+kind_asked (request.Cancel symbol side client original book) = kind.OrderCancelRequest
+kind_asked (request.Replace symbol side shares price client original lifetime book) = kind.OrderCancelReplaceRequest
 kind_asked (request.MassCancel client firm scope) = kind.OrderMassCancelRequest
 kind_asked (request.Missed partition last) = kind.MissedMessageRequest
 

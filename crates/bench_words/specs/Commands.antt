@@ -2,10 +2,13 @@
 use Rattle.std.specs.Prelude.{ℕ, Bool, true, false, ◌&&◌, if◌then◌else◌, List, [], length, drop, Some, None, Ok, Err, Option, Result, codes, nat_le, ◌==◌, slice_index_or}
 use Rattle.std.specs.Borrow.{Bor}
 use Rattle.std.specs.Str.{bytes_eq}
+use Rattle.codes.specs.declared.order.Book.{Book}
+use Rattle.codes.specs.declared.order.Book.TheVariants.{DarkMidpoint, Integrated}
 use Rattle.codes.specs.declared.order.Side.{Side}
 use Rattle.codes.specs.declared.order.Side.TheVariants as side
 use Rattle.terms.specs.declared.lifetime.Lifetime.{Lifetime}
 use Rattle.terms.specs.declared.lifetime.Lifetime.TheVariants.{Day, ImmediateOrCancel}
+use Rattle.texts.specs.declared.values.Price.{Price}
 use Rattle.texts.specs.declared.values.Time.{Time}
 use Rattle.bench_words.specs.declared.bytes.Bytes.{Bytes}
 use Rattle.bench_words.specs.declared.command.Cable.TheVariants as cable
@@ -121,13 +124,21 @@ tape_said ws = if is_tape ws.now then Ok (command.Setup (setup.Tape (record { wo
 abbrev pub is_lit : Words → Bool
 is_lit ws = (length ws == 2) && bytes_eq (text ws 1) (codes "lit")
 
+abbrev pub is_dark : Words → Bool
+is_dark ws = (length ws == 2) && bytes_eq (text ws 1) (codes "dark")
+
+abbrev pub is_pair : Words → Bool
+is_pair ws = (length ws == 2) && bytes_eq (text ws 1) (codes "pair")
+
 abbrev pub is_played : Words → Bool
 is_played ws = nat_le 2 (length ws) && bytes_eq (text ws 1) (codes "tape")
 
--- matcher lit, or matcher tape ORDER,QTY,PRICE ..
+-- matcher lit, matcher dark, matcher pair, or matcher tape ORDER,QTY,PRICE ..
 abbrev pub matcher_of : Bor Words → Result Command Misread
 matcher_of ws =
     if is_lit ws.now then Ok (command.Setup setup.Lit)
+    else if is_dark ws.now then Ok (command.Setup setup.Dark)
+    else if is_pair ws.now then Ok (command.Setup setup.Pair)
     else if is_played ws.now then tape_said ws
     else Err why.Matcher
 
@@ -168,60 +179,70 @@ line_lost_of ws =
 
 -- ---- the messages that a person asks for, each with its line
 
--- [marked]
-abbrev pub marked_of : Words → Result Bool Misread
-marked_of ws =
-    if length ws == 0 then Ok false
-    else if (length ws == 1) && bytes_eq (text ws 0) (codes "marked") then Ok true
+-- [dark]
+abbrev pub book_of : Words → Result Book Misread
+book_of ws =
+    if length ws == 0 then Ok Integrated
+    else if (length ws == 1) && bytes_eq (text ws 0) (codes "dark") then Ok DarkMidpoint
     else Err why.Count
 
--- [ioc] [marked]
-unfoldable pub behind_of : Words → Result (Lifetime × Bool) Misread
+-- [marked] [dark]
+unfoldable pub marked_of : Words → Result (Bool × Book) Misread
+marked_of ws =
+    if nat_le 1 (length ws) && bytes_eq (text ws 0) (codes "marked")
+    then (book_of (drop 1 ws) then λ b. Ok (true, b))
+    else (book_of ws then λ b. Ok (false, b))
+
+-- [ioc] [marked] [dark]
+unfoldable pub behind_of : Words → Result (Lifetime × (Bool × Book)) Misread
 behind_of ws =
     if nat_le 1 (length ws) && bytes_eq (text ws 0) (codes "ioc")
-    then (marked_of (drop 1 ws) then λ marked. Ok (ImmediateOrCancel, marked))
-    else (marked_of ws then λ marked. Ok (Day, marked))
+    then (marked_of (drop 1 ws) then λ m. Ok (ImmediateOrCancel, m))
+    else (marked_of ws then λ m. Ok (Day, m))
 
--- [ioc]
-unfoldable pub lifetime_of : Words → Result Lifetime Misread
-lifetime_of ws =
-    if length ws == 0 then Ok Day
-    else if (length ws == 1) && bytes_eq (text ws 0) (codes "ioc") then Ok ImmediateOrCancel
-    else Err why.Count
+-- [ioc] [dark]
+unfoldable pub waits_of : Words → Result (Lifetime × Book) Misread
+waits_of ws =
+    if nat_le 1 (length ws) && bytes_eq (text ws 0) (codes "ioc")
+    then (book_of (drop 1 ws) then λ b. Ok (ImmediateOrCancel, b))
+    else (book_of ws then λ b. Ok (Day, b))
 
--- buy|sell LINE SYMBOL QTY PRICE|market CLIENTID [ioc] [marked]
+-- buy|sell LINE SYMBOL QTY PRICE|market CLIENTID [ioc] [marked] [dark]
 abbrev pub order_of : Side → Words → Result Command Misread
 order_of s ws =
     of_least 6 ws (
     line_of (text ws 1) then λ line. shares_of (text ws 3) then λ shares. pricing_of (text ws 4) then λ pricing.
     behind_of (drop 6 ws) then λ b. Ok (command.Request line
-    (request.Order s (word ws 2) shares pricing (word ws 5) b.0 b.1)))
+    (request.Order s (word ws 2) shares pricing (word ws 5) b.0 b.1.0 b.1.1)))
 
--- cancel LINE SYMBOL SIDE CLIENTID ORIGINAL
+-- cancel LINE SYMBOL SIDE CLIENTID ORIGINAL [dark]
 abbrev pub cancel_of : Words → Result Command Misread
 cancel_of ws =
-    of_count 6 ws (line_of (text ws 1) then λ line. side_of (text ws 3)
-    then λ s. Ok (command.Request line (request.Cancel (word ws 2) s (word ws 4) (word ws 5))))
+    of_least 6 ws (book_of (drop 6 ws) then λ b. line_of (text ws 1) then λ line. side_of (text ws 3)
+    then λ s. Ok (command.Request line (request.Cancel (word ws 2) s (word ws 4) (word ws 5) b)))
 
--- replace LINE SYMBOL SIDE QTY PRICE CLIENTID ORIGINAL [ioc]
+-- replace LINE SYMBOL SIDE QTY PRICE CLIENTID ORIGINAL [ioc] [dark]
 abbrev pub replace_of : Words → Result Command Misread
 replace_of ws =
-    of_least 8 ws (lifetime_of (drop 8 ws) then λ lifetime.
+    of_least 8 ws (waits_of (drop 8 ws) then λ w.
     line_of (text ws 1) then λ line. side_of (text ws 3) then λ s. shares_of (text ws 4) then λ shares.
     price_of (text ws 5) then λ price. Ok (command.Request line
-    (request.Replace (word ws 2) s shares price (word ws 6) (word ws 7) lifetime)))
+    (request.Replace (word ws 2) s shares price (word ws 6) (word ws 7) w.0 w.1)))
 
 abbrev pub firm_of : List ℕ → Result Bool Misread
 firm_of w = if bytes_eq w (codes "own") then Ok false else if bytes_eq w (codes "firm") then Ok true else Err why.Scope
 
-abbrev pub scope_of : Words → Result Scope Misread
+unfoldable pub scope_of : Words → Result Scope Misread
 scope_of ws =
     if length ws == 0 then Ok scope.All
-    else if (length ws == 2) && bytes_eq (text ws 0) (codes "instrument") then Ok (scope.Instrument (word ws 1))
+    else if (length ws == 2) && bytes_eq (text ws 0) (codes "instrument")
+    then Ok (scope.Instrument (word ws 1) Integrated)
+    else if (length ws == 3) && (bytes_eq (text ws 0) (codes "instrument") && bytes_eq (text ws 2) (codes "dark"))
+    then Ok (scope.Instrument (word ws 1) DarkMidpoint)
     else if (length ws == 2) && bytes_eq (text ws 0) (codes "segment") then Ok (scope.Segment (word ws 1))
     else Err why.Scope
 
--- .. LINE CLIENTID own|firm [instrument SYMBOL | segment SEGMENT]
+-- .. LINE CLIENTID own|firm [instrument SYMBOL [dark] | segment SEGMENT]
 abbrev pub mass_said : Words → Result (ℕ × Request) Misread
 mass_said ws =
     of_least 4 ws (
@@ -252,6 +273,14 @@ style_of ws =
     if (length ws == 2) && bytes_eq (text ws 1) (codes "hex") then Ok (command.Print style.Hex)
     else if (length ws == 2) && bytes_eq (text ws 1) (codes "text") then Ok (command.Print style.Text)
     else Err why.Style
+
+-- midpoint INSTRUMENT PRICE|none
+abbrev pub midpoint_said : List ℕ → Result (Option Price) Misread
+midpoint_said w = if bytes_eq w (codes "none") then Ok None else (price_of w then λ p. Ok (Some p))
+
+abbrev pub midpoint_of : Words → Result Command Misread
+midpoint_of ws =
+    of_count 3 ws (number_of (text ws 1) then λ i. midpoint_said (text ws 2) then λ p. Ok (command.Midpoint i p))
 
 -- ---- all of them, by the first word
 
@@ -298,6 +327,7 @@ by_verb verb.Repeat ws = repeat_of ws.now
 by_verb verb.Pull ws = alone_of ws.now (command.Cable cable.Pull)
 by_verb verb.Reconnect ws = alone_of ws.now (command.Cable cable.Reconnect)
 by_verb verb.Catch ws = catch_of ws.now
+by_verb verb.Midpoint ws = midpoint_of ws.now
 
 abbrev pub of_verb : Option Verb → Bor Words → Result Command Misread
 of_verb None ws = Err why.Name
@@ -315,4 +345,5 @@ is_call (command.Request line r) = true
 is_call command.Run = true
 is_call (command.Drain line) = true
 is_call (command.Download line) = true
+is_call (command.Midpoint i p) = true
 is_call c = false

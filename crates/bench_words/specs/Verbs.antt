@@ -49,6 +49,7 @@ name_of verb.Repeat = codes "repeat"
 name_of verb.Pull = codes "pull"
 name_of verb.Reconnect = codes "reconnect"
 name_of verb.Catch = codes "catch"
+name_of verb.Midpoint = codes "midpoint"
 
 -- what has this word
 abbrev pub verb_of : List ℕ → Option Verb

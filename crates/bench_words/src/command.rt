@@ -1,13 +1,13 @@
 // What a line of a script asks for, read from its words.
 ghost use Rattle.std.specs.Prelude.{◌≡◌};
-ghost use Rattle.bench_words.specs.Commands.{alone_of, ask_of, at_time, behind_of, by_verb, bytes_said, catch_of, command_of, cancel_of, cancel_trade_of, comp_id_of, deliver_of, firm_of, instrument_of, is_call, is_lit, is_played, lifetime_of, line_lost_of, live_of, lone_of, marked_of, mass_cancel_of, mass_said, matcher_of, message_of, missed_of, on_line, order_of, preview_mass_cancel_of, preview_of, real_time_of, recovered_of, recovery_of, repeat_of, replace_of, scope_of, show_of, store_of, style_of, tape_said};
+ghost use Rattle.bench_words.specs.Commands.{alone_of, ask_of, at_time, behind_of, book_of, by_verb, bytes_said, cancel_of, cancel_trade_of, catch_of, command_of, comp_id_of, deliver_of, firm_of, instrument_of, is_call, is_dark, is_lit, is_pair, is_played, line_lost_of, live_of, lone_of, marked_of, mass_cancel_of, mass_said, matcher_of, message_of, midpoint_of, midpoint_said, missed_of, on_line, order_of, preview_mass_cancel_of, preview_of, real_time_of, recovered_of, recovery_of, repeat_of, replace_of, scope_of, show_of, store_of, style_of, tape_said, waits_of};
 
 use crate::bytes::Bytes;
 use crate::misread::Misread;
 use crate::tape::Tape;
 use crate::verb::Verb;
 use crate::words;
-use codes::order::Side;
+use codes::order::{Book, Side};
 use terms::lifetime::Lifetime;
 use terms::pricing::Pricing;
 use texts::values::{Price, Time};
@@ -29,6 +29,10 @@ pub enum Setup<'a> {
     },
     /// The lit book.
     Lit,
+    /// The dark midpoint book.
+    Dark,
+    /// Both of them, as one.
+    Pair,
     Tape(Tape<'a>),
     /// A store of records, with so many places.
     Records(usize),
@@ -85,7 +89,8 @@ pub enum Cable {
 #[derive(Clone, Copy)]
 pub enum Scope<'a> {
     All,
-    Instrument(&'a str),
+    /// The orders of an instrument in a book.
+    Instrument(&'a str, Book),
     Segment(&'a str),
 }
 
@@ -105,12 +110,14 @@ pub enum Request<'a> {
         lifetime: Lifetime,
         /// Whether it ends with the line, where the CompID is so configured.
         marked: bool,
+        book: Book,
     },
     Cancel {
         symbol: &'a str,
         side: Side,
         client: &'a str,
         original: &'a str,
+        book: Book,
     },
     Replace {
         symbol: &'a str,
@@ -121,6 +128,7 @@ pub enum Request<'a> {
         original: &'a str,
         /// The one that the order has, which no replacement changes.
         lifetime: Lifetime,
+        book: Book,
     },
     MassCancel {
         client: &'a str,
@@ -165,6 +173,8 @@ pub enum Command<'a> {
     /// What the follower knows.
     Follower,
     Show(Bytes<'a>),
+    /// The midpoint of the instrument of a number, or that it has none.
+    Midpoint(usize, Option<Price>),
     /// The time of the requests and events that follow.
     Clock(Time),
     Print(Style),
@@ -179,6 +189,7 @@ impl Command<'_> {
             Command::Call(_) | Command::Desk(_) | Command::Cable(_) | Command::Request(_, _) =>
                 true,
             Command::Run | Command::Drain(_) | Command::Download(_) => true,
+            Command::Midpoint(_, _) => true,
             _ => false,
         }
     }
@@ -325,6 +336,18 @@ fn is_lit(words: &[&str]) -> bool
     matches!(*words, [_, "lit"])
 }
 
+fn is_dark(words: &[&str]) -> bool
+    ensures { result ≡ is_dark words.now }
+{
+    matches!(*words, [_, "dark"])
+}
+
+fn is_pair(words: &[&str]) -> bool
+    ensures { result ≡ is_pair words.now }
+{
+    matches!(*words, [_, "pair"])
+}
+
 fn is_played(words: &[&str]) -> bool
     ensures { result ≡ is_played words.now }
 {
@@ -336,6 +359,10 @@ fn matcher<'a>(words: &'a [&'a str]) -> Result<Command<'a>, Misread>
 {
     if is_lit(words) {
         Ok(Command::Setup(Setup::Lit))
+    } else if is_dark(words) {
+        Ok(Command::Setup(Setup::Dark))
+    } else if is_pair(words) {
+        Ok(Command::Setup(Setup::Pair))
     } else if is_played(words) {
         tape(words)
     } else {
@@ -412,35 +439,44 @@ fn styled<'a>(words: &[&'a str]) -> Result<Command<'a>, Misread>
     }
 }
 
-// The words behind an order's lifetime: none, or that it is marked.
-fn is_marked(words: &[&str]) -> Result<bool, Misread>
+// The words behind all others of a request: none, or that it is for the dark book.
+fn book(words: &[&str]) -> Result<Book, Misread>
+    ensures { result ≡ book_of words.now }
+{
+    match *words {
+        [] => Ok(Book::Integrated),
+        ["dark"] => Ok(Book::DarkMidpoint),
+        _ => Err(Misread::Count),
+    }
+}
+
+// The words behind an order's lifetime: whether it is marked, and its book.
+fn marked(words: &[&str]) -> Result<(bool, Book), Misread>
     ensures { result ≡ marked_of words.now }
 {
     match *words {
-        [] => Ok(false),
-        ["marked"] => Ok(true),
-        _ => Err(Misread::Count),
+        ["marked", ref rest @ ..] => Ok((true, book(rest)?)),
+        _ => Ok((false, book(words)?)),
     }
 }
 
-// The words behind an order: how long it waits, and whether it is marked.
-fn behind(words: &[&str]) -> Result<(Lifetime, bool), Misread>
+// The words behind an order: how long it waits, whether it is marked, and its book.
+fn behind(words: &[&str]) -> Result<(Lifetime, (bool, Book)), Misread>
     ensures { result ≡ behind_of words.now }
 {
     match *words {
-        ["ioc", ref rest @ ..] => Ok((Lifetime::ImmediateOrCancel, is_marked(rest)?)),
-        _ => Ok((Lifetime::Day, is_marked(words)?)),
+        ["ioc", ref rest @ ..] => Ok((Lifetime::ImmediateOrCancel, marked(rest)?)),
+        _ => Ok((Lifetime::Day, marked(words)?)),
     }
 }
 
-// The words behind a replacement: none, or how long the order waits.
-fn lifetime(words: &[&str]) -> Result<Lifetime, Misread>
-    ensures { result ≡ lifetime_of words.now }
+// The words behind a replacement: how long the order waits, and its book.
+fn waits(words: &[&str]) -> Result<(Lifetime, Book), Misread>
+    ensures { result ≡ waits_of words.now }
 {
     match *words {
-        [] => Ok(Lifetime::Day),
-        ["ioc"] => Ok(Lifetime::ImmediateOrCancel),
-        _ => Err(Misread::Count),
+        ["ioc", ref rest @ ..] => Ok((Lifetime::ImmediateOrCancel, book(rest)?)),
+        _ => Ok((Lifetime::Day, book(words)?)),
     }
 }
 
@@ -453,7 +489,7 @@ fn order<'a>(side: Side, words: &[&'a str]) -> Result<Command<'a>, Misread>
     let line = words::line(line)?;
     let shares = words::shares(shares)?;
     let pricing = words::pricing(price)?;
-    let (lifetime, marked) = behind(rest)?;
+    let (lifetime, (marked, book)) = behind(rest)?;
     let order = Request::Order {
         side,
         symbol,
@@ -462,6 +498,7 @@ fn order<'a>(side: Side, words: &[&'a str]) -> Result<Command<'a>, Misread>
         client,
         lifetime,
         marked,
+        book,
     };
     Ok(Command::Request(line, order))
 }
@@ -469,9 +506,10 @@ fn order<'a>(side: Side, words: &[&'a str]) -> Result<Command<'a>, Misread>
 fn cancel<'a>(words: &[&'a str]) -> Result<Command<'a>, Misread>
     ensures { result ≡ cancel_of words.now }
 {
-    let [_, line, symbol, side, client, original] = *words else {
+    let [_, line, symbol, side, client, original, ref rest @ ..] = *words else {
         return Err(Misread::Count);
     };
+    let book = book(rest)?;
     let line = words::line(line)?;
     let side = words::side(side)?;
     let cancel = Request::Cancel {
@@ -479,6 +517,7 @@ fn cancel<'a>(words: &[&'a str]) -> Result<Command<'a>, Misread>
         side,
         client,
         original,
+        book,
     };
     Ok(Command::Request(line, cancel))
 }
@@ -500,7 +539,7 @@ fn replace<'a>(words: &[&'a str]) -> Result<Command<'a>, Misread>
     else {
         return Err(Misread::Count);
     };
-    let lifetime = lifetime(rest)?;
+    let (lifetime, book) = waits(rest)?;
     let line = words::line(line)?;
     let side = words::side(side)?;
     let shares = words::shares(shares)?;
@@ -513,6 +552,7 @@ fn replace<'a>(words: &[&'a str]) -> Result<Command<'a>, Misread>
         client,
         original,
         lifetime,
+        book,
     };
     Ok(Command::Request(line, replace))
 }
@@ -532,7 +572,8 @@ fn scoped<'a>(words: &[&'a str]) -> Result<Scope<'a>, Misread>
 {
     match *words {
         [] => Ok(Scope::All),
-        ["instrument", symbol] => Ok(Scope::Instrument(symbol)),
+        ["instrument", symbol] => Ok(Scope::Instrument(symbol, Book::Integrated)),
+        ["instrument", symbol, "dark"] => Ok(Scope::Instrument(symbol, Book::DarkMidpoint)),
         ["segment", segment] => Ok(Scope::Segment(segment)),
         _ => Err(Misread::Scope),
     }
@@ -593,6 +634,27 @@ fn missed<'a>(words: &[&'a str]) -> Result<Command<'a>, Misread>
     Ok(Command::Request(line, Request::Missed { partition, last }))
 }
 
+// A midpoint, or that there is none.
+fn midpoint_price(word: &str) -> Result<Option<Price>, Misread>
+    ensures { result ≡ midpoint_said word.now }
+{
+    if word == "none" {
+        return Ok(None);
+    }
+    Ok(Some(words::price(word)?))
+}
+
+fn midpoint<'a>(words: &[&'a str]) -> Result<Command<'a>, Misread>
+    ensures { result ≡ midpoint_of words.now }
+{
+    let [_, instrument, price] = *words else {
+        return Err(Misread::Count);
+    };
+    let instrument = words::count(instrument)?;
+    let price = midpoint_price(price)?;
+    Ok(Command::Midpoint(instrument, price))
+}
+
 fn by_verb<'a>(verb: Verb, words: &'a [&'a str]) -> Result<Command<'a>, Misread>
     ensures { result ≡ by_verb verb words.entry }
 {
@@ -639,6 +701,7 @@ fn by_verb<'a>(verb: Verb, words: &'a [&'a str]) -> Result<Command<'a>, Misread>
         Verb::Pull => alone(words, Command::Cable(Cable::Pull)),
         Verb::Reconnect => alone(words, Command::Cable(Cable::Reconnect)),
         Verb::Catch => catch_up(words),
+        Verb::Midpoint => midpoint(words),
     }
 }
 

@@ -58,15 +58,17 @@ impl Letter {
                 client,
                 lifetime,
                 marked,
+                book,
             } => Ok(Letter::Order(Order::new(
-                side, symbol, shares, pricing, client, lifetime, marked,
+                side, symbol, shares, pricing, client, lifetime, marked, book,
             )?)),
             Request::Cancel {
                 symbol,
                 side,
                 client,
                 original,
-            } => Ok(Letter::Cancel(Cancel::new(symbol, side, client, original)?)),
+                book,
+            } => Ok(Letter::Cancel(Cancel::new(symbol, side, client, original, book)?)),
             Request::Replace {
                 symbol,
                 side,
@@ -75,8 +77,9 @@ impl Letter {
                 client,
                 original,
                 lifetime,
+                book,
             } => Ok(Letter::Replace(Replace::new(
-                symbol, side, shares, price, client, original, lifetime,
+                symbol, side, shares, price, client, original, lifetime, book,
             )?)),
             Request::MassCancel {
                 client,

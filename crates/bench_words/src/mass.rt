@@ -16,11 +16,11 @@ use texts::names::{Segment, Symbol};
 #[derive(Clone, Copy)]
 pub enum Take {
     All,
-    Instrument(Symbol),
+    Instrument(Symbol, Book),
     Segment(Segment),
 }
 
-/// A mass cancel, by instrument of the integrated book.
+/// A mass cancel, by instrument of one book.
 #[derive(Clone, Copy)]
 pub struct MassCancel {
     client: RequestId,
@@ -34,7 +34,7 @@ fn taken(scope: Scope<'_>) -> Result<Take, Misread>
 {
     match scope {
         Scope::All => Ok(Take::All),
-        Scope::Instrument(symbol) => Ok(Take::Instrument(fields::symbol(symbol)?)),
+        Scope::Instrument(symbol, book) => Ok(Take::Instrument(fields::symbol(symbol)?, book)),
         Scope::Segment(segment) => Ok(Take::Segment(fields::segment(segment)?)),
     }
 }
@@ -45,11 +45,11 @@ fn scope_of<'a>(firm: bool, take: &'a Take) -> MessageScope<'a>
     match (firm, take) {
         (false, Take::All) => MessageScope::CompId,
         (true, Take::All) => MessageScope::Firm,
-        (false, Take::Instrument(symbol)) => {
-            MessageScope::CompIdInstrument(symbol.as_text(), Book::Integrated)
+        (false, Take::Instrument(symbol, book)) => {
+            MessageScope::CompIdInstrument(symbol.as_text(), *book)
         }
-        (true, Take::Instrument(symbol)) => {
-            MessageScope::FirmInstrument(symbol.as_text(), Book::Integrated)
+        (true, Take::Instrument(symbol, book)) => {
+            MessageScope::FirmInstrument(symbol.as_text(), *book)
         }
         (false, Take::Segment(segment)) => MessageScope::CompIdSegment(segment.as_text()),
         (true, Take::Segment(segment)) => MessageScope::FirmSegment(segment.as_text()),

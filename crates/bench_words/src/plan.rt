@@ -3,7 +3,7 @@
 use crate::command::{Request, Scope};
 use crate::letter::Letter;
 use crate::session::Sender;
-use codes::order::Side;
+use codes::order::{Book, Side};
 use configuration::config::{Config, StartRefusal};
 use configuration::instrument::Instrument;
 use configuration::participant::Participant;
@@ -110,7 +110,16 @@ fn shares(order: usize) -> i32 {
     (order % 7) as i32 * 10 + 100
 }
 
-fn new_order(heap: Global, order: usize) -> Result<Asked, AllocError> {
+// Every second order is for the dark book, in a day that has one.
+fn book(order: usize, dark: bool) -> Book {
+    if dark && order % 2 == 1 {
+        Book::DarkMidpoint
+    } else {
+        Book::Integrated
+    }
+}
+
+fn new_order(heap: Global, order: usize, dark: bool) -> Result<Asked, AllocError> {
     let client = format!(in heap; "c{order}")?;
     let request = Request::Order {
         side: side(order),
@@ -120,11 +129,12 @@ fn new_order(heap: Global, order: usize) -> Result<Asked, AllocError> {
         client: client.as_str(),
         lifetime: Lifetime::Day,
         marked: order % 8 == 0,
+        book: book(order, dark),
     };
     built(heap, order % LINES, &request)
 }
 
-fn replace(heap: Global, order: usize) -> Result<Asked, AllocError> {
+fn replace(heap: Global, order: usize, dark: bool) -> Result<Asked, AllocError> {
     let client = format!(in heap; "r{order}")?;
     let original = format!(in heap; "c{order}")?;
     let request = Request::Replace {
@@ -135,11 +145,12 @@ fn replace(heap: Global, order: usize) -> Result<Asked, AllocError> {
         client: client.as_str(),
         original: original.as_str(),
         lifetime: Lifetime::Day,
+        book: book(order, dark),
     };
     built(heap, order % LINES, &request)
 }
 
-fn cancel(heap: Global, order: usize) -> Result<Asked, AllocError> {
+fn cancel(heap: Global, order: usize, dark: bool) -> Result<Asked, AllocError> {
     let client = format!(in heap; "x{order}")?;
     let original = format!(in heap; "r{order}")?;
     let request = Request::Cancel {
@@ -147,6 +158,7 @@ fn cancel(heap: Global, order: usize) -> Result<Asked, AllocError> {
         side: side(order),
         client: client.as_str(),
         original: original.as_str(),
+        book: book(order, dark),
     };
     built(heap, order % LINES, &request)
 }
@@ -156,8 +168,8 @@ pub fn missed(heap: Global, line: usize, partition: i8, last: u32) -> Result<Ask
     built(heap, line, &Request::Missed { partition, last })
 }
 
-/// The requests of such a day.
-pub fn made_up(heap: Global) -> Result<Plan, AllocError> {
+/// The requests of such a day, with a dark book or without.
+pub fn made_up(heap: Global, dark: bool) -> Result<Plan, AllocError> {
     let mut logons = Vec::new(heap);
     let mut mass_cancels = Vec::new(heap);
     for line in 0..LINES {
@@ -173,10 +185,10 @@ pub fn made_up(heap: Global) -> Result<Plan, AllocError> {
     let mut replaces = Vec::new(heap);
     let mut cancels = Vec::new(heap);
     for order in 0..ORDERS {
-        orders.push(new_order(heap, order)?)?;
-        replaces.push(replace(heap, order)?)?;
+        orders.push(new_order(heap, order, dark)?)?;
+        replaces.push(replace(heap, order, dark)?)?;
         if order % 4 == 0 {
-            cancels.push(cancel(heap, order)?)?;
+            cancels.push(cancel(heap, order, dark)?)?;
         }
     }
     Ok(Plan {

@@ -2,12 +2,13 @@
 ghost use Rattle.std.specs.Prelude.{◌≡◌, [], IfOk};
 ghost use Rattle.std.specs.Result.{result_err};
 ghost use Rattle.texts.specs.Bytes.{said};
-ghost use Rattle.bench_words.specs.Marks.{auto_cancel_of, time_in_force_of};
+ghost use Rattle.bench_words.specs.Marks.{auto_cancel_of, target_of, time_in_force_of};
 
 use crate::fields;
 use crate::misread::Misread;
 use codes::order::{
-    AutoCancel, Book, ClearingAccount, OrderCapacity, OrderSubType, PassiveOnly, Side, TimeInForce,
+    AutoCancel, Book, ClearingAccount, ExecInstruction, OrderCapacity, OrderSubType, PassiveOnly,
+    Side, TimeInForce,
 };
 use order_messages::new_order::NewOrder;
 use order_messages::order_cancel_replace_request::OrderCancelReplaceRequest;
@@ -19,7 +20,7 @@ use texts::fixed::{FixedText, RequestId};
 use texts::names::{Account, ClientOrderId, Symbol, TraderId};
 use texts::values::Price;
 
-/// An order of a house account, as principal, for the integrated book.
+/// An order of a house account, as principal.
 #[derive(Clone, Copy)]
 pub struct Order {
     client: RequestId,
@@ -29,6 +30,7 @@ pub struct Order {
     pricing: Pricing,
     lifetime: Lifetime,
     marked: bool,
+    book: Book,
     trader: TraderId,
     account: Account,
     ghost nobody: { said trader.bytes ≡ [] },
@@ -54,6 +56,15 @@ fn time_in_force(lifetime: Lifetime) -> TimeInForce
     }
 }
 
+fn target(book: Book) -> Target
+    ensures { result ≡ target_of book }
+{
+    match book {
+        Book::DarkMidpoint => Target::DarkMidpoint(ExecInstruction::ContinuousAndPeriodic),
+        Book::Integrated => Target::Integrated,
+    }
+}
+
 impl Order {
     ghost use Rattle.order_messages.specs.Requests.{new_order_contents};
     ghost use Rattle.bench_words.specs.Letters.{order_contents, order_wrong, order_asked};
@@ -67,10 +78,11 @@ impl Order {
         client: &str,
         lifetime: Lifetime,
         marked: bool,
+        book: Book,
     ) -> Result<Order, Misread>
         ensures wrong { result_err result ≡ order_wrong symbol.now client.now }
         ensures asked { IfOk result (λ o. order_contents o
-            ≡ order_asked side symbol.now shares pricing client.now lifetime marked) }
+            ≡ order_asked side symbol.now shares pricing client.now lifetime marked book) }
     {
         let symbol = fields::symbol(symbol)?;
         let client = fields::client(client)?;
@@ -82,6 +94,7 @@ impl Order {
             pricing,
             lifetime,
             marked,
+            book,
             trader: FixedText::empty(),
             account: FixedText::empty(),
         })
@@ -106,7 +119,7 @@ impl Order {
             capacity: OrderCapacity::Principal,
             auto_cancel: auto_cancel(self.marked),
             sub_type: OrderSubType::Order,
-            target: Target::Integrated,
+            target: target(self.book),
             min_quantity: 0,
             passive_only: PassiveOnly::NoConstraint,
         }
@@ -120,6 +133,7 @@ pub struct Cancel {
     original: ClientOrderId,
     symbol: Symbol,
     side: Side,
+    book: Book,
 }
 
 impl Cancel {
@@ -127,9 +141,15 @@ impl Cancel {
     ghost use Rattle.bench_words.specs.Letters.{cancel_contents, cancel_wrong, cancel_asked};
 
     /// A cancel whose words fit, or the first that does not.
-    pub fn new(symbol: &str, side: Side, client: &str, original: &str) -> Result<Cancel, Misread>
+    pub fn new(
+        symbol: &str,
+        side: Side,
+        client: &str,
+        original: &str,
+        book: Book,
+    ) -> Result<Cancel, Misread>
         ensures wrong { result_err result ≡ cancel_wrong symbol.now client.now original.now }
-        ensures asked { IfOk result (λ c. cancel_contents c ≡ cancel_asked symbol.now side client.now original.now) }
+        ensures asked { IfOk result (λ c. cancel_contents c ≡ cancel_asked symbol.now side client.now original.now book) }
     {
         let symbol = fields::symbol(symbol)?;
         let client = fields::client(client)?;
@@ -139,6 +159,7 @@ impl Cancel {
             original,
             symbol,
             side,
+            book,
         })
     }
 
@@ -152,7 +173,7 @@ impl Cancel {
             order_id: None,
             symbol: self.symbol.as_text(),
             side: self.side,
-            book: Book::Integrated,
+            book: self.book,
         }
     }
 }
@@ -167,6 +188,7 @@ pub struct Replace {
     shares: i32,
     price: Price,
     lifetime: Lifetime,
+    book: Book,
     account: Account,
     ghost none: { said account.bytes ≡ [] },
 }
@@ -184,10 +206,11 @@ impl Replace {
         client: &str,
         original: &str,
         lifetime: Lifetime,
+        book: Book,
     ) -> Result<Replace, Misread>
         ensures wrong { result_err result ≡ cancel_wrong symbol.now client.now original.now }
         ensures asked { IfOk result (λ r. replace_contents r
-            ≡ replace_asked symbol.now side shares price client.now original.now lifetime) }
+            ≡ replace_asked symbol.now side shares price client.now original.now lifetime book) }
     {
         let symbol = fields::symbol(symbol)?;
         let client = fields::client(client)?;
@@ -200,6 +223,7 @@ impl Replace {
             shares,
             price,
             lifetime,
+            book,
             account: FixedText::empty(),
         })
     }
@@ -220,7 +244,7 @@ impl Replace {
             account: self.account.as_text(),
             time_in_force: time_in_force(self.lifetime),
             side: self.side,
-            target: Target::Integrated,
+            target: target(self.book),
             min_quantity: 0,
             passive_only: PassiveOnly::NoConstraint,
         }

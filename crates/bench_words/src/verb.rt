@@ -47,10 +47,11 @@ pub enum Verb {
     Pull,
     Reconnect,
     Catch,
+    Midpoint,
 }
 
 /// All that a line can ask for.
-pub const VERBS: [Verb; 42] = [
+pub const VERBS: [Verb; 43] = [
     Verb::CompId,
     Verb::Instrument,
     Verb::Matcher,
@@ -93,6 +94,7 @@ pub const VERBS: [Verb; 42] = [
     Verb::Pull,
     Verb::Reconnect,
     Verb::Catch,
+    Verb::Midpoint,
 ];
 
 impl Verb {
@@ -143,6 +145,7 @@ impl Verb {
             Verb::Pull => "pull",
             Verb::Reconnect => "reconnect",
             Verb::Catch => "catch",
+            Verb::Midpoint => "midpoint",
         }
     }
 

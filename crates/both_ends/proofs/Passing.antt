@@ -16,12 +16,13 @@ use Rattle.both_ends.specs.declared.call.Call.TheVariants as call
 use Rattle.both_ends.specs.declared.call.Done.{Done}
 use Rattle.both_ends.specs.declared.call.Done.TheVariants as done
 use Rattle.both_ends.specs.declared.entry.Entry.{Entry}
-use Rattle.both_ends.specs.declared.entry.Entry.TheVariants.{Made, Asked as Answered}
+use Rattle.both_ends.specs.declared.entry.Entry.TheVariants.{Made, Midpoint, Asked as Answered}
 use Rattle.both_ends.specs.declared.entry.Step.{Step}
 use Rattle.both_ends.specs.declared.entry.Step.TheVariants.{Make, Ask}
 use Rattle.gateway.specs.State.{State}
 use Rattle.gateway_runs.specs.declared.call.Call.{Call as VenueCall}
 use Rattle.matching.specs.Asked.{Asked}
+use Rattle.texts.specs.declared.values.Price.{Price}
 use Rattle.venue.specs.Books.{Over}
 
 -- ---- lists with one thing more
@@ -44,24 +45,28 @@ last_same (a ∷ xs) (b ∷ ys) x y e = last_same xs ys x y (let z : xs ++ x ∷
 pub made_push : {Q A : Type 0} (xs : List (Entry Q A)) (z : Done) → made (xs ++ Made z ∷ []) ≡ made xs ++ z ∷ []
 made_push [] z = refl
 made_push (Made a ∷ xs) z = ap (λ ys. a ∷ ys) (made_push xs z)
+made_push (Midpoint i p r ∷ xs) z = made_push xs z
 made_push (Answered q a ∷ xs) z = made_push xs z
 
 pub made_more : {Q A : Type 0} (xs : List (Entry Q A)) (zs : List Done) → made (xs ++ map Made zs) ≡ made xs ++ zs
 made_more [] [] = refl
 made_more [] (z ∷ zs) = ap (λ ys. z ∷ ys) (made_more [] zs)
 made_more (Made a ∷ xs) zs = ap (λ ys. a ∷ ys) (made_more xs zs)
+made_more (Midpoint i p r ∷ xs) zs = made_more xs zs
 made_more (Answered q a ∷ xs) zs = made_more xs zs
 
-module _ {M Q A : Type 0} (did : M → Asked → M → Type 0) (answer : Answer Q A) where
+module _ {M Q A : Type 0} (did : M → Asked → M → Type 0) (guided : Bool)
+    (learns : M → ℕ → Option Price → Bool → M → Type 0) (answer : Answer Q A) where
   -- ---- one call
 
   made_is : (x : Call) (a : Entry Q A) → step_of a ≡ Make x → (z : Done) × (a ≡ Made z) × (call_of z ≡ x)
   made_is x (Made z) e = (z, refl, cc)
+  made_is x (Midpoint i p r) e = absurd cc
   made_is x (Answered q a) e = absurd cc
 
   -- what was made is what stands last
   pub passes : (x : Call) (b e : Ends M Q A) (o : Option (Bor (Entry Q A))) (bytes : Message)
-      → Steps did answer (Make x) b e → IsLast e.log o → bytes ≡ left_in o → Passes did x bytes b e
+      → Steps did guided learns answer (Make x) b e → IsLast e.log o → bytes ≡ left_in o → Passes did x bytes b e
   passes x b e None bytes s last is = absurd (no_last b.log s.entry (sym s.log ∙ last))
     where
       no_last : (xs : List (Entry Q A)) (y : Entry Q A) → xs ++ y ∷ [] ≡ [] → ⊥
@@ -76,12 +81,12 @@ module _ {M Q A : Type 0} (did : M → Asked → M → Type 0) (answer : Answer 
         left = is ∙ ap entry_left same;
         adds = record {
           log = s.log ∙ ap (λ y. b.log ++ y ∷ []) h;
-          moves = subst (λ y. Takes did answer b.gateway b.desk y e.gateway e.desk) h s.takes;
+          moves = subst (λ y. Takes did guided learns answer b.gateway b.desk y e.gateway e.desk) h s.takes;
         };
       }
 
   -- a message was given to the follower on the recovery channel
-  pub gave : (v : Vec ℕ Global) (b e : Ends M Q A) → Steps did answer (Make (call.Recovered v)) b e
+  pub gave : (v : Vec ℕ Global) (b e : Ends M Q A) → Steps did guided learns answer (Make (call.Recovered v)) b e
       → (z : Done) × IsGiven v.items z × Adds did z b e
   gave v b e s =
       let (z, h, k) = made_is (call.Recovered v) s.entry s.same in (
@@ -89,7 +94,7 @@ module _ {M Q A : Type 0} (did : M → Asked → M → Type 0) (answer : Answer 
         given z k,
         record {
           log = s.log ∙ ap (λ y. b.log ++ y ∷ []) h;
-          moves = subst (λ y. Takes did answer b.gateway b.desk y e.gateway e.desk) h s.takes;
+          moves = subst (λ y. Takes did guided learns answer b.gateway b.desk y e.gateway e.desk) h s.takes;
         },
       )
     where
@@ -104,17 +109,17 @@ module _ {M Q A : Type 0} (did : M → Asked → M → Type 0) (answer : Answer 
   -- ---- more calls
 
   abbrev goes_one : (b e : Ends M Q A) (z : Done) → Adds did z b e
-      → Goes did answer b.gateway b.desk (map Made (z ∷ [])) e.gateway e.desk
+      → Goes did guided learns answer b.gateway b.desk (map Made (z ∷ [])) e.gateway e.desk
   goes_one b e z a = (e.gateway, e.desk, a.moves, (refl, refl))
 
   goes_both : (x : Over State M) (d : Desk) (xs : List (Entry Q A)) (y : Over State M) (f : Desk) (ys : List (Entry Q A))
-      (z : Over State M) (e : Desk) → Goes did answer x d xs y f → Goes did answer y f ys z e
-      → Goes did answer x d (xs ++ ys) z e
+      (z : Over State M) (e : Desk) → Goes did guided learns answer x d xs y f → Goes did guided learns answer y f ys z e
+      → Goes did guided learns answer x d (xs ++ ys) z e
   goes_both x d [] y f ys z e (h, i) g =
-      subst (λ (u : Over State M). Goes did answer u d ys z e) h (subst (λ j. Goes did answer y j ys z e) i g)
+      subst (λ (u : Over State M). Goes did guided learns answer u d ys z e) h (subst (λ j. Goes did guided learns answer y j ys z e) i g)
   goes_both x d (a ∷ xs) y f ys z e (u, j, k, r) g = (u, j, k, goes_both u j xs y f ys z e r g)
 
-  pub no_downloads : (c : ℕ) (b e : Ends M Q A) → e ≡ b → Downloads did answer c b e
+  pub no_downloads : (c : ℕ) (b e : Ends M Q A) → e ≡ b → Downloads did guided learns answer c b e
   no_downloads c b e h = record {
     calls = [];
     only = All-nil (IsOfDownload c);
@@ -123,17 +128,17 @@ module _ {M Q A : Type 0} (did : M → Asked → M → Type 0) (answer : Answer 
   }
 
   pub one_download : (c : ℕ) (b e : Ends M Q A) (z : Done) → IsOfDownload c z → Adds did z b e
-      → Downloads did answer c b e
+      → Downloads did guided learns answer c b e
   one_download c b e z o a = record { calls = z ∷ []; only = All-cons (IsOfDownload c) z [] o (All-nil (IsOfDownload c)); log = a.log; goes = goes_one b e z a }
 
-  pub more_downloads : (c : ℕ) (b m e : Ends M Q A) → Downloads did answer c b m → Downloads did answer c m e
-      → Downloads did answer c b e
+  pub more_downloads : (c : ℕ) (b m e : Ends M Q A) → Downloads did guided learns answer c b m → Downloads did guided learns answer c m e
+      → Downloads did guided learns answer c b e
   more_downloads c b m e h g = record {
     calls = h.calls ++ g.calls;
     only = All-append (IsOfDownload c) h.calls g.calls h.only g.only;
     log = g.log ∙ (ap (λ xs. xs ++ map Made g.calls) h.log ∙ (append_assoc b.log (map Made h.calls) (map Made g.calls)
         ∙ ap (λ xs. b.log ++ xs) (sym (map-append Made h.calls g.calls))));
-    goes = subst (λ xs. Goes did answer b.gateway b.desk xs e.gateway e.desk) (sym (map-append Made h.calls g.calls))
+    goes = subst (λ xs. Goes did guided learns answer b.gateway b.desk xs e.gateway e.desk) (sym (map-append Made h.calls g.calls))
         (goes_both b.gateway b.desk (map Made h.calls) m.gateway m.desk (map Made g.calls) e.gateway e.desk h.goes
         g.goes);
   }
@@ -148,12 +153,12 @@ module _ {M Q A : Type 0} (did : M → Asked → M → Type 0) (answer : Answer 
 
   -- a call that was passed, or none
   pub passed_downloads : (c : ℕ) (x : Call) (h : Message) (b e : Ends M Q A) → ((z : Done) → call_of z ≡ x → IsOfDownload c z)
-      → Passes did x h b e → Downloads did answer c b e
+      → Passes did x h b e → Downloads did guided learns answer c b e
   passed_downloads c x h b e of p = one_download c b e p.made (of p.made p.is) p.adds
 
   pub exchanged_downloads : (c : ℕ) (x : VenueCall) (came : Bool) (b e : Ends M Q A)
       → ((z : Done) → call_of z ≡ call.Venue x → IsOfDownload c z) → Exchanges did x came b e
-      → Downloads did answer c b e
+      → Downloads did guided learns answer c b e
   exchanged_downloads c x false b e of p = passed_downloads c (call.Venue x) [] b e of p
   exchanged_downloads c x true b e of (m, h, n, p, z, g, a) =
       more_downloads c b m e (passed_downloads c (call.Venue x) h b m of p)
@@ -161,6 +166,6 @@ module _ {M Q A : Type 0} (did : M → Asked → M → Type 0) (answer : Answer 
 
   pub tried_downloads : (c : ℕ) (x : VenueCall) (b e : Ends M Q A)
       → ((z : Done) → call_of z ≡ call.Venue x → IsOfDownload c z)
-      → (e ≡ b) ⊎ ((h : Message) × Passes did (call.Venue x) h b e) → Downloads did answer c b e
+      → (e ≡ b) ⊎ ((h : Message) × Passes did (call.Venue x) h b e) → Downloads did guided learns answer c b e
   tried_downloads c x b e of (inl h) = no_downloads c b e h
   tried_downloads c x b e of (inr (h, p)) = passed_downloads c (call.Venue x) h b e of p

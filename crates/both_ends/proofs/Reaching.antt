@@ -1,7 +1,7 @@
 -- From a desk that can catch up to one whose every partition is level. Assumes nothing.
 use Rattle.std.specs.Prelude.{nat_lt}
 use Rattle.std.specs.Int.{div_ceil}
-use Rattle.std.proofs.Common.{◌≡◌, ◌≢◌, ◌⊎◌, inl, inr, ℕ, ◌+◌, ◌<◌, ◌≤◌, max, Bool, true, false, cond, List, [], ◌∷◌, ◌++◌, map, Ok, Err, Result, length, refl, sym, ap, ◌∙◌, subst, arith, Vec, Global}
+use Rattle.std.proofs.Common.{◌≡◌, ◌≢◌, ◌⊎◌, inl, inr, ℕ, ◌+◌, ◌<◌, ◌≤◌, max, Bool, true, false, cond, Option, List, [], ◌∷◌, ◌++◌, map, Ok, Err, Result, length, refl, sym, ap, ◌∙◌, subst, arith, Vec, Global}
 use Rattle.std.proofs.lemmas.Bool.{true≢false}
 use Rattle.codes.specs.Session.{partition_code}
 use Rattle.codes.specs.declared.session.Partition.{Partition}
@@ -40,6 +40,7 @@ use Rattle.partitions.specs.declared.per_partition.PerPartition.{PerPartition}
 use Rattle.sessions.specs.Laws.{owned}
 use Rattle.store.specs.Kept.{Kept}
 use Rattle.wire.specs.declared.message.TheConstants.{BUFFER}
+use Rattle.texts.specs.declared.values.Price.{Price}
 
 -- ---- how many downloads
 
@@ -73,14 +74,15 @@ ask_of_download c n buf done.Lost e = absurd cc
 ask_of_download c n buf (done.Live m r) e = absurd cc
 ask_of_download c n buf (done.Recovered m r) e = absurd cc
 
-module _ {M Q A : Type 0} (did : M → Asked → M → Type 0) (answer : Answer Q A) (c : ℕ) where
+module _ {M Q A : Type 0} (did : M → Asked → M → Type 0) (guided : Bool)
+    (learns : M → ℕ → Option Price → Bool → M → Type 0) (answer : Answer Q A) (c : ℕ) where
   abbrev At : Ends M Q A → Type 0
   At b = Reached (made b.log) b.gateway.state b.desk
 
   -- what is reached stays so
-  pub reached_by : (b e : Ends M Q A) → Downloads did answer c b e → At b → At e
+  pub reached_by : (b e : Ends M Q A) → Downloads did guided learns answer c b e → At b → At e
   reached_by b e d (ps, v, r) =
-      let more = run_of did answer b.gateway b.desk (map Made d.calls) e.gateway e.desk d.goes in (
+      let more = run_of did guided learns answer b.gateway b.desk (map Made d.calls) e.gateway e.desk d.goes in (
         ps,
         v,
         subst (λ xs. Runs (fresh_state ps v) fresh xs e.gateway.state e.desk)
@@ -106,15 +108,15 @@ module _ {M Q A : Type 0} (did : M → Asked → M → Type 0) (answer : Answer 
 
   -- what a download of a partition says of both ends, whether it was one
   pub record Tried (p : Partition) (brought : Bool) (b e : Ends M Q A) : Type 0 where
-    pub calls : Downloads did answer c b e
+    pub calls : Downloads did guided learns answer c b e
     pub line : At b → IsOpen c (made b.log) → IsOpen c (made e.log)
     pub whole : Ready c b → granted c b.gateway.state < 48 → (brought ≡ true) × Downloaded c p b e
 
   -- where memory was short nothing was asked, or the answer was not copied
   pub ask_tried : (n : ℕ) (buf : Vec ℕ Global) (b e : Ends M Q A)
-      → (e ≡ b) ⊎ ((h : Message) × Passes did (call.Ask n buf) h b e) → Downloads did answer c b e
-  ask_tried n buf b e (inl h) = no_downloads did answer c b e h
-  ask_tried n buf b e (inr (h, x)) = passed_downloads did answer c (call.Ask n buf) h b e (ask_of_download c n buf) x
+      → (e ≡ b) ⊎ ((h : Message) × Passes did (call.Ask n buf) h b e) → Downloads did guided learns answer c b e
+  ask_tried n buf b e (inl h) = no_downloads did guided learns answer c b e h
+  ask_tried n buf b e (inr (h, x)) = passed_downloads did guided learns answer c (call.Ask n buf) h b e (ask_of_download c n buf) x
 
   pub ask_tried_line : (n : ℕ) (buf : Vec ℕ Global) (b e : Ends M Q A)
       → (e ≡ b) ⊎ ((h : Message) × Passes did (call.Ask n buf) h b e) → At b → IsOpen c (made b.log)
@@ -124,7 +126,7 @@ module _ {M Q A : Type 0} (did : M → Asked → M → Type 0) (answer : Answer 
     where
       by : ((h ≡ []) × IsOpen c (made e.log)) ⊎ IsAsked c h (made e.log) → IsOpen c (made e.log)
       by (inl (n, o)) = o
-      by (inr i) = asked_open did answer c h e i
+      by (inr i) = asked_open did guided learns answer c h e i
 
   -- what stays where asking moved nothing
   from_asked : (p : Partition) (b a e : Ends M Q A) → Unmoved did c b a → Downloaded c p a e → Downloaded c p b e
@@ -167,8 +169,8 @@ module _ {M Q A : Type 0} (did : M → Asked → M → Type 0) (answer : Answer 
 
   module _ (p : Partition) (buf : Vec ℕ Global) (wide : nat_lt (length buf.items) BUFFER ≡ false) (h : Message)
       (b a : Ends M Q A) (x : Passes did (call.Ask (partition_code p) buf) h b a) where
-    pub asks : Downloads did answer c b a
-    asks = passed_downloads did answer c (call.Ask (partition_code p) buf) h b a
+    pub asks : Downloads did guided learns answer c b a
+    asks = passed_downloads did guided learns answer c (call.Ask (partition_code p) buf) h b a
         (ask_of_download c (partition_code p) buf) x
 
     pub asks_line : At b → IsOpen c (made b.log) → IsOpen c (made a.log)
@@ -176,7 +178,7 @@ module _ {M Q A : Type 0} (did : M → Asked → M → Type 0) (answer : Answer 
       where
         by : ((h ≡ []) × IsOpen c (made a.log)) ⊎ IsAsked c h (made a.log) → IsOpen c (made a.log)
         by (inl (n, o)) = o
-        by (inr i) = asked_open did answer c h a i
+        by (inr i) = asked_open did guided learns answer c h a i
 
     pub not_asked : h ≡ [] → Tried p false b a
     not_asked n = record {
@@ -198,13 +200,13 @@ module _ {M Q A : Type 0} (did : M → Asked → M → Type 0) (answer : Answer 
         → IsOpen c (made b.log) → IsOpen c (made e.log)
     loads_line e ne line at was = line (reached_by b a asks at) (was_asked ne at was)
 
-    pub loads : (further : Bool) (e : Ends M Q A) → h ≢ [] → Downloads did answer c a e
+    pub loads : (further : Bool) (e : Ends M Q A) → h ≢ [] → Downloads did guided learns answer c a e
         → (At a → IsAsked c h (made a.log) → IsOpen c (made e.log))
         → ((i : Partition) → Waiting c i h a → granted c a.gateway.state < 48 → Downloaded c i a e)
         → (state_of e.desk p ≡ Level → further ≡ true) → (place e.desk p ≢ place b.desk p → further ≡ true)
         → Tried p further b e
     loads further e ne calls line whole level moved = record {
-      calls = more_downloads did answer c b a e asks calls;
+      calls = more_downloads did guided learns answer c b a e asks calls;
       line = loads_line e ne line;
       whole = λ r some.
           let (w, u) = waits did c p buf h b a r wide x in
@@ -251,20 +253,20 @@ module _ {M Q A : Type 0} (did : M → Asked → M → Type 0) (answer : Answer 
 
   -- behind so many downloads of a partition
   pub record Levelling (p : Partition) (b : Ends M Q A) (k : ℕ) (e : Ends M Q A) : Type 0 where
-    pub calls : Downloads did answer c b e
+    pub calls : Downloads did guided learns answer c b e
     pub line : At b → IsOpen c (made b.log) → IsOpen c (made e.log)
     pub whole : Ready c b → used b + need b p ≤ 48
         → Ready c e × Stays c p k b e × (used e + need e p ≡ used b + need b p)
 
   -- behind all of them
   pub record Reaches (p : Partition) (b e : Ends M Q A) : Type 0 where
-    pub calls : Downloads did answer c b e
+    pub calls : Downloads did guided learns answer c b e
     pub line : At b → IsOpen c (made b.log) → IsOpen c (made e.log)
     pub whole : Ready c b → used b + need b p ≤ 48 → Levelled c p b e
 
   pub none_yet : (p : Partition) (b : Ends M Q A) → Levelling p b 0 b
   none_yet p b = record {
-    calls = no_downloads did answer c b b refl;
+    calls = no_downloads did guided learns answer c b b refl;
     line = λ at was. was;
     whole = λ r n. (r, record { kept = refl; others = λ q ne. refl; granted = omega arith }, refl);
   }
@@ -304,15 +306,15 @@ module _ {M Q A : Type 0} (did : M → Asked → M → Type 0) (answer : Answer 
             let spent = stays.granted in
             absurd (omega arith)
 
-    module _ (g : Ends M Q A) (behind : is_level (state_of e.desk p) ≡ false) (calls : Downloads did answer c e g)
+    module _ (g : Ends M Q A) (behind : is_level (state_of e.desk p) ≡ false) (calls : Downloads did guided learns answer c e g)
         (line : At e → IsOpen c (made e.log) → IsOpen c (made g.log)) where
-      both : Downloads did answer c b g
-      both = more_downloads did answer c b e g l.calls calls
+      both : Downloads did guided learns answer c b g
+      both = more_downloads did guided learns answer c b e g l.calls calls
 
       pub both_line : At b → IsOpen c (made b.log) → IsOpen c (made g.log)
       both_line at was = line (reached_by b e l.calls at) (l.line at was)
 
-      pub both_calls : Downloads did answer c b g
+      pub both_calls : Downloads did guided learns answer c b g
       both_calls = both
 
       few : Ready c b → used b + need b p ≤ 48 → used e < 48
@@ -398,7 +400,7 @@ module _ {M Q A : Type 0} (did : M → Asked → M → Type 0) (answer : Answer 
       by one two three Three = three.level
 
   -- the line goes on, from one partition to the next
-  pub lines_on : (b m e : Ends M Q A) → Downloads did answer c b m
+  pub lines_on : (b m e : Ends M Q A) → Downloads did guided learns answer c b m
       → (At b → IsOpen c (made b.log) → IsOpen c (made m.log)) → (At m → IsOpen c (made m.log) → IsOpen c (made e.log))
       → At b → IsOpen c (made b.log) → IsOpen c (made e.log)
   lines_on b m e d first second at was = second (reached_by b m d at) (first at was)
@@ -425,19 +427,21 @@ module _ {M Q A : Type 0} (did : M → Asked → M → Type 0) (answer : Answer 
       by Failed h = refl
 
 -- the calls of any value of both ends lead there from the start of a day
-pub reached_of : {M Q A : Type 0} (meaning : M → Meaning) (did : M → Asked → M → Type 0) (answer : Answer Q A)
-    (b : Ends M Q A) → Ran meaning did answer b → Reached (made b.log) b.gateway.state b.desk
-reached_of meaning did answer b r = (
+pub reached_of : {M Q A : Type 0} (meaning : M → Meaning) (did : M → Asked → M → Type 0) (guided : Bool)
+    (learns : M → ℕ → Option Price → Bool → M → Type 0) (answer : Answer Q A)
+    (b : Ends M Q A) → Ran meaning did guided learns answer b → Reached (made b.log) b.gateway.state b.desk
+reached_of meaning did guided learns answer b r = (
   r.begins.participants,
   _,
   subst (λ s. Runs s fresh (made b.log) b.gateway.state b.desk) r.begins.is
-      (run_of did answer r.first fresh b.log b.gateway b.desk r.goes),
+      (run_of did guided learns answer r.first fresh b.log b.gateway b.desk r.goes),
 )
 
-pub reached_as : {M Q A : Type 0} (meaning : M → Meaning) (did : M → Asked → M → Type 0) (answer : Answer Q A)
-    (i b : Ends M Q A) → Ran meaning did answer i → i ≡ b → Reached (made b.log) b.gateway.state b.desk
-reached_as {M} {Q} {A} meaning did answer i b r e =
-    subst (λ (j : Ends M Q A). Reached (made j.log) j.gateway.state j.desk) e (reached_of meaning did answer i r)
+pub reached_as : {M Q A : Type 0} (meaning : M → Meaning) (did : M → Asked → M → Type 0) (guided : Bool)
+    (learns : M → ℕ → Option Price → Bool → M → Type 0) (answer : Answer Q A)
+    (i b : Ends M Q A) → Ran meaning did guided learns answer i → i ≡ b → Reached (made b.log) b.gateway.state b.desk
+reached_as {M} {Q} {A} meaning did guided learns answer i b r e =
+    subst (λ (j : Ends M Q A). Reached (made j.log) j.gateway.state j.desk) e (reached_of meaning did guided learns answer i r)
 
 -- what was answered of a log is so of the log
 pub not_failed : {Q A : Type 0} (c : ℕ) (read log : List (Entry Q A)) (r : Bool) → read ≡ log

@@ -8,7 +8,7 @@ use Rattle.both_ends.specs.Asking.{made}
 use Rattle.both_ends.specs.Deciding.{after_entry, onto, verdict}
 use Rattle.both_ends.specs.declared.allowed.Breach.{Breach}
 use Rattle.both_ends.specs.declared.entry.Entry.{Entry}
-use Rattle.both_ends.specs.declared.entry.Entry.TheVariants.{Made, Asked}
+use Rattle.both_ends.specs.declared.entry.Entry.TheVariants.{Made, Midpoint, Asked}
 use Rattle.both_ends.specs.declared.call.Done.{Done}
 
 pub refused_stays : (c : ℕ) (b : Breach) (xs : List Done) → fold (onward c) (Err b) xs ≡ Err b
@@ -18,11 +18,13 @@ module _ {Q A : Type 0} where
   allowed_one : (c : ℕ) (x : Entry Q A) (xs : List (Entry Q A)) (w n : Line) → after_entry c x w ≡ Ok n
       → after_log c (made (x ∷ xs)) w ≡ after_log c (made xs) n
   allowed_one c (Made y) xs w n e = ap (λ s. fold (onward c) s (made xs)) e
+  allowed_one c (Midpoint i p r) xs w n e = let same : w ≡ n = cc in ap (λ l. after_log c (made xs) l) same
   allowed_one c (Asked q a) xs w n e = let same : w ≡ n = cc in ap (λ l. after_log c (made xs) l) same
 
   refused_one : (c : ℕ) (x : Entry Q A) (xs : List (Entry Q A)) (w : Line) (b : Breach) → after_entry c x w ≡ Err b
       → after_log c (made (x ∷ xs)) w ≡ Err b
   refused_one c (Made y) xs w b e = ap (λ s. fold (onward c) s (made xs)) e ∙ refused_stays c b (made xs)
+  refused_one c (Midpoint i p r) xs w b e = absurd cc
   refused_one c (Asked q a) xs w b e = absurd cc
 
   -- the entry at a place is allowed

@@ -1,6 +1,6 @@
 -- Downloads, one after the other, until every partition is level. Assumes nothing.
 use Rattle.std.specs.Prelude.{nat_lt}
-use Rattle.std.proofs.Common.{◌≡◌, ◌≢◌, ◌⊎◌, inl, inr, ℕ, ◌+◌, ◌<◌, ◌≤◌, Bool, true, false, List, [], ◌∷◌, ◌++◌, Ok, Err, Result, length, refl, sym, ap, ◌∙◌, subst, arith, Vec, Global}
+use Rattle.std.proofs.Common.{◌≡◌, ◌≢◌, ◌⊎◌, inl, inr, ℕ, ◌+◌, ◌<◌, ◌≤◌, Bool, true, false, Option, List, [], ◌∷◌, ◌++◌, Ok, Err, Result, length, refl, sym, ap, ◌∙◌, subst, arith, Vec, Global}
 use Rattle.std.proofs.lemmas.Bool.{true≢false}
 use Rattle.codes.specs.declared.session.Partition.{Partition}
 use Rattle.both_ends.proofs.Downloading.{Passed, loads_first, loads_on, passed, recovery_is, sending_is}
@@ -24,6 +24,7 @@ use Rattle.gateway_runs.specs.declared.call.Reply.{Reply}
 use Rattle.matching.specs.Asked.{Asked}
 use Rattle.texts.specs.declared.values.Time.{Time}
 use Rattle.wire.specs.declared.message.TheConstants.{BUFFER}
+use Rattle.texts.specs.declared.values.Price.{Price}
 
 -- ---- the calls of a download
 
@@ -36,7 +37,8 @@ sending_of_download : (c : ℕ) (buf : Vec ℕ Global) (z : Done)
     → call_of z ≡ call.Venue (venue_call.SendRecovered c buf) → IsOfDownload c z
 sending_of_download c buf z e = let (r, is, b) = sending_is c buf z e in subst (IsOfDownload c) (sym is) refl
 
-module _ {M Q A : Type 0} (did : M → Asked → M → Type 0) (answer : Answer Q A) (c : ℕ) where
+module _ {M Q A : Type 0} (did : M → Asked → M → Type 0) (guided : Bool)
+    (learns : M → ℕ → Option Price → Bool → M → Type 0) (answer : Answer Q A) (c : ℕ) where
   -- both ends are reached
   abbrev At : Ends M Q A → Type 0
   At b = Reached (made b.log) b.gateway.state b.desk
@@ -84,20 +86,20 @@ module _ {M Q A : Type 0} (did : M → Asked → M → Type 0) (answer : Answer 
 
   -- behind so many calls for what the download hands out next
   pub record UnderWay (m : Message) (b : Ends M Q A) (k : ℕ) (e : Ends M Q A) : Type 0 where
-    pub calls : Downloads did answer c b e
+    pub calls : Downloads did guided learns answer c b e
     pub clear : At b → IsAsked c m (made b.log) → At e × IsClear c (made e.log)
     pub whole : (p : Partition) → Waiting c p m b → granted c b.gateway.state < 48
         → Loading c p k b e ⊎ Downloaded c p b e
 
   -- behind all that were made
   pub record Loaded (m : Message) (b e : Ends M Q A) : Type 0 where
-    pub calls : Downloads did answer c b e
+    pub calls : Downloads did guided learns answer c b e
     pub line : At b → IsAsked c m (made b.log) → IsOpen c (made e.log)
     pub whole : (p : Partition) → Waiting c p m b → granted c b.gateway.state < 48 → Downloaded c p b e
 
   -- and where memory was short
   pub record Stopped (m : Message) (b e : Ends M Q A) : Type 0 where
-    pub calls : Downloads did answer c b e
+    pub calls : Downloads did guided learns answer c b e
     pub line : At b → IsAsked c m (made b.log) → IsOpen c (made e.log)
 
   module _ (v : Vec ℕ Global) (t : Time) (buf : Vec ℕ Global) (wide : nat_lt (length buf.items) BUFFER ≡ false)
@@ -107,7 +109,7 @@ module _ {M Q A : Type 0} (did : M → Asked → M → Type 0) (answer : Answer 
 
     pub not_granted : (e : Ends M Q A) → Exchanges did first false b e → Loaded v.items b e
     not_granted e x = record {
-      calls = exchanged_downloads did answer c first false b e (recovery_of_download c v t buf) x;
+      calls = exchanged_downloads did guided learns answer c first false b e (recovery_of_download c v t buf) x;
       line = λ at a. clear_open c (made e.log)
           (exchange_clears first false b e (λ h m y. request_leaves v t buf h b m at a y) x).1;
       whole = λ p w some. absurd (true≢false (sym (loads_first did c p v t buf wide b w some false e x).0));
@@ -115,7 +117,7 @@ module _ {M Q A : Type 0} (did : M → Asked → M → Type 0) (answer : Answer 
 
     pub is_granted : (e : Ends M Q A) → Exchanges did first true b e → UnderWay v.items b 0 e
     is_granted e x = record {
-      calls = exchanged_downloads did answer c first true b e (recovery_of_download c v t buf) x;
+      calls = exchanged_downloads did guided learns answer c first true b e (recovery_of_download c v t buf) x;
       clear = λ at a. exchange_clears first true b e (λ h m y. request_leaves v t buf h b m at a y) x;
       whole = λ p w some. inl (loads_first did c p v t buf wide b w some true e x).1;
     }
@@ -123,7 +125,7 @@ module _ {M Q A : Type 0} (did : M → Asked → M → Type 0) (answer : Answer 
     pub not_given : (e : Ends M Q A) → (e ≡ b) ⊎ ((h : Message) × Passes did (call.Venue first) h b e)
         → Stopped v.items b e
     not_given e x = record {
-      calls = tried_downloads did answer c first b e (recovery_of_download c v t buf) x;
+      calls = tried_downloads did guided learns answer c first b e (recovery_of_download c v t buf) x;
       line = λ at a. try_opens first b e (asked_open v.items b a) (λ h m y. request_leaves v t buf h b m at a y) x;
     }
 
@@ -165,8 +167,8 @@ module _ {M Q A : Type 0} (did : M → Asked → M → Type 0) (answer : Answer 
 
       pub not_sent : (g : Ends M Q A) → (g ≡ e) ⊎ ((h : Message) × Passes did (call.Venue again) h e g) → Stopped m b g
       not_sent g x = record {
-        calls = more_downloads did answer c b e g u.calls
-            (tried_downloads did answer c again e g (sending_of_download c buf) x);
+        calls = more_downloads did guided learns answer c b e g u.calls
+            (tried_downloads did guided learns answer c again e g (sending_of_download c buf) x);
         line = λ at a. try_opens again e g (clear_open c (made e.log) (u.clear at a).1) (leaves at a) x;
       }
 
@@ -177,8 +179,8 @@ module _ {M Q A : Type 0} (did : M → Asked → M → Type 0) (answer : Answer 
 
         pub none_out : (g : Ends M Q A) → Exchanges did again false e g → Loaded m b g
         none_out g x = record {
-          calls = more_downloads did answer c b e g u.calls
-              (exchanged_downloads did answer c again false e g (sending_of_download c buf) x);
+          calls = more_downloads did guided learns answer c b e g u.calls
+              (exchanged_downloads did guided learns answer c again false e g (sending_of_download c buf) x);
           line = λ at a. clear_open c (made g.log) (exchange_clears again false e g (leaves at a) x).1;
           whole = λ p w some. absurd (true≢false
               (sym (loads_on did c p k b e (loading p (u.whole p w some)) buf wide false g x).0));
@@ -186,8 +188,8 @@ module _ {M Q A : Type 0} (did : M → Asked → M → Type 0) (answer : Answer 
 
         pub one_out : (g : Ends M Q A) → Exchanges did again true e g → UnderWay m b (k + 1) g
         one_out g x = record {
-          calls = more_downloads did answer c b e g u.calls
-              (exchanged_downloads did answer c again true e g (sending_of_download c buf) x);
+          calls = more_downloads did guided learns answer c b e g u.calls
+              (exchanged_downloads did guided learns answer c again true e g (sending_of_download c buf) x);
           clear = λ at a. exchange_clears again true e g (leaves at a) x;
           whole = λ p w some. (loads_on did c p k b e (loading p (u.whole p w some)) buf wide true g x).1;
         }

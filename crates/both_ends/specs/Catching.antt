@@ -1,5 +1,5 @@
 -- Catching up: the downloads by which partitions become level. Assumes nothing.
-use Rattle.std.specs.Prelude.{◌≡◌, ◌≢◌, ◌⊎◌, ℕ, ◌+◌, ◌≤◌, ◌<◌, max, Bool, true, false, List, [], ◌∷◌, ◌++◌, length, map, take, Ok, Err, Result, if◌then◌else◌}
+use Rattle.std.specs.Prelude.{◌≡◌, ◌≢◌, ◌⊎◌, ℕ, ◌+◌, ◌≤◌, ◌<◌, max, Bool, true, false, Option, List, [], ◌∷◌, ◌++◌, length, map, take, Ok, Err, Result, if◌then◌else◌}
 use Rattle.std.specs.Int.{div_ceil}
 use Rattle.std.specs.List.{All}
 use Rattle.codes.specs.declared.session.Partition.{Partition}
@@ -36,6 +36,7 @@ use Rattle.sessions.specs.declared.download.Download.{Download}
 use Rattle.sessions.specs.declared.session.Channel.TheVariants.{Recovery}
 use Rattle.sessions.specs.declared.session.LoggedOn.TheVariants.{Recovering}
 use Rattle.venue.specs.Books.{Books, Over}
+use Rattle.texts.specs.declared.values.Price.{Price}
 
 -- ---- how many downloads
 
@@ -83,13 +84,14 @@ IsOfDownload c (done.Venue (venue.Recovery line m t r)) = line ≡ c
 IsOfDownload c (done.Venue (venue.SendRecovered line r)) = line ≡ c
 IsOfDownload c z = ⊥
 
-module _ {M Q A : Type 0} (did : M → Asked → M → Type 0) (answer : Answer Q A) where
+module _ {M Q A : Type 0} (did : M → Asked → M → Type 0) (guided : Bool)
+    (learns : M → ℕ → Option Price → Bool → M → Type 0) (answer : Answer Q A) where
   -- only calls of downloads were made, and kept
   pub record Downloads (c : ℕ) (b e : Ends M Q A) : Type 0 where
     pub calls : List Done
     pub only : All (IsOfDownload c) calls
     pub log : e.log ≡ b.log ++ map Made calls
-    pub goes : Goes did answer b.gateway b.desk (map Made calls) e.gateway e.desk
+    pub goes : Goes did guided learns answer b.gateway b.desk (map Made calls) e.gateway e.desk
 
 -- a desk that can catch up does: every partition is level, for just as many requests as they needed
 pub record CatchesUp {M Q A : Type 0} (c : ℕ) (b e : Ends M Q A) : Type 0 where

@@ -15,7 +15,7 @@ use Rattle.both_ends.specs.declared.call.Call.TheVariants as call
 use Rattle.both_ends.specs.declared.call.Done.{Done}
 use Rattle.both_ends.specs.declared.call.Done.TheVariants as done
 use Rattle.both_ends.specs.declared.entry.Entry.{Entry}
-use Rattle.both_ends.specs.declared.entry.Entry.TheVariants.{Made, Asked as Answered}
+use Rattle.both_ends.specs.declared.entry.Entry.TheVariants.{Made, Midpoint, Asked as Answered}
 use Rattle.both_ends.specs.declared.opening.Opening.TheVariants.{Failed}
 use Rattle.follower.specs.Following.{download_of, is_up}
 use Rattle.follower.specs.Asking.{request, ReadBack}
@@ -52,6 +52,7 @@ left_by z = []
 -- and the last call of a log
 abbrev pub entry_left : {Q A : Type 0} → Entry Q A → Message
 entry_left (Made z) = left_by z
+entry_left (Midpoint i p r) = []
 entry_left (Answered q a) = []
 
 abbrev pub left_in : {Q A : Type 0} → Option (Bor (Entry Q A)) → Message

@@ -51,7 +51,7 @@ fn after_entry<'a, Q, A>(
 {
     match entry {
         Entry::Made(done) => watch.after_call(line, done),
-        Entry::Asked(_, _) => Ok(Ok(())),
+        Entry::Midpoint(_, _, _) | Entry::Asked(_, _) => Ok(Ok(())),
     }
 }
 

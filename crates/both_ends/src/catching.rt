@@ -70,7 +70,7 @@ impl<M: Matcher, S: Store, Q: Question<A>, A: Copy> BothEnds<M, S, Q, A> {
     /// logged on, and as many of the day's 48 requests are left as each partition has reports above its place, by 64
     /// rounded up, and one where it has none. Its one error is want of memory; what was called until then stands.
     pub fn catch_up(&mut self, line: usize, time: Time) -> Result<(), AllocError>
-        ensures calls { Downloads M.Did Q.answer line self.old self.new }
+        ensures calls { Downloads M.Did M.guided M.Learns Q.answer line self.old self.new }
         ensures allowed { Allowed line (made self.old.log) → Allowed line (made self.new.log) }
         ensures level { OnOk result (CanCatchUp line (made self.old.log) self.old.gateway.state self.old.desk
             → CatchesUp line self.old self.new) }
@@ -98,7 +98,7 @@ impl<M: Matcher, S: Store, Q: Question<A>, A: Copy> BothEnds<M, S, Q, A> {
 
     // Downloads a partition until it is level, or a download brings nothing more.
     fn level(&mut self, line: usize, time: Time, partition: Partition) -> Result<(), AllocError>
-        ensures calls { Downloads M.Did Q.answer line self.old self.new }
+        ensures calls { Downloads M.Did M.guided M.Learns Q.answer line self.old self.new }
         ensures line { Reached (made self.old.log) self.old.gateway.state self.old.desk
             → IsOpen line (made self.old.log) → IsOpen line (made self.new.log) }
         ensures levelled { OnOk result (Ready line self.old
@@ -123,7 +123,7 @@ impl<M: Matcher, S: Store, Q: Question<A>, A: Copy> BothEnds<M, S, Q, A> {
         time: Time,
         partition: Partition,
     ) -> Result<bool, AllocError>
-        ensures calls { Downloads M.Did Q.answer line self.old self.new }
+        ensures calls { Downloads M.Did M.guided M.Learns Q.answer line self.old self.new }
         ensures line { Reached (made self.old.log) self.old.gateway.state self.old.desk
             → IsOpen line (made self.old.log) → IsOpen line (made self.new.log) }
         ensures whole { IfOk result (λ brought. Ready line self.old → granted line self.old.gateway.state < 48
@@ -149,7 +149,7 @@ impl<M: Matcher, S: Store, Q: Question<A>, A: Copy> BothEnds<M, S, Q, A> {
     // The request is given to the gateway, and what is then handed out to the follower, to the end of the download or as
     // far as it comes.
     fn load(&mut self, line: usize, time: Time, request: Vec<u8>) -> Result<(), AllocError>
-        ensures calls { Downloads M.Did Q.answer line self.old self.new }
+        ensures calls { Downloads M.Did M.guided M.Learns Q.answer line self.old self.new }
         ensures line { Reached (made self.old.log) self.old.gateway.state self.old.desk
             → IsAsked line request.items (made self.old.log) → IsOpen line (made self.new.log) }
         ensures whole { OnOk result ((p : Partition) → Waiting line p request.items self.old

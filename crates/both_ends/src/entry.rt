@@ -1,10 +1,14 @@
-// A call or a question, and what is kept of it.
+// A call, a midpoint or a question, and what is kept of it.
 use crate::call::{Call, Done};
+use matching::midpoint::MidpointRefusal;
+use texts::values::Price;
 
-/// What both ends are given to do: one of the twelve calls, or a question.
+/// What both ends are given to do: one of the twelve calls, an instrument's midpoint price that the matcher is told, or that
+/// there is none, or a question.
 #[derive(Drop)]
 pub enum Step<Q> {
     Make(Call),
+    Midpoint(usize, Option<Price>),
     Ask(Q),
 }
 
@@ -12,5 +16,6 @@ pub enum Step<Q> {
 #[derive(Drop)]
 pub enum Entry<Q, A> {
     Made(Done),
+    Midpoint(usize, Option<Price>, Result<(), MidpointRefusal>),
     Asked(Q, A),
 }

@@ -10,7 +10,7 @@ use matching::matcher::Matcher;
 /// Leaving the questions out of a list of steps changes nothing else: no other answer, no byte that is handed out, and
 /// neither end.
 pub fn questions_change_nothing<M: Matcher, Q: Question<A>, A: Copy>()
-    ensures { Erases M.Did Q.answer }
+    ensures { Erases M.Did M.guided M.Learns Q.answer }
 {}
 
 /// A partition goes from level to behind by up, by lost and by a full hold alone.

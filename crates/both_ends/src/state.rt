@@ -3,12 +3,12 @@ ghost use Rattle.std.specs.Prelude.{◌≡◌, [], IfOk, IsOk, OnOk, OnErr};
 ghost use Rattle.both_ends.specs.Agreement.{Agrees};
 ghost use Rattle.both_ends.specs.Allowed.{after_log, quiet};
 ghost use Rattle.both_ends.specs.Asking.{made};
-ghost use Rattle.both_ends.specs.Both.{Answers, Holds, IsLast, Steps, StepsAll, StepsFront};
+ghost use Rattle.both_ends.specs.Both.{Answers, Guided, Holds, IsLast, Steps, StepsAll, StepsFront};
 ghost use Rattle.both_ends.specs.Deciding.{verdict};
 ghost use Rattle.both_ends.specs.Runs.{fresh};
 ghost use Rattle.gateway.specs.Starting.{Starts, is_new, opened};
 ghost use Rattle.venue.specs.Books.{fresh as fresh_books};
-ghost use Rattle.both_ends.specs.declared.entry.Step.TheVariants.{Make, Ask};
+ghost use Rattle.both_ends.specs.declared.entry.Step.TheVariants.{Make, Midpoint, Ask};
 
 use crate::allowed::{Breach, line_allows};
 use crate::call::Call;
@@ -20,10 +20,12 @@ use follower::pending::Pending;
 use follower::state::Follower;
 use gateway::gateway::{Gateway, is_new};
 use matching::matcher::Matcher;
+use matching::midpoint::MidpointRefusal;
 use std::alloc::{AllocError, Global};
 use std::marker::Model;
 use std::mem;
 use store::Store;
+use texts::values::Price;
 
 /// A gateway and a desk's follower, the token of a download that is owed, and the log: what both were given to do, in
 /// order, with what came back. In a contract these values; its type says that the log leads from a start to what it
@@ -51,7 +53,7 @@ impl<M: Matcher, S: Store, Q: Question<A>, A: Copy> Model for BothEnds<M, S, Q, 
       desk = record { follower = b.follower; token = b.token };
     } };
 
-    ghost invariant = { λ b. Ran M.meaning M.Did Q.answer (record {
+    ghost invariant = { λ b. Ran M.meaning M.Did M.guided M.Learns Q.answer (record {
       log = b.log.items;
       gateway = b.gateway;
       desk = record { follower = b.follower; token = b.token };
@@ -99,7 +101,7 @@ impl<M: Matcher, S: Store, Q: Question<A>, A: Copy> BothEnds<M, S, Q, A> {
     /// Makes a call on its end, and keeps it in the log with what came back. Its one error is want of memory; then nothing
     /// was called, and nothing is changed.
     pub fn make(&mut self, call: Call) -> Result<(), AllocError>
-        ensures made { OnOk result (Steps M.Did Q.answer (Make call) self.old self.new) }
+        ensures made { OnOk result (Steps M.Did M.guided M.Learns Q.answer (Make call) self.old self.new) }
         ensures error { OnErr result (self.new ≡ self.old) }
     {
         self.log.reserve(1)?;
@@ -119,11 +121,31 @@ impl<M: Matcher, S: Store, Q: Question<A>, A: Copy> BothEnds<M, S, Q, A> {
         Ok(())
     }
 
+    /// Tells the matcher an instrument's midpoint price, or that it has none, keeps it in the log with the answer, and hands
+    /// the answer out; all that both ends show stays. It is refused with 21 where the matcher is not told midpoints, else with
+    /// 20 or 22. Its one error is want of memory; then nothing was told.
+    pub fn midpoint(
+        &mut self,
+        instrument: usize,
+        price: Option<Price>,
+    ) -> Result<Result<(), MidpointRefusal>, AllocError>
+        ensures told { IfOk result (λ r. Guided M.guided M.Learns instrument price r self.old self.new) }
+        ensures made { IfOk result (λ _. Steps M.Did M.guided M.Learns Q.answer (Midpoint instrument price)
+            self.old self.new) }
+        ensures error { OnErr result (self.new ≡ self.old) }
+    {
+        self.log.reserve(1)?;
+        let answer = self.gateway.midpoint(instrument, price);
+        self.log
+            .push_reserved(Entry::Midpoint(instrument, price, answer));
+        Ok(answer)
+    }
+
     /// Asks a question, keeps it in the log with its answer, and hands the answer out; both ends stay as they are. Its one
     /// error is want of memory; then nothing is kept.
     pub fn ask(&mut self, question: Q) -> Result<A, AllocError>
         ensures answered { IfOk result (λ a. Answers Q.answer question a self.old self.new) }
-        ensures made { IfOk result (λ _. Steps M.Did Q.answer (Ask question) self.old self.new) }
+        ensures made { IfOk result (λ _. Steps M.Did M.guided M.Learns Q.answer (Ask question) self.old self.new) }
         ensures error { OnErr result (self.new ≡ self.old) }
     {
         self.log.reserve(1)?;
@@ -132,13 +154,17 @@ impl<M: Matcher, S: Store, Q: Question<A>, A: Copy> BothEnds<M, S, Q, A> {
         Ok(answer)
     }
 
-    /// Takes one step: makes a call, or asks a question, with the same error.
+    /// Takes one step: makes a call, tells a midpoint or asks a question, with the same error.
     pub fn take(&mut self, step: Step<Q>) -> Result<(), AllocError>
-        ensures made { OnOk result (Steps M.Did Q.answer step self.old self.new) }
+        ensures made { OnOk result (Steps M.Did M.guided M.Learns Q.answer step self.old self.new) }
         ensures error { OnErr result (self.new ≡ self.old) }
     {
         match step {
             Step::Make(call) => self.make(call),
+            Step::Midpoint(instrument, price) => {
+                let _answer = self.midpoint(instrument, price)?;
+                Ok(())
+            }
             Step::Ask(question) => {
                 let _answer = self.ask(question)?;
                 Ok(())
@@ -149,8 +175,8 @@ impl<M: Matcher, S: Store, Q: Question<A>, A: Copy> BothEnds<M, S, Q, A> {
     /// Takes each step in turn. Its one error is want of memory, at the first step for which it is short; those before it
     /// were taken, and none behind.
     pub fn run(&mut self, steps: Vec<Step<Q>>) -> Result<(), AllocError>
-        ensures all { OnOk result (StepsAll M.Did Q.answer steps.items self.old self.new) }
-        ensures front { OnErr result (StepsFront M.Did Q.answer steps.items self.old self.new) }
+        ensures all { OnOk result (StepsAll M.Did M.guided M.Learns Q.answer steps.items self.old self.new) }
+        ensures front { OnErr result (StepsFront M.Did M.guided M.Learns Q.answer steps.items self.old self.new) }
     {
         for step in steps {
             self.take(step)?;
@@ -193,10 +219,10 @@ impl<M: Matcher, S: Store, Q: Question<A>, A: Copy> BothEnds<M, S, Q, A> {
         &self.token
     }
 
-    /// Whatever was taken: the matcher was asked exactly what the acts of the calls ask, of every order the quantity last
+    /// Whatever was taken: the matcher was asked exactly what the acts of the calls ask and told the midpoints, of every order the quantity last
     /// accepted is accounted for, and whichever line allows the calls, the ends of that line agree.
     pub fn law(&self)
-        ensures { Holds M.meaning M.Did Q.answer self.now }
+        ensures { Holds M.meaning M.Did M.guided M.Learns Q.answer self.now }
     {
         let _ = &self.log;
     }

@@ -3,6 +3,7 @@ use Rattle.std.specs.Prelude.{◌≡◌, ℕ, List, [], ◌∷◌, ◌++◌, rep
 use Rattle.std.specs.Option.{option_map}
 use Rattle.layout.specs.Faults.{fault_number, fault_offset}
 use Rattle.texts.specs.Identifiers.{order_id_text, execution_id_text}
+use Rattle.dark_book.specs.Laws.{LastRefused as DarkLastRefused, SmallerRefused, Worked as DarkWorked}
 use Rattle.lit_book.specs.Laws.{LastRefused, Worked}
 use Rattle.orders.specs.Examples.{Examples as OrdersWorked}
 use Rattle.wire.specs.declared.kinds.Channel.TheVariants.{RealTime}
@@ -38,5 +39,10 @@ Examples =
     × Worked
     -- and of two sells at one price a trade with the second is against the law
     × LastRefused
+    -- in the dark book at 100, sells of 30, 50 and 50 meet a buy of 80; then the midpoint is gone
+    × DarkWorked
+    -- and a trade with the last of two equals, or with a smaller one, is against the law
+    × DarkLastRefused
+    × SmallerRefused
     -- an order of 100 with 40 executed: cancelled and its fill undone; replaced by 40, and by 41
     × OrdersWorked

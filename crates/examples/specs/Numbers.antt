@@ -6,6 +6,7 @@ use Rattle.follower.specs.declared.hold.TheConstants.{HOLD}
 use Rattle.layout.specs.declared.put.TheConstants.{START}
 use Rattle.layout.specs.declared.sequence.TheConstants.{SEQUENCE_LIMIT}
 use Rattle.limits.specs.declared.TheConstants.{ORDERS, TRADES, REPORTS, SHARES, REQUESTS, DOWNLOADED, COMP_IDS, INSTRUMENTS, MESSAGE_BYTES}
+use Rattle.dark_book.specs.Books.{darkened}
 use Rattle.lit_book.specs.Books.{lit_up}
 use Rattle.matching.specs.Meaning.{Orders}
 use Rattle.matching.specs.Tapes.{taped}
@@ -27,6 +28,7 @@ pub record Numbers : Type 0 where
   pub held : HOLD ≡ 32
   -- how many orders each engine takes
   pub lit_book : (os : Orders) → (lit_up os).capacity ≡ 256
+  pub dark_book : (os : Orders) → (darkened os).capacity ≡ 256
   pub tape : (os : Orders) → (taped os).capacity ≡ 64
   -- of a message, and of a buffer that takes any answer
   pub start : START ≡ 2

@@ -9,6 +9,7 @@ ghost use Rattle.gateway.specs.State.{venue_of};
 ghost use Rattle.gateway.specs.Telling.{RecoverTold, SendTold, StoredTold};
 ghost use Rattle.requests.specs.Deciding.{spare};
 ghost use Rattle.sessions.specs.declared.session.Channel.TheVariants.{RealTime, Recovery};
+ghost use Rattle.venue.specs.Telling.{Told};
 
 use crate::fault::{GatewayFault, SessionFault};
 use crate::gateway::Gateway;
@@ -17,10 +18,11 @@ use codes::session::Partition;
 use configuration::participant::Participant;
 use limits::TRADES;
 use matching::matcher::Matcher;
+use matching::midpoint::MidpointRefusal;
 use sessions::download::HandedOut;
 use sessions::session::Channel;
 use store::Store;
-use texts::values::Time;
+use texts::values::{Price, Time};
 use venue::step::Step;
 use venue::venue::Venue;
 
@@ -156,6 +158,19 @@ impl<M: Matcher, S: Store> Gateway<M, S> {
             Some(HandedOut::Ended(response)) => Ok(write_end(response, out)),
             None => Ok(0),
         }
+    }
+
+    /// Tells the matcher an instrument's midpoint price, or that it has none. It is no call of a line: no order, no report and
+    /// no session changes. Refused as the matcher refuses it: with 21 where it is not told midpoints, else with 20 where the
+    /// instrument's number is not under 32, or 22 where the price is not above 0, tried in this order; then nothing changes.
+    pub fn midpoint(
+        &mut self,
+        instrument: usize,
+        price: Option<Price>,
+    ) -> Result<(), MidpointRefusal>
+        ensures { Told M.guided M.Learns instrument price result self.old self.new }
+    {
+        self.venue.midpoint(instrument, price)
     }
 
     /// What the venue keeps: orders, trades, instruments, the matcher and the store, to look at.

@@ -4,10 +4,12 @@
 mod walk;
 
 use bench_words::plan::{Asked, BLOCK, Plan, config, made_up};
+use book_pair::pair::BookPair;
 use codes::session::Partition;
 use console::{About, Task};
+use dark_book::book::DarkBook;
 use gateway::gateway::Gateway;
-use limits::{MESSAGE_BYTES, REPORTS, TRADES};
+use limits::{INSTRUMENTS, MESSAGE_BYTES, REPORTS, TRADES};
 use lit_book::book::LitBook;
 use matching::matcher::Matcher;
 use matching::tape::{Line, Tape};
@@ -22,7 +24,7 @@ use texts::values::Price;
 
 const ABOUT: About = About {
     name: "gateway_bench",
-    summary: "Plays a full made-up day of eight CompIDs on a gateway: 256 orders in eight rows, each with its trades, replacements, cancels, sends, downloads, trade cancellations and mass cancels; over the lit book and the tape, and over both stores.",
+    summary: "Plays a full made-up day of eight CompIDs on a gateway: 256 orders in eight rows, each with its trades, replacements, cancels, sends, downloads, trade cancellations and mass cancels; over the lit book, a pair with the dark book, and the tape, and over both stores.",
     words: "How many calls there were and what the day came to goes to standard output: the same in each run. The time of a call of each kind, in nanoseconds, goes to standard error, of the orders and events row by row, and how many calls a second a day had. Nothing is read.",
 };
 
@@ -199,18 +201,39 @@ fn tape(heap: Global) -> Result<Tape, AllocError> {
     Tape::new(heap, lines)
 }
 
-/// Both matchers over both stores.
+// A pair of the lit and the dark book, with a midpoint for each instrument.
+fn pair(heap: Global) -> Result<BookPair<LitBook, DarkBook>, AllocError> {
+    let lit = LitBook::new(heap)?;
+    let mut dark = DarkBook::new(heap)?;
+    for instrument in 0..INSTRUMENTS {
+        let price = Price {
+            raw: 10_050_000_000,
+        };
+        let _taken = dark.midpoint(instrument, Some(price));
+    }
+    match BookPair::join(lit, dark) {
+        Ok(pair) => Ok(pair),
+        Err(_) => Err(AllocError),
+    }
+}
+
+/// The matchers over both stores.
 struct Bench;
 
 impl Task for Bench {
     fn work<R: Print + Eprint + Clock + AllocGlobal>(&mut self, rt: &R) -> io::Result<()> {
         let heap = rt.alloc();
-        let plan = made_up(heap)?;
+        let plan = made_up(heap, false)?;
         let bytes = REPORTS * MESSAGE_BYTES;
         let records = Records::new(heap, REPORTS);
         day(rt, "lit book, records", LitBook::new(heap), records, &plan)?;
         let wire = wire_store::new(heap, bytes);
         day(rt, "lit book, wire bytes", LitBook::new(heap), wire, &plan)?;
+        let both = made_up(heap, true)?;
+        let records = Records::new(heap, REPORTS);
+        day(rt, "pair, records", pair(heap), records, &both)?;
+        let wire = wire_store::new(heap, bytes);
+        day(rt, "pair, wire bytes", pair(heap), wire, &both)?;
         let records = Records::new(heap, REPORTS);
         day(rt, "tape, records", tape(heap), records, &plan)?;
         let wire = wire_store::new(heap, bytes);

@@ -1,12 +1,5 @@
-pub mod Changes
 pub mod Settles
-pub mod Bests
-pub mod Nexts
-pub mod Stops
-pub mod Places
-pub mod Tables
+pub mod Keeps
+pub mod Passing
+pub mod Laws
 pub mod Examples
-pub mod Matches
-pub mod Amends
-pub mod Ends
-pub mod Fairs

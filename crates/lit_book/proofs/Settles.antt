@@ -1,9 +1,13 @@
 -- The orders at rest stay uncrossed. Assumes nothing.
-use Rattle.std.proofs.Common.{◌≡◌, ℕ, Bool, true, false, cond, not, ◌&&◌, eqb, List, [], ◌∷◌, ◌++◌, Some, None, Option, refl, ap, arith}
+use Rattle.std.proofs.Common.{◌≡◌, ℕ, Bool, true, false, cond, not, ◌&&◌, eqb, List, [], ◌∷◌, ◌++◌, Some, None, Option, refl, ap}
 use Rattle.std.proofs.lemmas.Bool.{and_from, and_parts}
-use Rattle.lit_book.specs.declared.order.Order.{Order}
-use Rattle.lit_book.specs.Orders.{crosses, rests}
-use Rattle.lit_book.specs.Lists.{best, best_from, better_of, changed, clear_of, improves, remains, settled}
+use Rattle.order_book.specs.Lists.{changed, remains}
+use Rattle.order_book.specs.Orders.{rests}
+use Rattle.order_book.specs.declared.order.Order.{Order}
+use Rattle.order_book.proofs.Bests.{Misses}
+use Rattle.lit_book.specs.Lists.{clear_of, settled}
+use Rattle.lit_book.specs.Orders.{crosses}
+use Rattle.lit_book.specs.Rules.{lit_rule}
 
 -- a change of one order
 clear_changed : (o : Order) (n : ℕ) (w : Option ℕ) (xs : List Order) → clear_of o xs ≡ true
@@ -41,35 +45,10 @@ clear_push o a (x ∷ xs) h e =
     let p = and_parts (not (crosses x o)) (clear_of o xs) h in
     and_from _ _ p.0 (clear_push o a xs p.1 e)
 
--- every order of the list is one that a does not cross
-abbrev pub Misses : Order → List Order → Type 0
-Misses a [] = Unit {0}
-Misses a (o ∷ os) = (crosses a o ≡ false) × Misses a os
-
-pub settled_push : (a : Order) (xs : List Order) → settled xs ≡ true → rests a ≡ true → Misses a xs
+pub settled_push : (a : Order) (xs : List Order) → settled xs ≡ true → rests a ≡ true → Misses lit_rule a xs
     → settled (xs ++ a ∷ []) ≡ true
 settled_push a [] h r m = and_from _ _ r refl
 settled_push a (x ∷ xs) h r m =
     let p = and_parts (rests x) (clear_of x xs && settled xs) h in
     let s = and_parts (clear_of x xs) (settled xs) p.1 in
     and_from _ _ p.0 (and_from _ _ (clear_push x a xs s.0 m.0) (settled_push a xs s.1 r m.1))
-
--- where there is no best order, none is crossed
-none_chosen : (b : Bool) (o : Order) (r : Option Order) → cond b (Some o) r ≡ None → (b ≡ false) × (r ≡ None)
-none_chosen true o r h = absurd (let z : ◌≡◌ {A = ℕ} 0 1 = cc in let no : ⊥ = omega arith in no)
-none_chosen false o r h = (refl, h)
-
-none_crossed : (a : Order) (r : Option Order) (xs : List Order) → best_from a r xs ≡ None → (r ≡ None) × Misses a xs
-none_crossed a r [] h = (h, tt)
-none_crossed a r (o ∷ xs) h =
-    let ih = none_crossed a (better_of a r o) xs h in
-    let c = none_chosen (crosses a o && improves a o r) o r ih.0 in
-    (c.1, (first (crosses a o) r c.1 c.0, ih.1))
-  where
-    first : (b : Bool) (r : Option Order) → r ≡ None → (b && improves a o r) ≡ false → b ≡ false
-    first true None e h = h
-    first true (Some y) e h = absurd (let z : ◌≡◌ {A = ℕ} 0 1 = cc in let no : ⊥ = omega arith in no)
-    first false r e h = refl
-
-pub best_none : (a : Order) (xs : List Order) → best a xs ≡ None → Misses a xs
-best_none a xs h = (none_crossed a None xs h).1

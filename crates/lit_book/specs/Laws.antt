@@ -1,7 +1,6 @@
 -- Laws of the book, in the words of a trader. Assumes nothing.
-use Rattle.std.specs.Prelude.{◌≡◌, ℕ, ◌+◌, ◌<◌, Bool, true, false, not, ◌&&◌, List, [], ◌∷◌, ◌++◌, length, pos, Some, None, MatchOption, ◌==◌, slice_index_or}
-use Rattle.std.specs.Fn.{iterate}
-use Rattle.std.specs.List.{All, take_while}
+use Rattle.std.specs.Prelude.{◌≡◌, ℕ, ◌<◌, Bool, true, false, not, ◌&&◌, List, [], ◌∷◌, ◌++◌, length, pos, Some, None, MatchOption, ◌==◌, slice_index_or}
+use Rattle.std.specs.List.{All}
 use Rattle.codes.specs.declared.order.Side.{Side}
 use Rattle.codes.specs.declared.order.Side.TheVariants.{Buy, Sell}
 use Rattle.matching.specs.declared.event.Event.{Event}
@@ -9,18 +8,13 @@ use Rattle.matching.specs.declared.event.Event.TheVariants.{Nothing, Expired, Tr
 use Rattle.terms.specs.declared.lifetime.Lifetime.TheVariants.{Day}
 use Rattle.terms.specs.declared.pricing.Pricing.TheVariants.{Limit}
 use Rattle.texts.specs.declared.values.Price.{Price}
-use Rattle.lit_book.specs.declared.order.Order.{Order}
-use Rattle.lit_book.specs.Orders.{accepts, crosses, opposes, prefers, price}
-use Rattle.lit_book.specs.Lists.{order_in}
-use Rattle.lit_book.specs.Rules.{Lit, next, order_under}
-
--- ---- the price of a trade is never worse than the aggressive order's limit
-
-abbrev pub Fair : Lit → Event → Type 0
-Fair b Nothing = Unit {0}
-Fair b (Expired n) = Unit {0}
-Fair b (Trade p None q z) = Unit {0}
-Fair b (Trade p (Some n) q z) = MatchOption (order_under b n) ⊥ (λ a. accepts a.side a.pricing z ≡ true)
+use Rattle.order_book.specs.Laws.{EnoughBy, at_rest_for, before}
+use Rattle.order_book.specs.Lists.{order_in}
+use Rattle.order_book.specs.Orders.{opposes, price}
+use Rattle.order_book.specs.Rules.{Lists, order_under}
+use Rattle.order_book.specs.declared.order.Order.{Order}
+use Rattle.lit_book.specs.Orders.{crosses, prefers}
+use Rattle.lit_book.specs.Rules.{lit_rule, next}
 
 -- ---- no order at rest that is better priced, or as good and earlier, is passed over
 
@@ -36,22 +30,13 @@ Worse s o x = alike o x ≡ true → prefers s (price o) (price x) ≡ true
 abbrev pub NoBetter : Side → Order → Order → Type 0
 NoBetter s o x = alike o x ≡ true → prefers s (price x) (price o) ≡ false
 
--- the orders of a list that stand before the one of a number
-abbrev pub before : ℕ → List Order → List Order
-before n os = take_while (λ o. not (o.number == n)) os
-
--- those at rest when the waiting order of the number n trades: those at rest before the call, and behind them
--- those that waited before it and came to rest in this very call
-abbrev pub at_rest_for : ℕ → Lit → List Order
-at_rest_for n b = b.resting ++ before n b.waiting
-
 -- a trades with the order of the number p among those at rest: each before it is priced worse, and none at all
 -- better
 abbrev pub FirstServed : Order → ℕ → List Order → Type 0
 FirstServed a p os =
     MatchOption (order_in os p) ⊥ (λ o. All (Worse a.side o) (before p os) × All (NoBetter a.side o) os)
 
-abbrev pub Served : Lit → Event → Type 0
+abbrev pub Served : Lists → Event → Type 0
 Served b Nothing = Unit {0}
 Served b (Expired n) = Unit {0}
 Served b (Trade (Some p) (Some n) q z) =
@@ -59,30 +44,18 @@ Served b (Trade (Some p) (Some n) q z) =
 Served b (Trade (Some p) None q z) = ⊥
 Served b (Trade None n q z) = ⊥
 
--- ---- no two orders at rest cross, and with no event nothing waits
+-- ---- no two orders at rest cross
 
 abbrev pub Uncrossed : List Order → Type 0
 Uncrossed os =
     (i j : ℕ) (d : Order) → i < length os → j < length os
     → crosses (slice_index_or os i d) (slice_index_or os j d) ≡ false
 
-abbrev pub Idle : Event → Lit → Type 0
-Idle Nothing b = b.waiting ≡ []
-Idle (Expired n) b = Unit {0}
-Idle (Trade p n q z) b = Unit {0}
-
 -- ---- events come to an end
 
-abbrev pub open_orders : Lit → ℕ
-open_orders b = length b.resting + length b.waiting
-
--- the book after so many events
-abbrev pub after_events : ℕ → Lit → Lit
-after_events n b = iterate (λ (x : Lit). (next x).1) n b
-
 -- n events are enough: then there is none
-abbrev pub Enough : ℕ → Lit → Type 0
-Enough n b = (next (after_events n b)).0 ≡ Nothing
+abbrev pub Enough : ℕ → Lists → Type 0
+Enough n b = EnoughBy lit_rule n b
 
 -- ---- worked examples
 
@@ -100,7 +73,7 @@ day_order n s p q = record {
 }
 
 -- sells of 50 at 101 and 50 at 100, then a buy of 80 at 101, trade 50 at 100 and 30 at 101
-abbrev pub example : Lit
+abbrev pub example : Lists
 example = record {
   resting = [];
   waiting = day_order 1 Sell 101 50 ∷ day_order 2 Sell 100 50 ∷ day_order 3 Buy 101 80 ∷ [];
@@ -113,7 +86,7 @@ Worked =
     × (next (next (next example).1).1 ≡ (Nothing, record { resting = day_order 1 Sell 101 20 ∷ []; waiting = [] }))
 
 -- of two sells at one price, a trade with the second to rest is against the law
-abbrev pub equals : Lit
+abbrev pub equals : Lists
 equals = record {
   resting = day_order 1 Sell 100 50 ∷ day_order 2 Sell 100 50 ∷ [];
   waiting = day_order 3 Buy 100 50 ∷ [];

@@ -1,76 +1,24 @@
--- The rules of the book: what each call does to the orders that rest and the orders that wait. Assumes nothing.
-use Rattle.std.specs.Prelude.{ℕ, ◌-◌, min, if◌then◌else◌, List, [], ◌∷◌, ◌++◌, Some, None, Option, nat_lt}
+-- The rule of the book, and what comes next by it. Assumes nothing.
+use Rattle.std.specs.Prelude.{List, Option}
 use Rattle.matching.specs.declared.event.Event.{Event}
-use Rattle.matching.specs.declared.event.Event.TheVariants.{Nothing, Expired, Trade}
-use Rattle.matching.specs.declared.matcher.Ticket.{Ticket}
-use Rattle.texts.specs.declared.values.Price.{Price}
-use Rattle.lit_book.specs.declared.order.Order.{Order}
-use Rattle.lit_book.specs.Orders.{goes_back, price, rests, with_limit, with_quantity}
-use Rattle.lit_book.specs.Lists.{best, changed, order_in}
+use Rattle.order_book.specs.Orders.{price}
+use Rattle.order_book.specs.Pairing.{Rule, best as best_by}
+use Rattle.order_book.specs.Rules.{Lists, next_by}
+use Rattle.order_book.specs.declared.order.Order.{Order}
+use Rattle.lit_book.specs.Orders.{crosses, prefers}
 
--- the orders at rest, the first to rest first, and the waiting ones, the oldest first
-pub record Lit : Type 0 where
-  pub resting : List Order
-  pub waiting : List Order
-
--- the open order of a number
-abbrev pub order_under : Lit → ℕ → Option Order
-order_under b n = order_in (b.resting ++ b.waiting) n
-
--- an order of these terms under a number
-abbrev pub order_of : ℕ → Ticket → Order
-order_of n t = record {
-  number = n;
-  instrument = t.instrument;
-  side = t.side;
-  pricing = t.pricing;
-  lifetime = t.lifetime;
-  quantity = t.quantity;
+-- an order trades with the best priced at rest that it crosses, at that order's limit
+abbrev pub lit_rule : Rule
+lit_rule = record {
+  fits = crosses;
+  beats = λ a o x. prefers a.side (price o) (price x);
+  price = λ a o. price o;
 }
 
--- an entered order waits behind all others
-abbrev pub entered : Lit → Order → Lit
-entered b o = record b { waiting = b.waiting ++ o ∷ [] }
-
--- the order of a number with another open quantity, or gone; it keeps its place
-abbrev pub altered : Lit → ℕ → Option ℕ → Lit
-altered b n w = record { resting = changed n w b.resting; waiting = changed n w b.waiting }
-
--- an order with another quantity and price keeps its place, or waits again behind all others
-abbrev pub amended : Lit → Option Order → ℕ → Price → Lit
-amended b None q p = b
-amended b (Some o) q p =
-    if goes_back o q p then entered (altered b o.number None) (with_limit (with_quantity o q) p)
-    else altered b o.number (Some q)
-
--- ---- events
-
--- what is left of an open quantity when q is traded
-abbrev pub left_of : ℕ → ℕ → Option ℕ
-left_of q open-now = if nat_lt q open-now then Some (open-now - q) else None
-
--- a trades with o at rest, for the smaller quantity at the resting price
-abbrev pub size_of : Order → Order → ℕ
-size_of a o = min a.quantity o.quantity
-
-abbrev pub trade_of : Order → Order → Event
-trade_of a o = Trade (Some o.number) (Some a.number) (size_of a o) (price o)
-
-abbrev pub traded : Lit → Order → Order → Lit
-traded b a o =
-    altered (altered b o.number (left_of (size_of a o) o.quantity)) a.number (left_of (size_of a o) a.quantity)
-
--- what becomes of the oldest waiting order a, where o is the best for it: it trades, or comes to rest so that
--- later is what comes, or expires
-abbrev pub outcome : Lit → Order → Option Order → Event × Lit → Event × Lit
-outcome b a (Some o) later = (trade_of a o, traded b a o)
-outcome b a None later = if rests a then later else (Expired a.number, altered b a.number None)
+-- the best order for a, and the first of equals
+abbrev pub best : Order → List Order → Option Order
+best a os = best_by lit_rule a os
 
 -- the next event, and the book after it
-abbrev pub next_of : List Order → List Order → Event × Lit
-next_of rs [] = (Nothing, record { resting = rs; waiting = [] })
-next_of rs (a ∷ ws) =
-    outcome (record { resting = rs; waiting = a ∷ ws }) a (best a rs) (next_of (rs ++ a ∷ []) ws)
-
-abbrev pub next : Lit → Event × Lit
-next b = next_of b.resting b.waiting
+abbrev pub next : Lists → Event × Lists
+next b = next_by lit_rule b

@@ -2,5 +2,4 @@
 #![tactic(auto)]
 
 pub mod book;
-pub mod order;
-mod turns;
+pub mod rule;

@@ -7,16 +7,17 @@ use Rattle.changes.specs.declared.change.Change.TheVariants.{Accept, Replace, Wi
 use Rattle.configuration.specs.declared.instrument.Instrument.{Instrument}
 use Rattle.keyed.proofs.Looks.{distinct_from}
 use Rattle.keyed.specs.Numbers.{under}
-use Rattle.lit_book.specs.Books.{LitDid, lit, table}
-use Rattle.lit_book.specs.Lists.{order_held, order_in, order_number}
-use Rattle.lit_book.specs.Rules.{Lit, order_under}
+use Rattle.lit_book.specs.Books.{LitDid, lit}
 use Rattle.lit_book.specs.declared.book.LitBook.{LitBook}
-use Rattle.lit_book.specs.declared.order.Order.{Order}
 use Rattle.lit_day.proofs.Finding.{Once, found_has, once, once_in}
 use Rattle.lit_day.proofs.Mirroring.{accepts_none, enters, replaces, undoes, withdraws}
 use Rattle.lit_day.proofs.Taking.{Apart, taken}
 use Rattle.lit_day.specs.Trading.{Mirrors}
 use Rattle.matching.specs.Asked.{Asked, Asks, Enter, Cancel, Amend, Next}
+use Rattle.order_book.specs.Books.{table}
+use Rattle.order_book.specs.Lists.{order_held, order_in, order_number}
+use Rattle.order_book.specs.Rules.{Lists, order_under}
+use Rattle.order_book.specs.declared.order.Order.{Order}
 use Rattle.orders.specs.Rows.{orderable}
 use Rattle.orders.specs.declared.trade.Leg.{Leg}
 use Rattle.orders.specs.declared.trade.Trade.{Trade}
@@ -29,16 +30,17 @@ use Rattle.venue.specs.Trading.{passive_undone, side_undone}
 
 -- ---- what holds of every lit book
 
-pub all_of : (e : LitBook) → (lit e).resting ++ (lit e).waiting ≡ table e
-all_of e = take-append-drop e.resting (table e)
+pub all_of : (e : LitBook) → (lit e).resting ++ (lit e).waiting ≡ table e.orders
+all_of e = take-append-drop e.orders.resting (table e.orders)
 
 pub apart_in : (e : LitBook) → Apart (lit e)
 apart_in e n =
-    subst (Once n) (sym (all_of e)) (once n (table e) (distinct_from order_number order_held (table e) e.apart))
+    subst (Once n) (sym (all_of e)) (once n (table e.orders)
+    (distinct_from order_number order_held (table e.orders) e.orders.apart))
 
 some_open : (e : LitBook) (n : ℕ) (o : Order) → order_under (lit e) n ≡ Some o → 0 < o.quantity
 some_open e n o h =
-    found_has (λ (x : Order). 0 < x.quantity) n o (table e) e.nonzero
+    found_has (λ (x : Order). 0 < x.quantity) n o (table e.orders) e.orders.nonzero
     (ap (λ (l : List Order). order_in l n) (sym (all_of e)) ∙ h)
 
 -- ---- acts that may be done
@@ -83,7 +85,7 @@ alters t n (Fill f) b e e' may d k = absurd may
 alters t n (Undo u) b e e' may d k =
     unasked (enact t (Alter n (Undo u)) b) e e' d (undoes b.instruments t n u (ledger_of b) (lit e) k)
 
-side_follows : (is : List Instrument) (t : Time) (q : ℕ) (o : Option Leg) (l : Ledger) (b : Lit) → Mirrors l.rows b
+side_follows : (is : List Instrument) (t : Time) (q : ℕ) (o : Option Leg) (l : Ledger) (b : Lists) → Mirrors l.rows b
     → Mirrors (side_undone is t q o l).rows b
 side_follows is t q None l b k = k
 side_follows is t q (Some s) l b k = undoes is t s.order _ l b k

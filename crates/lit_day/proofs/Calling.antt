@@ -14,16 +14,18 @@ use Rattle.keyed.specs.Numbers.{under}
 use Rattle.layout.specs.declared.fault.Fault.{Fault}
 use Rattle.gateway_runs.proofs.Fitting.{outcome_fits}
 use Rattle.gateway_runs.specs.Runs.{Does, Runs, giving}
-use Rattle.lit_book.proofs.Fairs.{served}
-use Rattle.lit_book.proofs.Tables.{count}
-use Rattle.lit_book.specs.Books.{LitDid, lit, lit_meaning, table}
-use Rattle.lit_book.specs.Lists.{order_in}
+use Rattle.lit_book.proofs.Laws.{served}
+use Rattle.lit_book.specs.Books.{LitDid, lit, lit_meaning}
 use Rattle.lit_book.specs.declared.book.LitBook.{LitBook}
-use Rattle.lit_book.specs.declared.order.Order.{Order}
 use Rattle.lit_day.proofs.Acting.{MayDo, acts_follow, all_of, apart_in}
 use Rattle.lit_day.proofs.Sending.{ends_may, outcome_may}
 use Rattle.lit_day.proofs.Taking.{within}
 use Rattle.lit_day.specs.Trading.{Answered, Fairly, Mirrors, Trades, TradesFairly, open_order}
+use Rattle.order_book.proofs.Fairs.{lists_apart}
+use Rattle.order_book.proofs.Tables.{count}
+use Rattle.order_book.specs.Books.{table}
+use Rattle.order_book.specs.Lists.{order_in}
+use Rattle.order_book.specs.declared.order.Order.{Order}
 use Rattle.orders.specs.declared.row.Row.{Row}
 use Rattle.requests.specs.Deciding.{spare}
 use Rattle.sessions.specs.declared.session.Channel.TheVariants.{RealTime, Recovery}
@@ -107,7 +109,8 @@ module _ (x y : Over State LitBook) (k : Follows x) where
       let did = c.asked.1 in
       subst (λ q. Answered x.state.venue.rows (lit x.engine) (Ok q)) (sym is)
       (within x.state.venue (lit x.engine) e k (apart_in x.engine) did.0
-      (served (table x.engine) x.engine.resting e x.engine.apart x.engine.uncrossed did.0))
+      (served (lit x.engine) e (lists_apart (table x.engine.orders) x.engine.orders.resting x.engine.orders.apart)
+      x.engine.uncrossed did.0))
   answers t n (Err f) h = tt
 
   pub fairly : (d : Done) → Does LitDid x d y → Fairly x.state.venue.rows (lit x.engine) d
@@ -134,9 +137,9 @@ none_under (suc n) = refl
 
 none_open : (b : LitBook) → len (lit_meaning b).orders ≡ 0 → Mirrors [] (lit b)
 none_open b e n =
-    let many = count (table b) b.apart in
+    let many = count (table b.orders) b.orders.apart in
     ap (λ (l : List Order). order_in l n) (all_of b)
-    ∙ none_in (table b) n (omega arith)
+    ∙ none_in (table b.orders) n (omega arith)
     ∙ ap (open_order n) (sym (none_under n))
 
 begins : (x : Over State LitBook) → Begins lit_meaning x → Follows x

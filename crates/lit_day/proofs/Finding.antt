@@ -8,10 +8,10 @@ use Rattle.std.specs.List.{All}
 use Rattle.std.specs.Option.{option_map, option_or}
 use Rattle.keyed.proofs.Under.{none-some}
 use Rattle.keyed.specs.Look.{Distinct, look}
-use Rattle.lit_book.specs.Lists.{changed, order_held, order_in, order_number, remains}
-use Rattle.lit_book.specs.Orders.{with_quantity}
-use Rattle.lit_book.specs.Rules.{Lit, altered, entered, order_under}
-use Rattle.lit_book.specs.declared.order.Order.{Order}
+use Rattle.order_book.specs.Lists.{changed, order_held, order_in, order_number, remains}
+use Rattle.order_book.specs.Orders.{with_quantity}
+use Rattle.order_book.specs.Rules.{Lists, altered, entered, order_under}
+use Rattle.order_book.specs.declared.order.Order.{Order}
 
 -- ---- in one list behind another
 
@@ -47,11 +47,11 @@ once_back n [] ys u = u
 once_back n (x ∷ xs) ys u = once_back n xs ys u.1
 
 -- so of a book
-pub record OnceIn (n : ℕ) (b : Lit) : Type 0 where
+pub record OnceIn (n : ℕ) (b : Lists) : Type 0 where
   pub resting : Once n b.resting
   pub waiting : Once n b.waiting
 
-pub once_in : (n : ℕ) (b : Lit) → Once n (b.resting ++ b.waiting) → OnceIn n b
+pub once_in : (n : ℕ) (b : Lists) → Once n (b.resting ++ b.waiting) → OnceIn n b
 once_in n b u = record {
   resting = once_front n b.resting b.waiting u;
   waiting = once_back n b.resting b.waiting u;
@@ -117,7 +117,7 @@ once_other n m w (x ∷ xs) ne u = go w (eqb x.number n) (once_other n m w xs ne
 
 -- ---- and of a book
 
-pub altered_other : (b : Lit) (n m : ℕ) (w : Option ℕ) → (n ≡ m → ⊥)
+pub altered_other : (b : Lists) (n m : ℕ) (w : Option ℕ) → (n ≡ m → ⊥)
     → order_under (altered b n w) m ≡ order_under b m
 altered_other b n m w ne =
     both _ _ m
@@ -131,7 +131,7 @@ or_mapped : (q : ℕ) (o p : Option Order)
 or_mapped q None p = refl
 or_mapped q (Some x) p = refl
 
-pub altered_some : (b : Lit) (n q : ℕ)
+pub altered_some : (b : Lists) (n q : ℕ)
     → order_under (altered b n (Some q)) n ≡ option_map (λ o. with_quantity o q) (order_under b n)
 altered_some b n q =
     both _ _ n
@@ -140,19 +140,19 @@ altered_some b n q =
     ∙ or_mapped q (order_in b.resting n) (order_in b.waiting n)
     ∙ ap (option_map (λ (x : Order). with_quantity x q)) (sym (both b.resting b.waiting n))
 
-pub altered_none : (b : Lit) (n : ℕ) → OnceIn n b → order_under (altered b n None) n ≡ None
+pub altered_none : (b : Lists) (n : ℕ) → OnceIn n b → order_under (altered b n None) n ≡ None
 altered_none b n u =
     both _ _ n
     ∙ ap (λ o. option_or o (order_in (changed n None b.waiting) n)) (gone n b.resting u.resting)
     ∙ gone n b.waiting u.waiting
 
-pub once_altered : (b : Lit) (n m : ℕ) (w : Option ℕ) → (n ≡ m → ⊥) → OnceIn m b → OnceIn m (altered b n w)
+pub once_altered : (b : Lists) (n m : ℕ) (w : Option ℕ) → (n ≡ m → ⊥) → OnceIn m b → OnceIn m (altered b n w)
 once_altered b n m w ne u = record {
   resting = once_other n m w b.resting ne u.resting;
   waiting = once_other n m w b.waiting ne u.waiting;
 }
 
-entered_is : (b : Lit) (o : Order) (m : ℕ)
+entered_is : (b : Lists) (o : Order) (m : ℕ)
     → order_under (entered b o) m ≡ option_or (order_under b m) (cond (eqb o.number m) (Some o) None)
 entered_is b o m =
     ap (λ (l : List Order). order_in l m) (sym (append_assoc b.resting b.waiting (o ∷ [])))
@@ -162,14 +162,14 @@ or_none : (o : Option Order) → option_or o None ≡ o
 or_none None = refl
 or_none (Some x) = refl
 
-pub entered_other : (b : Lit) (o : Order) (m : ℕ) → (o.number ≡ m → ⊥)
+pub entered_other : (b : Lists) (o : Order) (m : ℕ) → (o.number ≡ m → ⊥)
     → order_under (entered b o) m ≡ order_under b m
 entered_other b o m ne =
     entered_is b o m
     ∙ ap (option_or (order_under b m)) (cond-false (eqb o.number m) _ _ (ne_eqb o.number m ne))
     ∙ or_none (order_under b m)
 
-pub entered_here : (b : Lit) (o : Order) (m : ℕ) → o.number ≡ m → order_under b m ≡ None
+pub entered_here : (b : Lists) (o : Order) (m : ℕ) → o.number ≡ m → order_under b m ≡ None
     → order_under (entered b o) m ≡ Some o
 entered_here b o m e h =
     entered_is b o m

@@ -3,4 +3,5 @@ pub mod Mirroring
 pub mod Taking
 pub mod Acting
 pub mod Sending
+pub mod Guiding
 pub mod Calling

@@ -14,9 +14,9 @@ use Rattle.codes.specs.declared.order.OrderType.TheVariants as order_type
 use Rattle.configuration.specs.declared.instrument.Instrument.{Instrument}
 use Rattle.keyed.proofs.Under.{none-some, under-others}
 use Rattle.keyed.specs.Numbers.{under, put_under}
-use Rattle.lit_book.specs.Orders.{goes_back, relimited, reprices, with_limit, with_quantity}
-use Rattle.lit_book.specs.Rules.{Lit, altered, amended, entered, left_of, order_of, order_under}
-use Rattle.lit_book.specs.declared.order.Order.{Order}
+use Rattle.order_book.specs.Orders.{goes_back, relimited, reprices, with_limit, with_quantity}
+use Rattle.order_book.specs.Rules.{Lists, altered, amended, entered, left_of, order_of, order_under}
+use Rattle.order_book.specs.declared.order.Order.{Order}
 use Rattle.lit_day.proofs.Finding.{OnceIn, altered_none, altered_other, altered_some, entered_here, entered_other}
 use Rattle.lit_day.specs.Trading.{Mirrors, as_order, open_order}
 use Rattle.orders.specs.Orders.{fillable, replace_fault, undoable}
@@ -76,7 +76,7 @@ module _ (is : List Instrument) (t : Time) (n : ℕ) (c : Change) (l : Ledger) w
   others_are m ne = rewritten_other is t n c l (after n c (under l.rows n)) m ne
 
   -- the book follows where it does under the number
-  follows : (b b' : Lit) → Mirrors l.rows b → order_under b' n ≡ open_order n Now
+  follows : (b b' : Lists) → Mirrors l.rows b → order_under b' n ≡ open_order n Now
       → ((m : ℕ) → (n ≡ m → ⊥) → order_under b' m ≡ order_under b m) → Mirrors (changed is t n c l).rows b'
   follows b b' k here others m = go (cases_eq n m)
     where
@@ -86,7 +86,7 @@ module _ (is : List Instrument) (t : Time) (n : ℕ) (c : Change) (l : Ledger) w
       go (inr ne) = others m ne ∙ k m ∙ ap (open_order m) (sym (others_are m ne))
 
   -- and stays as it is where as much is open as before
-  stays_by : (b : Lit) → Mirrors l.rows b → open_order n Now ≡ open_order n (under l.rows n)
+  stays_by : (b : Lists) → Mirrors l.rows b → open_order n Now ≡ open_order n (under l.rows n)
       → Mirrors (changed is t n c l).rows b
   stays_by b k e = follows b b k (k n ∙ sym e) (λ m ne. refl)
 
@@ -101,7 +101,7 @@ withdrawn_now n e c (Some r) = go (nat_lt 0 r.leaves) refl
     go true h = refl
     go false h = cond-false (nat_lt 0 r.leaves) _ _ h
 
-pub withdraws : (is : List Instrument) (t : Time) (n : ℕ) (e : Ending) (c : FixedText 20) (l : Ledger) (b b' : Lit)
+pub withdraws : (is : List Instrument) (t : Time) (n : ℕ) (e : Ending) (c : FixedText 20) (l : Ledger) (b b' : Lists)
     → Mirrors l.rows b → OnceIn n b → b' ≡ altered b n None → Mirrors (changed is t n (Withdraw e c) l).rows b'
 withdraws is t n e c l b b' k u f =
     subst (Mirrors (changed is t n (Withdraw e c) l).rows) (sym f)
@@ -115,7 +115,7 @@ accepted_now : (n : ℕ) (s : Terms) (a : Ask) (o : Option Row)
 accepted_now n s a None = refl
 accepted_now n s a (Some r) = refl
 
-pub accepts_none : (is : List Instrument) (t : Time) (n : ℕ) (s : Terms) (a : Ask) (l : Ledger) (b : Lit)
+pub accepts_none : (is : List Instrument) (t : Time) (n : ℕ) (s : Terms) (a : Ask) (l : Ledger) (b : Lists)
     → Mirrors l.rows b → Mirrors (changed is t n (Accept s a) l).rows b
 accepts_none is t n s a l b k = stays_by is t n (Accept s a) l b k (accepted_now n s a (under l.rows n))
 
@@ -127,7 +127,7 @@ undone_now n u (Some r) = go (undoable u.quantity r)
     go true = refl
     go false = refl
 
-pub undoes : (is : List Instrument) (t : Time) (n : ℕ) (u : Undone) (l : Ledger) (b : Lit)
+pub undoes : (is : List Instrument) (t : Time) (n : ℕ) (u : Undone) (l : Ledger) (b : Lists)
     → Mirrors l.rows b → Mirrors (changed is t n (Undo u) l).rows b
 undoes is t n u l b k = stays_by is t n (Undo u) l b k (undone_now n u (under l.rows n))
 
@@ -157,7 +157,7 @@ filled_now n f o r e some le =
     ap (λ (x : Option Row). made x (after n (Fill f) x)) e
     ∙ ap (λ (b : Bool). made (Some r) (where_allowed b (filled f.quantity r))) (fillable_is f.quantity r some le)
 
-left_now : (n q : ℕ) (r : Row) (b : Lit) → order_under b n ≡ Some (as_order n r) → OnceIn n b → q ≤ r.leaves
+left_now : (n q : ℕ) (r : Row) (b : Lists) → order_under b n ≡ Some (as_order n r) → OnceIn n b → q ≤ r.leaves
     → order_under (altered b n (left_of q r.leaves)) n ≡ open_order n (Some (filled q r))
 left_now n q r b e u le = go (nat_lt q r.leaves) refl
   where
@@ -172,7 +172,7 @@ left_now n q r b e u le = go (nat_lt q r.leaves) refl
         let none : nat_lt 0 (r.leaves - q) ≡ false = Prim.grind arith in
         altered_none b n u ∙ sym (cond-false (nat_lt 0 (r.leaves - q)) _ _ none)
 
-pub fills : (is : List Instrument) (t : Time) (n : ℕ) (f : Filling) (l : Ledger) (b : Lit) (o : Order)
+pub fills : (is : List Instrument) (t : Time) (n : ℕ) (f : Filling) (l : Ledger) (b : Lists) (o : Order)
     → Mirrors l.rows b → OnceIn n b → order_under b n ≡ Some o → 0 < f.quantity → f.quantity ≤ o.quantity
     → Mirrors (changed is t n (Fill f) l).rows (altered b n (left_of f.quantity o.quantity))
 fills is t n f l b o k u e some le =
@@ -190,7 +190,7 @@ fills is t n f l b o k u e some le =
 some_ordered : (q : ℕ) → orderable q ≡ true → nat_lt 0 q ≡ true
 some_ordered q h = (and_parts (nat_lt 0 q) _ h).0
 
-pub enters : (is : List Instrument) (t : Time) (s : Terms) (a : Ask) (l : Ledger) (b b' : Lit)
+pub enters : (is : List Instrument) (t : Time) (s : Terms) (a : Ask) (l : Ledger) (b b' : Lists)
     → Mirrors l.rows b → orderable a.quantity ≡ true
     → b' ≡ entered b (order_of (length l.rows + 1) (ticket_of s a)) → Mirrors (opened is t s a l).rows b'
 enters is t s a l b b' k some f =
@@ -229,11 +229,11 @@ same_price order_type.Limit p q h =
     let e : p.raw ≡ q.raw = Prim.grind (arith, ints) in ap (λ (z : _). Limit (record { raw = z })) e
 
 -- the book after it: the order has its new limit and quantity, and the others are as they were
-record Again (n : ℕ) (a : Ask) (r : Row) (b b' : Lit) : Type 0 where
+record Again (n : ℕ) (a : Ask) (r : Row) (b b' : Lists) : Type 0 where
   here : order_under b' n ≡ Some (as_order n (replaced a r))
   others : (m : ℕ) → (n ≡ m → ⊥) → order_under b' m ≡ order_under b m
 
-again : (n : ℕ) (a : Ask) (r : Row) (b : Lit) → OnceIn n b → order_under b n ≡ Some (as_order n r)
+again : (n : ℕ) (a : Ask) (r : Row) (b : Lists) → OnceIn n b → order_under b n ≡ Some (as_order n r)
     → Again n a r b (amended b (Some (as_order n r)) (a.quantity - r.executed) a.price)
 again n a r b u e = go (goes_back (as_order n r) (a.quantity - r.executed) a.price) refl
   where
@@ -283,7 +283,7 @@ unreplaced_now n a r h =
     (where_allowed (is_none (cond (not b) (Some NotOpen) later)) (replaced a r)))) h
     ∙ cond-false (nat_lt 0 r.leaves) _ _ h
 
-pub replaces : (is : List Instrument) (t : Time) (n : ℕ) (a : Ask) (l : Ledger) (b b' : Lit)
+pub replaces : (is : List Instrument) (t : Time) (n : ℕ) (a : Ask) (l : Ledger) (b b' : Lists)
     → Mirrors l.rows b → OnceIn n b → orderable a.quantity ≡ true
     → b' ≡ amended b (order_under b n) (a.quantity - executed_of (under l.rows n)) a.price
     → ((o : Order) → order_under b' n ≡ Some o → 0 < o.quantity)

@@ -10,17 +10,21 @@ use Rattle.codes.specs.declared.report.Liquidity.TheVariants.{Added, Removed}
 use Rattle.changes.specs.declared.change.Change.TheVariants.{Fill}
 use Rattle.configuration.specs.declared.instrument.Instrument.{Instrument}
 use Rattle.keyed.specs.Numbers.{under}
-use Rattle.lit_book.proofs.Bests.{best_some}
-use Rattle.lit_book.proofs.Stops.{Ends, all_same, stop}
-use Rattle.lit_book.specs.Laws.{FirstServed, Served, at_rest_for}
-use Rattle.lit_book.specs.Lists.{best, order_in}
-use Rattle.lit_book.specs.Orders.{accepts, crosses, opposes, price, takes}
-use Rattle.lit_book.specs.Rules.{Lit, altered, left_of, next, order_under, size_of, trade_of}
-use Rattle.lit_book.specs.declared.order.Order.{Order}
+use Rattle.lit_book.specs.Keeping.{lit_keeps}
+use Rattle.lit_book.specs.Laws.{FirstServed, Served}
+use Rattle.lit_book.specs.Orders.{crosses, takes}
+use Rattle.lit_book.specs.Rules.{best, lit_rule, next}
 use Rattle.lit_day.proofs.Finding.{Once, OnceIn, altered_none, altered_other, both, mid, once_altered, once_front, once_in}
 use Rattle.lit_day.proofs.Mirroring.{fills, opened_by, withdraws}
 use Rattle.lit_day.specs.Trading.{Mirrors, Stepped, Within, as_order, open_order}
 use Rattle.matching.specs.declared.event.Event.{Event}
+use Rattle.order_book.proofs.Bests.{best_some}
+use Rattle.order_book.proofs.Stops.{Ends, all_same, stop}
+use Rattle.order_book.specs.Laws.{at_rest_for}
+use Rattle.order_book.specs.Lists.{order_in}
+use Rattle.order_book.specs.Orders.{accepts, opposes, price}
+use Rattle.order_book.specs.Rules.{Lists, altered, left_of, order_under, size_of, trade_of}
+use Rattle.order_book.specs.declared.order.Order.{Order}
 use Rattle.orders.specs.declared.row.Ending.TheVariants.{Expired}
 use Rattle.orders.specs.declared.row.Row.{Row}
 use Rattle.terms.specs.Pricing.{price_of}
@@ -34,7 +38,7 @@ use Rattle.venue.specs.Ledger.{Ledger, changed, expired_as}
 use Rattle.venue.specs.Trading.{filling}
 
 -- every number is of one order at most
-abbrev pub Apart : Lit → Type 0
+abbrev pub Apart : Lists → Type 0
 Apart b = (n : ℕ) → Once n (b.resting ++ b.waiting)
 
 -- ---- two orders that trade
@@ -53,7 +57,7 @@ record Meet (rs ws : List Order) (a o : Order) : Type 0 where
 meets : (rs ws : List Order) (a o : Order) → Apart (record { resting = rs; waiting = a ∷ ws }) → best a rs ≡ Some o
     → Meet rs ws a o
 meets rs ws a o u f =
-    let t = best_some a o rs f in
+    let t = best_some lit_rule lit_keeps a o rs f in
     let front : Once o.number (t.before ++ o ∷ t.after) =
     subst (Once o.number) t.split (once_front o.number rs (a ∷ ws) (u o.number)) in
     let here : order_in rs o.number ≡ Some o =
@@ -68,13 +72,13 @@ meets rs ws a o u f =
           let one : Some o ≡ Some a = sym first ∙ ap (order_in (rs ++ a ∷ ws)) e ∙ second in
           let is : o ≡ a = cc in
           own_side a.side (subst (λ (x : Order). opposes a.side x.side ≡ true) is
-          (and_parts (opposes a.side o.side) _ (and_parts (eqb a.instrument o.instrument) _ t.crossed).1).0);
-      crossed = t.crossed;
+          (and_parts (opposes a.side o.side) _ (and_parts (eqb a.instrument o.instrument) _ t.fitting).1).0);
+      crossed = t.fitting;
     }
 
 -- ---- the orders follow
 
-expires : (is : List Instrument) (t : Time) (n : ℕ) (l : Ledger) (b : Lit) (o : Option Row) → Mirrors l.rows b
+expires : (is : List Instrument) (t : Time) (n : ℕ) (l : Ledger) (b : Lists) (o : Option Row) → Mirrors l.rows b
     → OnceIn n b → under l.rows n ≡ o → Mirrors (expired_as is t n o l).rows (altered b n None)
 expires is t n l b (Some r) k u e = withdraws is t n Expired r.client l b (altered b n None) k u refl
 expires is t n l b None k u e = λ m. go m (cases_eq n m)
@@ -84,20 +88,21 @@ expires is t n l b None k u e = λ m. go m (cases_eq n m)
         (altered_none b n u ∙ sym (ap (open_order n) e))
     go m (inr ne) = altered_other b n m None ne ∙ k m
 
-by_end : (t : Time) (b : Books) (rs ws : List Order) (p : Event × Lit)
+by_end : (t : Time) (b : Books) (rs ws : List Order) (p : Event × Lists)
     → Mirrors b.rows (record { resting = rs; waiting = ws }) → Apart (record { resting = rs; waiting = ws })
-    → Ends rs ws p → Mirrors (told_by t p.0 b).rows p.1
-by_end t b rs [] p k u h = subst (λ (x : Event × Lit). Mirrors (told_by t x.0 b).rows x.1) (sym h) k
+    → Ends lit_rule rs ws p → Mirrors (told_by t p.0 b).rows p.1
+by_end t b rs [] p k u h = subst (λ (x : Event × Lists). Mirrors (told_by t x.0 b).rows x.1) (sym h) k
 by_end t b rs (a ∷ ws) p k u (inr h) =
-    subst (λ (x : Event × Lit). Mirrors (told_by t x.0 b).rows x.1) (sym h)
+    subst (λ (x : Event × Lists). Mirrors (told_by t x.0 b).rows x.1) (sym h.is)
     (expires b.instruments t a.number (ledger_of b) (record { resting = rs; waiting = a ∷ ws })
     (under b.rows a.number) k
     (once_in a.number (record { resting = rs; waiting = a ∷ ws }) (u a.number)) refl)
-by_end t b rs (a ∷ ws) p k u (inl (o, f, h)) =
-    let c : Lit = record { resting = rs; waiting = a ∷ ws } in
+by_end t b rs (a ∷ ws) p k u (inl h) =
+    let o = h.other in
+    let c : Lists = record { resting = rs; waiting = a ∷ ws } in
     let q : ℕ = size_of a o in
     let d = deal_of b q (price o) in
-    let x = meets rs ws a o u f in
+    let x = meets rs ws a o u h.best_is in
     let one = opened_by o.number (under b.rows o.number) o (sym (k o.number) ∙ x.passive) in
     let two = opened_by a.number (under b.rows a.number) a (sym (k a.number) ∙ x.aggressive) in
     let has_one : one.row.leaves ≡ o.quantity = ap (λ (y : Order). y.quantity) one.same in
@@ -114,22 +119,22 @@ by_end t b rs (a ∷ ws) p k u (inl (o, f, h)) =
     first
     (once_altered c o.number a.number (left_of q o.quantity) x.apart (once_in a.number c (u a.number)))
     (altered_other c o.number a.number (left_of q o.quantity) x.apart ∙ x.aggressive) some fits_two in
-    subst (λ (y : Event × Lit). Mirrors (told_by t y.0 b).rows y.1) (sym h) second
+    subst (λ (y : Event × Lists). Mirrors (told_by t y.0 b).rows y.1) (sym h.is) second
 
 -- where the search for an event stops the orders are the same
-stopped : (rows : List Row) (x : Lit) (rs ws : List Order) → rs ++ ws ≡ x.resting ++ x.waiting → Mirrors rows x
+stopped : (rows : List Row) (x : Lists) (rs ws : List Order) → rs ++ ws ≡ x.resting ++ x.waiting → Mirrors rows x
     → Mirrors rows (record { resting = rs; waiting = ws })
 stopped rows x rs ws e k n = ap (λ (l : List Order). order_in l n) e ∙ k n
 
-apart_stopped : (x : Lit) (rs ws : List Order) → rs ++ ws ≡ x.resting ++ x.waiting → Apart x
+apart_stopped : (x : Lists) (rs ws : List Order) → rs ++ ws ≡ x.resting ++ x.waiting → Apart x
     → Apart (record { resting = rs; waiting = ws })
 apart_stopped x rs ws e u n = subst (Once n) (sym e) (u n)
 
-pub taken : (t : Time) (b : Books) (x x' : Lit) (v : Event) → Mirrors b.rows x → Apart x → v ≡ (next x).0
+pub taken : (t : Time) (b : Books) (x x' : Lists) (v : Event) → Mirrors b.rows x → Apart x → v ≡ (next x).0
     → x' ≡ (next x).1 → Mirrors (told_by t v b).rows x'
 taken t b x x' v k u e f =
-    let s = stop x.resting x.waiting in
-    let same = all_same x.resting x.waiting s in
+    let s = stop lit_rule x.resting x.waiting in
+    let same = all_same lit_rule x.resting x.waiting s in
     subst (λ (w : Event). Mirrors (told_by t w b).rows x') (sym e)
     (subst (Mirrors (told_by t (next x).0 b).rows) (sym f)
     (by_end t b s.at_rest s.in_wait (next x) (stopped b.rows x s.at_rest s.in_wait same k)
@@ -149,7 +154,7 @@ own_limit : (s v : Side) (t u : Pricing) → takes s t u ≡ true → accepts v 
 own_limit s v t Market h = absurd (both_ways false refl h)
 own_limit s v t (Limit p) h = own_price v p
 
-within_rows : (rows : List Row) (b : Lit) (p a q : ℕ) (r s : Row) → under rows p ≡ Some r → under rows a ≡ Some s
+within_rows : (rows : List Row) (b : Lists) (p a q : ℕ) (r s : Row) → under rows p ≡ Some r → under rows a ≡ Some s
     → crosses (as_order a s) (as_order p r) ≡ true → q ≤ r.leaves → q ≤ s.leaves
     → FirstServed (as_order a s) p (at_rest_for a b) → Within rows b p a q (price (as_order p r))
 within_rows rows b p a q r s e f c x y first =
@@ -171,14 +176,15 @@ found_served : (o : Option Order) (a : Order) (p : ℕ) (os : List Order) → o 
     → MatchOption o ⊥ (λ x. FirstServed x p os) → FirstServed a p os
 found_served o a p os e h = subst (λ (w : Option Order). MatchOption w ⊥ (λ x. FirstServed x p os)) e h
 
-within_by : (v : Books) (x : Lit) (rs ws : List Order) (p : Event × Lit) → rs ++ ws ≡ x.resting ++ x.waiting
-    → Mirrors v.rows x → Apart x → Ends rs ws p → Served x p.0 → Stepped v.rows x (step_of p.0 v)
+within_by : (v : Books) (x : Lists) (rs ws : List Order) (p : Event × Lists) → rs ++ ws ≡ x.resting ++ x.waiting
+    → Mirrors v.rows x → Apart x → Ends lit_rule rs ws p → Served x p.0 → Stepped v.rows x (step_of p.0 v)
 within_by v x rs [] p same k u h served =
-    subst (λ (y : Event × Lit). Stepped v.rows x (step_of y.0 v)) (sym h) tt
+    subst (λ (y : Event × Lists). Stepped v.rows x (step_of y.0 v)) (sym h) tt
 within_by v x rs (a ∷ ws) p same k u (inr h) served =
-    subst (λ (y : Event × Lit). Stepped v.rows x (step_of y.0 v)) (sym h) tt
-within_by v x rs (a ∷ ws) p same k u (inl (o, f, h)) served =
-    let m = meets rs ws a o (apart_stopped x rs (a ∷ ws) same u) f in
+    subst (λ (y : Event × Lists). Stepped v.rows x (step_of y.0 v)) (sym h.is) tt
+within_by v x rs (a ∷ ws) p same k u (inl h) served =
+    let o = h.other in
+    let m = meets rs ws a o (apart_stopped x rs (a ∷ ws) same u) h.best_is in
     let at_one : order_under x o.number ≡ Some o = ap (λ (l : List Order). order_in l o.number) (sym same)
     ∙ m.passive in
     let at_two : order_under x a.number ≡ Some a = ap (λ (l : List Order). order_in l a.number) (sym same)
@@ -189,21 +195,21 @@ within_by v x rs (a ∷ ws) p same k u (inl (o, f, h)) served =
     let has_two : two.row.leaves ≡ a.quantity = ap (λ (y : Order). y.quantity) two.same in
     let fits_one : size_of a o ≤ one.row.leaves = omega arith in
     let fits_two : size_of a o ≤ two.row.leaves = omega arith in
-    let said : Served x (trade_of a o) = subst (λ (y : Event × Lit). Served x y.0) h served in
+    let said : Served x (trade_of a o (price o)) = subst (λ (y : Event × Lists). Served x y.0) h.is served in
     let first : FirstServed a o.number (at_rest_for a.number x) =
     found_served (order_under x a.number) a o.number (at_rest_for a.number x) at_two said in
     let c : crosses (as_order a.number two.row) (as_order o.number one.row) ≡ true =
     subst (λ (y : Order). crosses y (as_order o.number one.row) ≡ true) (sym two.same)
     (subst (λ (y : Order). crosses a y ≡ true) (sym one.same) m.crossed) in
-    subst (λ (y : Event × Lit). Stepped v.rows x (step_of y.0 v)) (sym h)
+    subst (λ (y : Event × Lists). Stepped v.rows x (step_of y.0 v)) (sym h.is)
     (subst (λ (y : Order). Within v.rows x o.number a.number (size_of a o) (price y)) one.same
     (within_rows v.rows x o.number a.number (size_of a o) one.row two.row one.is two.is c fits_one fits_two
     (subst (λ (y : Order). FirstServed y o.number (at_rest_for a.number x)) (sym two.same) first)))
 
-pub within : (v : Books) (x : Lit) (e : Event) → Mirrors v.rows x → Apart x → e ≡ (next x).0 → Served x e
+pub within : (v : Books) (x : Lists) (e : Event) → Mirrors v.rows x → Apart x → e ≡ (next x).0 → Served x e
     → Stepped v.rows x (step_of e v)
 within v x e k u is served =
-    let s = stop x.resting x.waiting in
+    let s = stop lit_rule x.resting x.waiting in
     subst (λ (w : Event). Stepped v.rows x (step_of w v)) (sym is)
-    (within_by v x s.at_rest s.in_wait (next x) (all_same x.resting x.waiting s) k u s.ends
+    (within_by v x s.at_rest s.in_wait (next x) (all_same lit_rule x.resting x.waiting s) k u s.ends
     (subst (Served x) is served))

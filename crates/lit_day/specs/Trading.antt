@@ -8,11 +8,12 @@ use Rattle.gateway.specs.declared.fault.GatewayFault.{GatewayFault}
 use Rattle.keyed.specs.Numbers.{under}
 use Rattle.gateway_runs.specs.Runs.{Does}
 use Rattle.lit_book.specs.Books.{LitDid, lit, lit_meaning}
-use Rattle.lit_book.specs.Laws.{FirstServed, at_rest_for}
-use Rattle.lit_book.specs.Orders.{accepts, opposes}
-use Rattle.lit_book.specs.Rules.{Lit, order_under}
+use Rattle.lit_book.specs.Laws.{FirstServed}
 use Rattle.lit_book.specs.declared.book.LitBook.{LitBook}
-use Rattle.lit_book.specs.declared.order.Order.{Order}
+use Rattle.order_book.specs.Laws.{at_rest_for}
+use Rattle.order_book.specs.Orders.{accepts, opposes}
+use Rattle.order_book.specs.Rules.{Lists, order_under}
+use Rattle.order_book.specs.declared.order.Order.{Order}
 use Rattle.orders.specs.Rows.{is_open}
 use Rattle.orders.specs.declared.row.Row.{Row}
 use Rattle.terms.specs.Pricing.{pricing_of}
@@ -43,11 +44,11 @@ open_order n None = None
 open_order n (Some r) = if is_open r then Some (as_order n r) else None
 
 -- the book holds exactly the gateway's open orders, each with its side, limit, lifetime and open quantity
-abbrev pub Mirrors : List Row → Lit → Type 0
+abbrev pub Mirrors : List Row → Lists → Type 0
 Mirrors rows b = (n : ℕ) → order_under b n ≡ open_order n (under rows n)
 
 -- a trade of q at the price z between the order p, which was at rest, and the order a, which came to it
-pub record Within (rows : List Row) (b : Lit) (p a q : ℕ) (z : Price) : Type 0 where
+pub record Within (rows : List Row) (b : Lists) (p a q : ℕ) (z : Price) : Type 0 where
   pub passive : Row
   pub aggressive : Row
   pub resting : under rows p ≡ Some passive
@@ -63,20 +64,20 @@ pub record Within (rows : List Row) (b : Lit) (p a q : ℕ) (z : Price) : Type 0
   pub first : FirstServed (as_order a aggressive) p (at_rest_for a b)
 
 -- a trade names both its orders
-abbrev pub Named : List Row → Lit → Option ℕ → Option ℕ → ℕ → Price → Type 0
+abbrev pub Named : List Row → Lists → Option ℕ → Option ℕ → ℕ → Price → Type 0
 Named rows b (Some p) (Some a) q z = Within rows b p a q z
 Named rows b p a q z = ⊥
 
-abbrev pub Stepped : List Row → Lit → Step → Type 0
+abbrev pub Stepped : List Row → Lists → Step → Type 0
 Stepped rows b (step.Traded k p a q z) = Named rows b p a q z
 Stepped rows b r = Unit {0}
 
-abbrev pub Answered : List Row → Lit → Result Step GatewayFault → Type 0
+abbrev pub Answered : List Row → Lists → Result Step GatewayFault → Type 0
 Answered rows b (Ok r) = Stepped rows b r
 Answered rows b (Err f) = Unit {0}
 
 -- where a call answers with a trade, it is such a one
-abbrev pub Fairly : List Row → Lit → Done → Type 0
+abbrev pub Fairly : List Row → Lists → Done → Type 0
 Fairly rows b (done.Step t r) = Answered rows b r
 Fairly rows b d = Unit {0}
 

@@ -1,5 +1,6 @@
 pub mod Asked
 pub mod Meaning
+pub mod Midpoints
 pub mod TapeRows
 pub mod Tapes
 pub mod Texts

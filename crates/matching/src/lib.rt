@@ -3,4 +3,5 @@
 
 pub mod event;
 pub mod matcher;
+pub mod midpoint;
 pub mod tape;

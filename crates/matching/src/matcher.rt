@@ -4,14 +4,17 @@
 // Every contract gives the whole meaning after the call, so what it does not name stays. Which event comes next is the
 // engine's own to choose at each call, so code above is proved for every engine. What more an engine states of its steps
 // is its choice, too: it says so in its `Did`, and one that says nothing writes no line for it.
-ghost use Rattle.std.specs.Prelude.{◌≡◌, ◌≤◌, Some, OnOk, is_some, is_ok, if◌then◌else◌, ◌==◌};
+ghost use Rattle.std.specs.Prelude.{◌≡◌, ◌≤◌, ℕ, Bool, false, Option, Some, OnOk, is_some, is_ok, if◌then◌else◌, ◌==◌};
 ghost use Rattle.std.specs.FinMap.{get, len};
 ghost use Rattle.std.specs.Result.{result_err};
 ghost use Rattle.matching.specs.Meaning.{Allowed, Meaning, amend_refusal, cancel_refusal, closed, enter_refusal, happened, held_of, open_quantity, opened, resized, serves};
+ghost use Rattle.matching.specs.Midpoints.{midpoint_refusal};
+ghost use Rattle.texts.specs.declared.values.Price.{Price as At};
 ghost use Rattle.matching.specs.Asked.{Asked, Enter, Cancel, Amend, Next};
 ghost use Rattle.matching.specs.Texts.{refusal_text};
 
 use crate::event::Event;
+use crate::midpoint::MidpointRefusal;
 use codes::order::{Book, Side};
 use std::fmt;
 use terms::lifetime::Lifetime;
@@ -80,6 +83,13 @@ pub trait Matcher {
     // what may come of a call that is done: the engine before it, the call, the engine after it
     ghost Did: { Self → Asked → Self → Type 0 } = { λ _ _ _. Unit {0} };
 
+    // whether it is told midpoints
+    ghost guided: { Bool } = { false };
+
+    // what may come of a midpoint: the engine before it, the instrument, its midpoint, whether it was taken, the engine
+    // after it; one that says nothing takes none, and stays
+    ghost Learns: { Self → ℕ → Option At → Bool → Self → Type 0 } = { λ a _ _ taken b. (taken ≡ false) × (b ≡ a) };
+
     /// Opens an order under a number. Refused exactly at quantity 0, an open number or a full engine, tried in this
     /// order.
     fn enter(&mut self, number: u64, terms: Ticket) -> Result<(), Refusal>
@@ -107,6 +117,14 @@ pub trait Matcher {
         ensures allowed { Allowed (meaning self.old).orders result }
         ensures after { meaning self.new ≡ happened (meaning self.old) result }
         ensures did { Did self.old (Next result) self.new };
+
+    /// Tells it an instrument's midpoint price, or that it has none. Refused with 21 by an engine that is not told
+    /// midpoints; else exactly where the instrument's number is not under 32 (20), or the price is not above 0 (22), tried
+    /// in this order. It changes no order.
+    fn midpoint(&mut self, instrument: usize, price: Option<Price>) -> Result<(), MidpointRefusal>
+        ensures refusal { result_err result ≡ midpoint_refusal guided instrument price }
+        ensures learns { Learns self.old instrument price (is_ok result) self.new }
+        ensures orders { meaning self.new ≡ meaning self.old };
 
     /// The order that is open under a number, if one is.
     fn open_order(&self, number: u64) -> Option<Held>

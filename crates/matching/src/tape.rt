@@ -5,6 +5,7 @@ ghost use Rattle.matching.specs.declared.tape.TheConstants as limit;
 
 use crate::event::Event;
 use crate::matcher::{Held, Matcher, Refusal, Ticket};
+use crate::midpoint::MidpointRefusal;
 use codes::order::Book;
 use keyed::{Numbered, place_of};
 use std::alloc::{AllocError, Global};
@@ -261,6 +262,14 @@ impl Matcher for Tape {
             Some((i, line)) => self.play(i, line),
             None => Event::Nothing,
         }
+    }
+
+    fn midpoint(
+        &mut self,
+        _instrument: usize,
+        _price: Option<Price>,
+    ) -> Result<(), MidpointRefusal> {
+        Err(MidpointRefusal::NoMidpoints)
     }
 
     fn open_order(&self, number: u64) -> Option<Held> {

@@ -6,3 +6,4 @@ pub mod Acts
 pub mod Enacting
 pub mod Inside
 pub mod Laws
+pub mod Telling

@@ -10,6 +10,7 @@ use codes::session::Partition;
 use configuration::instrument::Instrument;
 use matching::event::Event;
 use matching::matcher::Matcher;
+use matching::midpoint::MidpointRefusal;
 use orders::order::Order;
 use orders::row::{Ask, Ending, Terms};
 use orders::table::Table;
@@ -19,7 +20,7 @@ use std::alloc::Global;
 use std::marker::Model;
 use store::Store;
 use texts::fixed::FixedText;
-use texts::values::Time;
+use texts::values::{Price, Time};
 
 /// The venue under a gateway's lines: in a contract, its books, and beside them its matcher as it is and how many places
 /// its store has free.
@@ -60,6 +61,7 @@ impl<M: Matcher, S: Store> Venue<M, S> {
     ghost use Rattle.venue.specs.Acts.{Open, Alter, Note, Void};
     ghost use Rattle.venue.specs.Books.{Roomy, Sound, fresh};
     ghost use Rattle.venue.specs.Enacting.{Enacts, Silent, Stepped};
+    ghost use Rattle.venue.specs.Telling.{Told};
     ghost use Rattle.changes.specs.declared.change.Change.TheVariants.{Replace, Withdraw};
     ghost use Rattle.texts.specs.declared.values.Time.{Time as Moment};
 
@@ -176,6 +178,18 @@ impl<M: Matcher, S: Store> Venue<M, S> {
     {
         let trade = self.trades.cancel(number).unwrap();
         self.ledger.undo(trade, time);
+    }
+
+    /// Tells the matcher an instrument's midpoint price, or that it has none; the books stay. Refused as the matcher refuses
+    /// it: with 20, 21 or 22.
+    pub fn midpoint(
+        &mut self,
+        instrument: usize,
+        price: Option<Price>,
+    ) -> Result<(), MidpointRefusal>
+        ensures { Told M.guided M.Learns instrument price result self.old self.new }
+    {
+        self.matcher.midpoint(instrument, price)
     }
 
     /// What holds of every venue, for callers: they see the value alone.

@@ -31,6 +31,7 @@ returns c =
       downloaded = refl;
       held = refl;
       lit_book = λ os. refl;
+      dark_book = λ os. refl;
       tape = λ os. refl;
       start = refl;
       sequence_limit = refl;

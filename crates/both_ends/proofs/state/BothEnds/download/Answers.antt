@@ -28,16 +28,16 @@ some_asked : (v : Vec ℕ Global) → false ≡ eqb (vec_len v) 0 → v.items �
 some_asked v e h = true≢false (sym (eq-eqb (vec_len v) 0 (v.ok.0 ∙ ap length h)) ∙ sym e)
 
 pub returns-in_err-request-clause-calls : goal.returns-in_err-request-clause-calls
-returns-in_err-request-clause-calls g c = ask_tried g.M.Matcher.Did g.Q.Question.answer c.args.line c.byte.result
+returns-in_err-request-clause-calls g c = ask_tried g.M.Matcher.Did g.M.Matcher.guided g.M.Matcher.Learns g.Q.Question.answer c.args.line c.byte.result
     c.in_ok-buffer.field-0 c.args.self.now c.pass.new.self c.in_err-request.ensures.error
 
 pub returns-in_err-request-clause-line : goal.returns-in_err-request-clause-line
-returns-in_err-request-clause-line g c = ask_tried_line g.M.Matcher.Did g.Q.Question.answer c.args.line c.byte.result
+returns-in_err-request-clause-line g c = ask_tried_line g.M.Matcher.Did g.M.Matcher.guided g.M.Matcher.Learns g.Q.Question.answer c.args.line c.byte.result
     c.in_ok-buffer.field-0 c.args.self.now c.pass.new.self c.in_err-request.ensures.error
 
-nothing_asked : (g : Over) (c : goal.After-drop-request g) → Tried g.M.Matcher.Did g.Q.Question.answer c.args.line
+nothing_asked : (g : Over) (c : goal.After-drop-request g) → Tried g.M.Matcher.Did g.M.Matcher.guided g.M.Matcher.Learns g.Q.Question.answer c.args.line
     c.args.partition false c.args.self.now c.pass.new.self
-nothing_asked g c = not_asked g.M.Matcher.Did g.Q.Question.answer c.args.line c.args.partition c.in_ok-buffer.field-0
+nothing_asked g c = not_asked g.M.Matcher.Did g.M.Matcher.guided g.M.Matcher.Learns g.Q.Question.answer c.args.line c.args.partition c.in_ok-buffer.field-0
     (is_wide c.in_ok-buffer.field-0 c.in_ok-buffer.ensures) c.in_ok-request.request.items c.args.self.now c.pass.new.self
     (subst (λ n. Passes g.M.Matcher.Did (Ask n c.in_ok-buffer.field-0) c.in_ok-request.request.items c.args.self.now
     c.pass.new.self) c.byte.ensures c.in_ok-request.ensures.passed)
@@ -56,24 +56,24 @@ returns-then-is_empty-clause-whole g c = (nothing_asked g c).whole
 
 pub returns-in_err-load-clause-calls : goal.returns-in_err-load-clause-calls
 returns-in_err-load-clause-calls g c =
-    more_downloads g.M.Matcher.Did g.Q.Question.answer c.args.line c.args.self.now c.pass.new.self c.load.new.self
-    (asks g.M.Matcher.Did g.Q.Question.answer c.args.line c.args.partition c.in_ok-buffer.field-0
+    more_downloads g.M.Matcher.Did g.M.Matcher.guided g.M.Matcher.Learns g.Q.Question.answer c.args.line c.args.self.now c.pass.new.self c.load.new.self
+    (asks g.M.Matcher.Did g.M.Matcher.guided g.M.Matcher.Learns g.Q.Question.answer c.args.line c.args.partition c.in_ok-buffer.field-0
     (is_wide c.in_ok-buffer.field-0 c.in_ok-buffer.ensures) c.in_ok-request.request.items c.args.self.now c.pass.new.self
     (subst (λ n. Passes g.M.Matcher.Did (Ask n c.in_ok-buffer.field-0) c.in_ok-request.request.items c.args.self.now
     c.pass.new.self) c.byte.ensures c.in_ok-request.ensures.passed)) c.load.ensures.calls
 
 pub returns-in_err-load-clause-line : goal.returns-in_err-load-clause-line
 returns-in_err-load-clause-line g c =
-    loads_line g.M.Matcher.Did g.Q.Question.answer c.args.line c.args.partition c.in_ok-buffer.field-0
+    loads_line g.M.Matcher.Did g.M.Matcher.guided g.M.Matcher.Learns g.Q.Question.answer c.args.line c.args.partition c.in_ok-buffer.field-0
     (is_wide c.in_ok-buffer.field-0 c.in_ok-buffer.ensures) c.in_ok-request.request.items c.args.self.now c.pass.new.self
     (subst (λ n. Passes g.M.Matcher.Did (Ask n c.in_ok-buffer.field-0) c.in_ok-request.request.items c.args.self.now
     c.pass.new.self) c.byte.ensures c.in_ok-request.ensures.passed) c.load.new.self
     (some_asked c.in_ok-request.request c.if-is_empty.ensures) c.load.ensures.line
 
-asked : (g : Over) (c : goal.After-is_further g) → Tried g.M.Matcher.Did g.Q.Question.answer c.args.line
+asked : (g : Over) (c : goal.After-is_further g) → Tried g.M.Matcher.Did g.M.Matcher.guided g.M.Matcher.Learns g.Q.Question.answer c.args.line
     c.args.partition c.is_further.result c.args.self.now c.load.new.self
 asked g c =
-    loads g.M.Matcher.Did g.Q.Question.answer c.args.line c.args.partition c.in_ok-buffer.field-0
+    loads g.M.Matcher.Did g.M.Matcher.guided g.M.Matcher.Learns g.Q.Question.answer c.args.line c.args.partition c.in_ok-buffer.field-0
     (is_wide c.in_ok-buffer.field-0 c.in_ok-buffer.ensures) c.in_ok-request.request.items c.args.self.now c.pass.new.self
     (subst (λ n. Passes g.M.Matcher.Did (Ask n c.in_ok-buffer.field-0) c.in_ok-request.request.items c.args.self.now
     c.pass.new.self) c.byte.ensures c.in_ok-request.ensures.passed) c.is_further.result c.load.new.self

@@ -5,5 +5,5 @@ use Rattle.both_ends.proofs.state.BothEnds.law.Goals as goal
 
 pub returns : goal.returns
 returns g c =
-    let P : Ends _ _ _ → Type 0 = Holds g.M.Matcher.meaning g.M.Matcher.Did g.Q.Question.answer in
-    subst P c.self.view_is (holds g.M.Matcher.meaning g.M.Matcher.Did g.Q.Question.answer _ c.self.invariant)
+    let P : Ends _ _ _ → Type 0 = Holds g.M.Matcher.meaning g.M.Matcher.Did g.M.Matcher.guided g.M.Matcher.Learns g.Q.Question.answer in
+    subst P c.self.view_is (holds g.M.Matcher.meaning g.M.Matcher.Did g.M.Matcher.guided g.M.Matcher.Learns g.Q.Question.answer _ c.self.invariant)

@@ -42,23 +42,27 @@ pub invariant_of-self-2 : goal.invariant_of-self-2
 invariant_of-self-2 g c =
     let m = g.M.Matcher.meaning in
     let did = g.M.Matcher.Did in
+    let guided = g.M.Matcher.guided in
+    let learns = g.M.Matcher.Learns in
     let answer = g.Q.Question.answer in
     let y = c.make-done.new.gateway in
     let f : Desk = record { follower = c.make-done.new.follower; token = c.make-done.result.1 } in
-    let L : List (Entry g.row.Q.Denot g.row.A.Denot) → Type 0 = λ l. Ran m did answer (ends m did answer l y f) in
+    let L : List (Entry g.row.Q.Denot g.row.A.Denot) → Type 0 = λ l. Ran m did guided learns answer (ends m did guided learns answer l y f) in
     subst L (sym (grown g c))
-    (more m did answer _ c.self.inside.gateway _ (Made c.in_ok-done.done) y f c.self.invariant (moved g c)
+    (more m did guided learns answer _ c.self.inside.gateway _ (Made c.in_ok-done.done) y f c.self.invariant (moved g c)
     c.make-done.ensures.tie)
 
 pub returns-clause-made : goal.returns-clause-made
 returns-clause-made g c =
     let m = g.M.Matcher.meaning in
     let did = g.M.Matcher.Did in
+    let guided = g.M.Matcher.guided in
+    let learns = g.M.Matcher.Learns in
     let answer = g.Q.Question.answer in
     let y = c.make-done.new.gateway in
     let f : Desk = record { follower = c.make-done.new.follower; token = c.make-done.result.1 } in
-    let e : Ends g.row.M.Denot g.row.Q.Denot g.row.A.Denot = ends m did answer c.push_reserved.new.self.items y f in
-    subst (λ (b : Ends g.row.M.Denot g.row.Q.Denot g.row.A.Denot). Steps did answer (Make c.args.call) b e)
+    let e : Ends g.row.M.Denot g.row.Q.Denot g.row.A.Denot = ends m did guided learns answer c.push_reserved.new.self.items y f in
+    subst (λ (b : Ends g.row.M.Denot g.row.Q.Denot g.row.A.Denot). Steps did guided learns answer (Make c.args.call) b e)
     c.self.view_is
     (record {
       entry = Made c.in_ok-done.done;

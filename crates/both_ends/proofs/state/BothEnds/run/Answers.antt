@@ -7,11 +7,11 @@ use Rattle.both_ends.specs.Both.{Ends, StepsAll}
 use Rattle.both_ends.proofs.state.BothEnds.run.Goals as goal
 
 pub loop-step-init : goal.loop-step-init
-loop-step-init g c = none_taken g.M.Matcher.Did g.Q.Question.answer c.args.self.now c.args.self.now refl
+loop-step-init g c = none_taken g.M.Matcher.Did g.M.Matcher.guided g.M.Matcher.Learns g.Q.Question.answer c.args.self.now c.args.self.now refl
 
 pub loop-step-preserved : goal.loop-step-preserved
 loop-step-preserved g c =
-    one_taken g.M.Matcher.Did g.Q.Question.answer c.loop-step.yielded c.args.self.now c.loop-step.self c.take.new.self
+    one_taken g.M.Matcher.Did g.M.Matcher.guided g.M.Matcher.Learns g.Q.Question.answer c.loop-step.yielded c.args.self.now c.loop-step.self c.take.new.self
     c.in-Some.step c.loop-step.invariant c.in_ok-take.ensures.made
 
 -- what the iterator of a vector has given is a front of its items
@@ -30,6 +30,6 @@ returns-in_err-take-clause-front g c = on_err c.from_residual.result (record {
   rest = into_iter_items c.loop-step.step-iterator;
   is = sym c.into_iter-step-iterator.ensures.into_iter_gives.0
       ∙ taken_front c.into_iter-step-iterator.result c.loop-step.yielded c.loop-step.step-iterator c.loop-step.yielded_by;
-  taken = subst (λ (e : Ends _ _ _). StepsAll g.M.Matcher.Did g.Q.Question.answer c.loop-step.yielded c.args.self.now e)
+  taken = subst (λ (e : Ends _ _ _). StepsAll g.M.Matcher.Did g.M.Matcher.guided g.M.Matcher.Learns g.Q.Question.answer c.loop-step.yielded c.args.self.now e)
       (sym c.in_err-take.ensures.error) c.loop-step.invariant;
 })

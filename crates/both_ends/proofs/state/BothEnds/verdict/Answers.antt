@@ -12,9 +12,11 @@ pub returns-clause-agreed : goal.returns-clause-agreed
 returns-clause-agreed g c =
     let m = g.M.Matcher.meaning in
     let did = g.M.Matcher.Did in
+    let guided = g.M.Matcher.guided in
+    let learns = g.M.Matcher.Learns in
     let answer = g.Q.Question.answer in
-    let all : Holds m did answer c.args.self.now = subst (Holds m did answer) c.self.view_is
-    (holds m did answer _ c.self.invariant) in
+    let all : Holds m did guided learns answer c.args.self.now = subst (Holds m did guided learns answer) c.self.view_is
+    (holds m did guided learns answer _ c.self.invariant) in
     IfOk-weaker c.line_allows.result _ _ (λ r h ok. all.agrees c.args.line
     (allowed_by c.args.line (made c.args.self.now.log) r
     (h ∙ ap (λ l. verdict (after_log c.args.line (made l) quiet))

@@ -1,0 +1,2 @@
+pub mod Laws
+pub mod Examples

@@ -1,0 +1,4 @@
+pub mod Rules
+pub mod Keeping
+pub mod Books
+pub mod Laws

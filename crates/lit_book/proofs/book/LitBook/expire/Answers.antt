@@ -1,6 +1,0 @@
-use Rattle.lit_book.proofs.Matches.{oldest_place}
-use Rattle.lit_book.proofs.book.LitBook.expire.Goals as goal
-
-pub remove-requires : goal.remove-requires
-remove-requires c =
-    let b = c.args.self.now in oldest_place b.orders.items b.resting c.args.order b.apart c.requires.oldest

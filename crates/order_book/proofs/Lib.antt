@@ -1,0 +1,11 @@
+pub mod Flags
+pub mod Changes
+pub mod Nexts
+pub mod Stops
+pub mod Bests
+pub mod Places
+pub mod Tables
+pub mod Matches
+pub mod Amends
+pub mod Ends
+pub mod Fairs

@@ -1,0 +1,9 @@
+pub mod Orders
+pub mod Lists
+pub mod Pairing
+pub mod Rules
+pub mod Books
+pub mod Turns
+pub mod Steps
+pub mod Laws
+pub mod Texts
