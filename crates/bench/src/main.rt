@@ -37,6 +37,11 @@ The gateway's calls, as they are. TIME is SECONDS.MICROSECONDS, two whole number
   send LINE
   send-recovered LINE
 
+A question, which changes nothing: what would go if these bytes were given to the line as a mass cancel. It is answered with
+the orders and their open shares in partitions 1, 2 and 3, or as the mass cancel would be refused:
+
+  preview LINE HEX
+
 The matcher's midpoint of an instrument, by its number in the script, from 0; PRICE is one above 0:
 
   midpoint INSTRUMENT PRICE|none
@@ -77,6 +82,8 @@ ioc, and for the lit book where none says dark:
   replace LINE SYMBOL buy|sell QTY PRICE CLIENTID ORIGINAL [ioc] [dark]
                    ioc: the order is immediate or cancel
   mass-cancel LINE CLIENTID own|firm [instrument SYMBOL [dark] | segment SEGMENT]
+  preview-mass-cancel LINE CLIENTID own|firm [instrument SYMBOL [dark] | segment SEGMENT]
+                   sends nothing: what would go by this mass cancel
   missed LINE PARTITION LAST
                    asks for a download of the reports of a partition behind number LAST
 

@@ -5,6 +5,8 @@ use Rattle.bench_account.specs.declared.listing.Followed.{Followed}
 use Rattle.bench_account.specs.declared.listing.Listed.{Listed}
 use Rattle.bench_account.specs.declared.listing.Naming.{Naming}
 use Rattle.bench_account.specs.declared.listing.Place.{Place}
+use Rattle.bench_account.specs.declared.listing.Preview.{Preview}
+use Rattle.bench_account.specs.declared.listing.Taken.{Taken}
 use Rattle.bench_account.specs.declared.listing.Totals.{Totals}
 
 abbrev pub naming_text : Naming → List ℕ
@@ -40,3 +42,10 @@ followed_text o =
     (codes "order " ++ (decimal o.number ++ (codes " partition " ++ (decimal o.partition ++ codes " "))))
     ++ (codes "status " ++ (decimal o.status ++ (codes " executed "
     ++ (decimal o.executed ++ (codes " open " ++ decimal o.leaves)))))
+
+abbrev pub taken_text : Taken → List ℕ
+taken_text t = decimal t.orders ++ (codes " " ++ decimal t.shares)
+
+abbrev pub preview_text : Preview → List ℕ
+preview_text p =
+    codes "preview " ++ (taken_text p.one ++ (codes " " ++ (taken_text p.two ++ (codes " " ++ taken_text p.three))))

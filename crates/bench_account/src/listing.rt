@@ -1,6 +1,6 @@
 // The orders of a day, a line each.
 ghost use Rattle.std.specs.Prelude.{◌≡◌, Some};
-ghost use Rattle.bench_account.specs.Listings.{figures_text, followed_text, listed_text, naming_text, place_text, state_text, totals_text};
+ghost use Rattle.bench_account.specs.Listings.{figures_text, followed_text, listed_text, naming_text, place_text, preview_text, state_text, taken_text, totals_text};
 
 use std::fmt;
 
@@ -129,5 +129,36 @@ impl fmt::Display for Followed {
             "status {} executed {} open {}",
             self.status, self.executed, self.leaves
         )
+    }
+}
+
+/// What a mass cancel would take of a partition: orders, and the shares open of them.
+#[derive(Clone, Copy)]
+pub struct Taken {
+    pub orders: u64,
+    pub shares: u64,
+}
+
+impl fmt::Display for Taken {
+    ghost output = { λ taken. Some (taken_text taken) };
+
+    fn fmt<W: fmt::Write>(&self, f: &mut fmt::Formatter<W>) -> fmt::Result {
+        write!(f, "{} {}", self.orders, self.shares)
+    }
+}
+
+/// The same of each partition.
+#[derive(Clone, Copy)]
+pub struct Preview {
+    pub one: Taken,
+    pub two: Taken,
+    pub three: Taken,
+}
+
+impl fmt::Display for Preview {
+    ghost output = { λ preview. Some (preview_text preview) };
+
+    fn fmt<W: fmt::Write>(&self, f: &mut fmt::Formatter<W>) -> fmt::Result {
+        write!(f, "preview {} {} {}", self.one, self.two, self.three)
     }
 }

@@ -34,6 +34,13 @@ state_of (PairWire b) = b.gateway.state
 state_of (TapeRecords b) = b.gateway.state
 state_of (TapeWire b) = b.gateway.state
 
+-- how many places its store has free
+abbrev pub free_of : Day → ℕ
+free_of (LitRecords b) = b.gateway.free
+free_of (LitWire b) = b.gateway.free
+free_of (TapeRecords b) = b.gateway.free
+free_of (TapeWire b) = b.gateway.free
+
 abbrev pub desk_of : Day → Desk
 desk_of (LitRecords b) = b.desk
 desk_of (LitWire b) = b.desk
@@ -46,9 +53,10 @@ desk_of (TapeWire b) = b.desk
 
 -- a question was kept with its answer, as both ends show it, and they stay
 pub record Answers (q : Look) (a : Shown) (b e : Day) : Type 0 where
-  pub answer_is : a ≡ answer q (state_of b) (desk_of b).follower
+  pub answer_is : a ≡ answer q (state_of b) (free_of b) (desk_of b).follower
   pub log : log_of e ≡ log_of b ++ Asked q a ∷ []
   pub gateway : state_of e ≡ state_of b
+  pub free : free_of e ≡ free_of b
   pub desk : desk_of e ≡ desk_of b
 
 -- a midpoint was kept with what the matcher answered, and both ends show what they did

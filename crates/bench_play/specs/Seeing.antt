@@ -1,4 +1,4 @@
--- What a desk says of its follower. Assumes nothing.
+-- What a desk says of its follower, and what is said of a mass cancel that would be sent. Assumes nothing.
 use Rattle.std.specs.Prelude.{ℕ, false, Some, None, Option, length, ◌==◌, if◌then◌else◌}
 use Rattle.std.specs.Option.{option_map}
 use Rattle.codes.specs.Report.{status_code}
@@ -11,9 +11,17 @@ use Rattle.follower.specs.declared.side.Side.{Side}
 use Rattle.follower.specs.Sides.{is_level, held_in}
 use Rattle.orders.specs.Rows.{status_of}
 use Rattle.orders.specs.declared.row.Row.{Row}
+use Rattle.bench_account.specs.declared.answer.Answer.{Answer}
+use Rattle.bench_account.specs.declared.answer.Answer.TheVariants as answer
 use Rattle.bench_account.specs.declared.compared.Compared.{Compared}
 use Rattle.bench_account.specs.declared.compared.Seen.{Seen}
 use Rattle.bench_account.specs.declared.listing.Place.{Place}
+use Rattle.bench_account.specs.declared.listing.Preview.{Preview}
+use Rattle.bench_account.specs.declared.listing.Taken.{Taken}
+use Rattle.gateway.specs.Previews.{preview_number, preview_offset}
+use Rattle.gateway.specs.declared.preview.Going.{Going}
+use Rattle.gateway.specs.declared.preview.PreviewFault.{PreviewFault}
+use Rattle.partitions.specs.declared.per_partition.PerPartition.{PerPartition}
 
 -- an order as the follower knows it
 abbrev pub seen_as : Standing → Seen
@@ -41,8 +49,24 @@ place_of p s = record {
   held = length (held_in s.state);
 }
 
--- by what both ends show of it; of an order they show no place
+-- by what both ends show of it; of anything else they show no place
 abbrev pub place_shown : Partition → Shown → Place
 place_shown p (shown.Partition n level held) =
     record { partition = partition_code p; number = n; level = level; held = held }
 place_shown p (shown.Order r o) = record { partition = partition_code p; number = 0; level = false; held = 0 }
+place_shown p (shown.Preview r) = record { partition = partition_code p; number = 0; level = false; held = 0 }
+
+-- what a mass cancel would take, by partition
+abbrev pub taken_shown : Going → Taken
+taken_shown g = record { orders = g.orders; shares = g.shares }
+
+abbrev pub preview_shown : PerPartition Going → Preview
+preview_shown g = record { one = taken_shown g.one; two = taken_shown g.two; three = taken_shown g.three }
+
+-- or why it would be refused
+abbrev pub fault_by : Option ℕ → ℕ → Answer
+fault_by (Some at) n = answer.RefusedAt n at
+fault_by None n = answer.Refused n
+
+abbrev pub fault_shown : PreviewFault → Answer
+fault_shown f = fault_by (preview_offset f) (preview_number f)

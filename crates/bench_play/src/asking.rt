@@ -2,6 +2,7 @@
 use crate::calls::{buffer, make};
 use crate::day::Day;
 use crate::failure::Failure;
+use crate::preview::preview;
 use crate::state::State;
 use bench_words::command::Request;
 use bench_words::letter::Letter;
@@ -27,6 +28,22 @@ fn is_on_recovery(request: &Request<'_>) -> bool {
     matches!(request, Request::Recover | Request::Missed { .. })
 }
 
+// The bytes of the message that is asked for on a line.
+fn written<R: AllocGlobal>(
+    rt: &R,
+    day: &Day,
+    line: usize,
+    request: &Request<'_>,
+) -> Result<Vec<u8>, Failure> {
+    let letter = match Letter::of(request, &sender(day, line)) {
+        Ok(letter) => letter,
+        Err(why) => return Err(Failure::Misread(why)),
+    };
+    let mut message = [0; MESSAGE_BYTES];
+    let length = write(&letter.message(), &mut message).unwrap();
+    Ok(Vec::from_slice(rt.alloc(), &message[..length])?)
+}
+
 /// Builds a message and has it taken in on its line, at the time of the clock.
 pub fn ask<R: Print + AllocGlobal>(
     rt: &R,
@@ -35,13 +52,7 @@ pub fn ask<R: Print + AllocGlobal>(
     line: usize,
     request: Request<'_>,
 ) -> Result<(), Failure> {
-    let letter = match Letter::of(&request, &sender(day, line)) {
-        Ok(letter) => letter,
-        Err(why) => return Err(Failure::Misread(why)),
-    };
-    let mut message = [0; MESSAGE_BYTES];
-    let length = write(&letter.message(), &mut message).unwrap();
-    let bytes = Vec::from_slice(rt.alloc(), &message[..length])?;
+    let bytes = written(rt, day, line, &request)?;
     let buffer = buffer(rt.alloc())?;
     let call = if is_on_recovery(&request) {
         VenueCall::Recovery(line, bytes, state.clock, buffer)
@@ -49,6 +60,18 @@ pub fn ask<R: Print + AllocGlobal>(
         VenueCall::RealTime(line, bytes, state.clock, buffer)
     };
     let _more = make(rt, state, day, Call::Venue(call))?;
+    Ok(())
+}
+
+/// Builds a message and shows what would go by it, if it is a mass cancel.
+pub fn foresee<R: Print + AllocGlobal>(
+    rt: &R,
+    day: &mut Day,
+    line: usize,
+    request: Request<'_>,
+) -> Result<(), Failure> {
+    let bytes = written(rt, day, line, &request)?;
+    preview(rt, day, line, bytes)?;
     Ok(())
 }
 

@@ -1,18 +1,16 @@
 // The line that is followed, as a person plays it: what is under way comes, comes again or is lost, and the follower
 // catches up.
 use crate::asking;
-use crate::calls::{buffer, make};
+use crate::calls::{buffer, make, tell};
 use crate::day::Day;
 use crate::failure::Failure;
-use crate::state::{State, front};
+use crate::state::State;
 use bench_account::remark::Remark;
 use bench_words::command::{Cable, Request};
 use both_ends::call::{Call, Done};
 use both_ends::entry::Entry;
-use codes::code::Code;
 use codes::session::Partition;
 use gateway_runs::call::Call as VenueCall;
-use std::alloc::{AllocError, Global};
 use std::io;
 use wire::kinds::Channel;
 use wire::message::{Message, read};
@@ -142,75 +140,40 @@ fn reconnect<R: Print + AllocGlobal>(
     Ok(())
 }
 
-// Downloads each partition in turn until it is level.
+// What both ends were given to do while they caught up, each thing printed as it came.
+fn tell_from<R: Print + AllocGlobal>(
+    rt: &R,
+    state: &mut State,
+    day: &Day,
+    start: usize,
+) -> io::Result<()> {
+    for entry in day.log().iter().skip(start) {
+        if let Entry::Made(done) = entry {
+            if matches!(done, Done::Recovered(_, _)) {
+                let _came = state.under_way.recovered.come();
+            }
+            let _more = tell(rt, state, done)?;
+        }
+    }
+    Ok(())
+}
+
+// Downloads each partition until it is level, behind what a download that is owed still brings.
 fn catch_up<R: Print + AllocGlobal>(
     rt: &R,
     state: &mut State,
     day: &mut Day,
     line: usize,
 ) -> io::Result<()> {
-    for partition in [Partition::One, Partition::Two, Partition::Three] {
-        if !level(rt, state, day, line, partition)? {
-            return rt.println(Remark::NotLevel);
-        }
-    }
-    Ok(())
-}
-
-fn is_level(day: &Day, partition: Partition) -> bool {
-    day.follower().is_level(partition)
-}
-
-// Downloads a partition until it is level. Says no where a download brings nothing more.
-fn level<R: Print + AllocGlobal>(
-    rt: &R,
-    state: &mut State,
-    day: &mut Day,
-    line: usize,
-    partition: Partition,
-) -> io::Result<bool> {
-    for _ in 0..u64::MAX {
-        finish(rt, state, day, line)?;
-        if is_level(day, partition) {
-            return Ok(true);
-        }
-        let place = day.follower().place(partition);
-        ask(rt, state, day, line, partition)?;
-        finish(rt, state, day, line)?;
-        if !is_level(day, partition) && day.follower().place(partition) == place {
-            return Ok(false);
-        }
-    }
-    Ok(false)
-}
-
-// A copy of the request that was written last, if one was.
-fn written(heap: Global, day: &Day) -> Result<Option<Vec<u8>>, AllocError> {
-    match day.last() {
-        Some(Entry::Made(Done::Ask(_, asked))) => match asked.answer {
-            Ok(length) => Ok(Some(Vec::from_slice(heap, front(&asked.after, length))?)),
-            Err(_) => Ok(None),
-        },
-        _ => Ok(None),
-    }
-}
-
-// The follower asks for a download, and the gateway takes the request.
-fn ask<R: Print + AllocGlobal>(
-    rt: &R,
-    state: &mut State,
-    day: &mut Day,
-    line: usize,
-    partition: Partition,
-) -> io::Result<()> {
-    let asked = Call::Ask(partition.byte(), buffer(rt.alloc())?);
-    let _more = make(rt, state, day, asked)?;
-    let Some(request) = written(rt.alloc(), day)? else {
+    finish(rt, state, day, line)?;
+    let start = day.log().len();
+    day.catch_up(line, state.clock)?;
+    tell_from(rt, state, day, start)?;
+    let all = [Partition::One, Partition::Two, Partition::Three];
+    if all.iter().all(|partition| day.follower().is_level(*partition)) {
         return Ok(());
-    };
-    let taken = VenueCall::Recovery(line, request, state.clock, buffer(rt.alloc())?);
-    let _more = make(rt, state, day, Call::Venue(taken))?;
-    Ok(())
+    }
+    rt.println(Remark::NotLevel)
 }
 
 // A download that is owed to its end, or as far as it comes.

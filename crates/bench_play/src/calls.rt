@@ -199,8 +199,8 @@ fn asked_for<R: Print + AllocGlobal>(rt: &R, state: &mut State, asked: &Asked) -
     }
 }
 
-// A call that was made. Says whether more of its kind may follow.
-fn tell<R: Print + AllocGlobal>(rt: &R, state: &mut State, done: &Done) -> io::Result<bool> {
+/// Prints what came back of a call that was made. Says whether more of its kind may follow.
+pub fn tell<R: Print + AllocGlobal>(rt: &R, state: &mut State, done: &Done) -> io::Result<bool> {
     match done {
         Done::Venue(done) => return on_gateway(rt, state, done),
         Done::Up => state.tell(rt, Answer::Up)?,

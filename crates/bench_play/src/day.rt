@@ -2,7 +2,11 @@
 ghost use Rattle.std.specs.Prelude.{◌≡◌, IfOk, IsOk, OnOk, OnErr};
 ghost use Rattle.bench_play.specs.Days.{Answers, Guides, Keeps, desk_of, log_of, state_of};
 ghost use Rattle.both_ends.specs.Agreement.{Agrees};
-ghost use Rattle.both_ends.specs.Allowed.{after_log, quiet};
+ghost use Rattle.both_ends.specs.Allowed.{Allowed, after_log, quiet};
+ghost use Rattle.both_ends.specs.Catching.{CanCatchUp};
+ghost use Rattle.both_ends.specs.Laws.{state_of as place_state};
+ghost use Rattle.codes.specs.declared.session.Partition.{Partition};
+ghost use Rattle.follower.specs.declared.side.State.TheVariants.{Level};
 ghost use Rattle.both_ends.specs.Asking.{made};
 ghost use Rattle.both_ends.specs.Both.{IsLast};
 ghost use Rattle.both_ends.specs.Deciding.{verdict};
@@ -30,7 +34,7 @@ use std::alloc::{AllocError, Global};
 use std::io;
 use store::Store;
 use store::records::Records;
-use texts::values::Price;
+use texts::values::{Price, Time};
 use wire_store::codec::WireCodec;
 
 type WireStore = Buffered<WireCodec>;
@@ -184,6 +188,23 @@ impl Day {
         ensures error { OnErr result (self.new ≡ self.old) }
     {
         of_day!(self, both => both.ask(question))
+    }
+
+    /// Downloads what the follower misses on a line until every partition is level, by calls that the line allows; each is
+    /// kept. A desk that can catch up does. Its one error is want of memory; what was called until then stands.
+    pub fn catch_up(&mut self, line: usize, time: Time) -> Result<(), AllocError>
+        ensures allowed { Allowed line (made (log_of self.old)) → Allowed line (made (log_of self.new)) }
+        ensures level { OnOk result (CanCatchUp line (made (log_of self.old)) (state_of self.old) (desk_of self.old)
+            → (p : Partition) → place_state (desk_of self.new) p ≡ Level) }
+    {
+        of_day!(self, both => both.catch_up(line, time))
+    }
+
+    /// What was called and asked, in order, each with what came back.
+    pub fn log(&self) -> &[Entry<Look, Shown>]
+        ensures { result.now ≡ log_of self.now }
+    {
+        of_day!(self, both => both.log())
     }
 
     /// What was called or asked last, with what came back.

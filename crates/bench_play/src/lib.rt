@@ -10,6 +10,7 @@ pub mod day;
 pub mod failure;
 pub mod opening;
 pub mod play;
+pub mod preview;
 pub mod ruling;
 pub mod show;
 pub mod sides;

@@ -3,6 +3,7 @@ use crate::came::Came;
 use crate::day::Day;
 use crate::failure::Failure;
 use crate::opening::{Engine, Opening, Shelf};
+use crate::preview::preview;
 use crate::ruling::Ruling;
 use crate::state::{State, reader};
 use crate::{asking, cable, calls, show, sides};
@@ -63,6 +64,8 @@ fn obey<R: Print + AllocGlobal>(
             let _more = calls::make(rt, state, day, call)?;
         }
         Command::Request(line, request) => asking::ask(rt, state, day, line, request)?,
+        Command::Preview(line, bytes) => preview(rt, day, line, bytes.to_vec(rt.alloc())?)?,
+        Command::PreviewRequest(line, request) => asking::foresee(rt, day, line, request)?,
         Command::Run => asking::run(rt, state, day)?,
         Command::Drain(line) => asking::drain(rt, state, day, line)?,
         Command::Download(line) => asking::download(rt, state, day, line)?,

@@ -74,7 +74,7 @@ fn place_shown(partition: Partition, shown: Shown) -> Place
             level,
             held,
         },
-        Shown::Order(..) => Place {
+        Shown::Order(..) | Shown::Preview(_) => Place {
             partition,
             number: 0,
             level: false,

@@ -16,6 +16,7 @@ use Rattle.bench_words.specs.declared.command.Call.TheVariants as call
 use Rattle.bench_words.specs.declared.command.Command.{Command}
 use Rattle.bench_words.specs.declared.command.Command.TheVariants as command
 use Rattle.bench_words.specs.declared.command.Desk.TheVariants as desk
+use Rattle.bench_words.specs.declared.command.Request.{Request}
 use Rattle.bench_words.specs.declared.command.Request.TheVariants as request
 use Rattle.bench_words.specs.declared.command.Scope.{Scope}
 use Rattle.bench_words.specs.declared.command.Scope.TheVariants as scope
@@ -241,12 +242,23 @@ scope_of ws =
     else if (length ws == 2) && bytes_eq (text ws 0) (codes "segment") then Ok (scope.Segment (word ws 1))
     else Err why.Scope
 
--- mass-cancel LINE CLIENTID own|firm [instrument SYMBOL [dark] | segment SEGMENT]
-abbrev pub mass_cancel_of : Words → Result Command Misread
-mass_cancel_of ws =
+-- .. LINE CLIENTID own|firm [instrument SYMBOL [dark] | segment SEGMENT]
+abbrev pub mass_said : Words → Result (ℕ × Request) Misread
+mass_said ws =
     of_least 4 ws (
     line_of (text ws 1) then λ line. firm_of (text ws 3) then λ firm. scope_of (drop 4 ws) then λ s.
-    Ok (command.Request line (request.MassCancel (word ws 2) firm s)))
+    Ok (line, request.MassCancel (word ws 2) firm s))
+
+abbrev pub mass_cancel_of : Words → Result Command Misread
+mass_cancel_of ws = mass_said ws then λ m. Ok (command.Request m.0 m.1)
+
+abbrev pub preview_mass_cancel_of : Words → Result Command Misread
+preview_mass_cancel_of ws = mass_said ws then λ m. Ok (command.PreviewRequest m.0 m.1)
+
+-- preview LINE HEX
+abbrev pub preview_of : Words → Result Command Misread
+preview_of ws =
+    of_count 3 ws (line_of (text ws 1) then λ line. bytes_said (word ws 2) then λ bytes. Ok (command.Preview line bytes))
 
 -- missed LINE PARTITION LAST
 abbrev pub missed_of : Words → Result Command Misread
@@ -300,6 +312,8 @@ by_verb verb.Sell ws = order_of side.Sell ws.now
 by_verb verb.Cancel ws = cancel_of ws.now
 by_verb verb.Replace ws = replace_of ws.now
 by_verb verb.MassCancel ws = mass_cancel_of ws.now
+by_verb verb.Preview ws = preview_of ws.now
+by_verb verb.PreviewMassCancel ws = preview_mass_cancel_of ws.now
 by_verb verb.Missed ws = missed_of ws.now
 by_verb verb.Follow ws = on_line ws.now then λ line. Ok (command.Setup (setup.Follow line))
 by_verb verb.Up ws = alone_of ws.now (command.Desk desk.Up)

@@ -1,6 +1,6 @@
 // What a line of a script asks for, read from its words.
 ghost use Rattle.std.specs.Prelude.{◌≡◌};
-ghost use Rattle.bench_words.specs.Commands.{alone_of, ask_of, at_time, behind_of, book_of, by_verb, bytes_said, catch_of, command_of, cancel_of, cancel_trade_of, comp_id_of, deliver_of, firm_of, instrument_of, is_call, is_dark, is_lit, is_pair, is_played, line_lost_of, live_of, lone_of, marked_of, mass_cancel_of, matcher_of, message_of, midpoint_of, midpoint_said, missed_of, on_line, order_of, real_time_of, recovered_of, recovery_of, repeat_of, replace_of, scope_of, show_of, store_of, style_of, tape_said, waits_of};
+ghost use Rattle.bench_words.specs.Commands.{alone_of, ask_of, at_time, behind_of, book_of, by_verb, bytes_said, cancel_of, cancel_trade_of, catch_of, command_of, comp_id_of, deliver_of, firm_of, instrument_of, is_call, is_dark, is_lit, is_pair, is_played, line_lost_of, live_of, lone_of, marked_of, mass_cancel_of, mass_said, matcher_of, message_of, midpoint_of, midpoint_said, missed_of, on_line, order_of, preview_mass_cancel_of, preview_of, real_time_of, recovered_of, recovery_of, repeat_of, replace_of, scope_of, show_of, store_of, style_of, tape_said, waits_of};
 
 use crate::bytes::Bytes;
 use crate::misread::Misread;
@@ -159,6 +159,10 @@ pub enum Command<'a> {
     Cable(Cable),
     /// A message on a line.
     Request(usize, Request<'a>),
+    /// What would go if these bytes were given on a line as a mass cancel.
+    Preview(usize, Bytes<'a>),
+    /// The same of a message that a person asks for.
+    PreviewRequest(usize, Request<'a>),
     /// Every event of the matcher, until there is none.
     Run,
     /// Everything that is to be sent on a line.
@@ -575,8 +579,9 @@ fn scoped<'a>(words: &[&'a str]) -> Result<Scope<'a>, Misread>
     }
 }
 
-fn mass_cancel<'a>(words: &[&'a str]) -> Result<Command<'a>, Misread>
-    ensures { result ≡ mass_cancel_of words.now }
+// A mass cancel, and its line.
+fn mass<'a>(words: &[&'a str]) -> Result<(usize, Request<'a>), Misread>
+    ensures { result ≡ mass_said words.now }
 {
     let [_, line, client, owner, ref rest @ ..] = *words else {
         return Err(Misread::Count);
@@ -589,7 +594,32 @@ fn mass_cancel<'a>(words: &[&'a str]) -> Result<Command<'a>, Misread>
         firm,
         scope,
     };
+    Ok((line, cancel))
+}
+
+fn mass_cancel<'a>(words: &[&'a str]) -> Result<Command<'a>, Misread>
+    ensures { result ≡ mass_cancel_of words.now }
+{
+    let (line, cancel) = mass(words)?;
     Ok(Command::Request(line, cancel))
+}
+
+fn preview_mass_cancel<'a>(words: &[&'a str]) -> Result<Command<'a>, Misread>
+    ensures { result ≡ preview_mass_cancel_of words.now }
+{
+    let (line, cancel) = mass(words)?;
+    Ok(Command::PreviewRequest(line, cancel))
+}
+
+fn preview<'a>(words: &[&'a str]) -> Result<Command<'a>, Misread>
+    ensures { result ≡ preview_of words.now }
+{
+    let [_, line, message] = *words else {
+        return Err(Misread::Count);
+    };
+    let line = words::line(line)?;
+    let message = bytes(message)?;
+    Ok(Command::Preview(line, message))
 }
 
 fn missed<'a>(words: &[&'a str]) -> Result<Command<'a>, Misread>
@@ -656,6 +686,8 @@ fn by_verb<'a>(verb: Verb, words: &'a [&'a str]) -> Result<Command<'a>, Misread>
         Verb::Cancel => cancel(words),
         Verb::Replace => replace(words),
         Verb::MassCancel => mass_cancel(words),
+        Verb::Preview => preview(words),
+        Verb::PreviewMassCancel => preview_mass_cancel(words),
         Verb::Missed => missed(words),
         Verb::Follow => Ok(Command::Setup(Setup::Follow(on_line(words)?))),
         Verb::Up => alone(words, Command::Desk(Desk::Up)),

@@ -32,6 +32,8 @@ pub enum Verb {
     Cancel,
     Replace,
     MassCancel,
+    Preview,
+    PreviewMassCancel,
     Missed,
     Follow,
     Up,
@@ -49,7 +51,7 @@ pub enum Verb {
 }
 
 /// All that a line can ask for.
-pub const VERBS: [Verb; 41] = [
+pub const VERBS: [Verb; 43] = [
     Verb::CompId,
     Verb::Instrument,
     Verb::Matcher,
@@ -77,6 +79,8 @@ pub const VERBS: [Verb; 41] = [
     Verb::Cancel,
     Verb::Replace,
     Verb::MassCancel,
+    Verb::Preview,
+    Verb::PreviewMassCancel,
     Verb::Missed,
     Verb::Follow,
     Verb::Up,
@@ -126,6 +130,8 @@ impl Verb {
             Verb::Cancel => "cancel",
             Verb::Replace => "replace",
             Verb::MassCancel => "mass-cancel",
+            Verb::Preview => "preview",
+            Verb::PreviewMassCancel => "preview-mass-cancel",
             Verb::Missed => "missed",
             Verb::Follow => "follow",
             Verb::Up => "up",

@@ -34,7 +34,9 @@ use Rattle.follower.specs.Owing.{awaited, owed}
 use Rattle.follower.specs.declared.fault.FollowerFault.{FollowerFault}
 use Rattle.follower.specs.declared.pending.Pending.{Pending}
 use Rattle.follower.specs.Folding.{Reached as Folded_to, reached, caught_up}
-use Rattle.follower.specs.Following.{Following, Step, answered, refused, folded, folded_to, acked, ended, ended_of, levelled, no_download, recovered_of, recovered_step, recovering, reported}
+use Rattle.follower.specs.Sides.{held_in}
+use Rattle.follower.specs.declared.line.Line.TheVariants as connected
+use Rattle.follower.specs.Following.{Following, Step, download_of, is_up, answered, refused, folded, folded_to, acked, ended, ended_of, levelled, no_download, recovered_of, recovered_step, recovering, reported}
 use Rattle.follower.specs.Hearing.{heard_in}
 use Rattle.follower.specs.Numbers.{number_of}
 use Rattle.follower.specs.declared.answer.Recovered.{Recovered}
@@ -83,73 +85,74 @@ use Rattle.sessions.specs.declared.session.LoggedOn.{LoggedOn}
 use Rattle.sessions.specs.declared.session.LoggedOn.TheVariants.{Off, Live, Recovering}
 use Rattle.sessions.specs.declared.session.Session.{Session}
 use Rattle.store.specs.Kept.{Kept, next_after}
+use Rattle.store.specs.Laws.{Lowest}
 use Rattle.texts.specs.declared.values.Time.{Time}
 use Rattle.venue.proofs.Recording.{same_self}
 use Rattle.wire.specs.declared.message.TheConstants.{BUFFER}
 
 -- ---- what the follower makes of what it is given on the recovery channel
 
-module _ (f : Following) (up : f.up ≡ true) where
+module _ (f : Following) (up : is_up f ≡ true) where
   taken : (h : Heard) → recovered_step f (Ok h) ≡ recovering f h
   taken h = ap (λ b. cond b (recovering f h) (refused fault.NotUp f)) up
 
   -- an Ack of what it asked
-  granted_step : (p : Partition) → f.download ≡ stage.Asked p
-      → recovered_step f (Ok (Ack Successful)) ≡ answered recovered.Begun (record f { download = stage.Running p })
+  granted_step : (p : Partition) → download_of f ≡ stage.Asked p
+      → recovered_step f (Ok (Ack Successful)) ≡ answered recovered.Begun (record f { line = connected.Up (stage.Running p) })
   granted_step p d = taken (Ack Successful) ∙ ap (λ g. acked f g Successful) d
 
   -- the end of a download that hands out no more
-  limit_step : (p : Partition) → f.download ≡ stage.Running p
+  limit_step : (p : Partition) → download_of f ≡ stage.Running p
       → recovered_step f (Ok (End ending.MessageLimit)) ≡ answered recovered.Ended (no_download f)
   limit_step p d = taken (End ending.MessageLimit) ∙ ap (λ g. ended f g ending.MessageLimit) d
 
   -- the complete end, where the fold refuses nothing that is held
   record Completed (p : Partition) (a : Step Recovered) : Type 0 where
-    pub is_up : a.after.up ≡ true
-    pub idle : a.after.download ≡ stage.Idle
+    pub stays_up : is_up a.after ≡ true
+    pub idle : download_of a.after ≡ stage.Idle
     pub others : (q : Partition) → p ≢ q → at a.after.sides q ≡ at f.sides q
 
   completed_as : (p : Partition) (r : Result Folded_to FoldRefusal) → is_unfit (levelled f p r).answer ≡ false
       → Completed p (levelled f p r)
   completed_as p (Err e) h = absurd (true≢false h)
   completed_as p (Ok r) h = record {
-    is_up = up;
+    stays_up = refl;
     idle = refl;
     others = by_partition (λ q y. p ≢ q → y ≡ at f.sides q) f.sides p
-        (record { place = r.place; state = Level; hold = [] }) (λ n. absurd (n refl)) (λ q n i. refl);
+        (record { place = r.place; state = Level }) (λ n. absurd (n refl)) (λ q n i. refl);
   }
 
-  complete_step : (p : Partition) → f.download ≡ stage.Running p
+  complete_step : (p : Partition) → download_of f ≡ stage.Running p
       → is_unfit (recovered_step f (Ok (End ending.Complete))).answer ≡ false
       → Completed p (recovered_step f (Ok (End ending.Complete)))
   complete_step p d fits =
       let now : recovered_step f (Ok (End ending.Complete)) ≡ ended f (stage.Running p) ending.Complete =
           taken (End ending.Complete) ∙ ap (λ g. ended f g ending.Complete) d in
-      subst (Completed p) (sym now) (completed_as p (caught_up p (reached f.standings (at f.sides p).place) (at f.sides p).hold)
+      subst (Completed p) (sym now) (completed_as p (caught_up p (reached f.standings (at f.sides p).place) (held_in (at f.sides p).state))
       (subst (λ (a : Step Recovered). is_unfit a.answer ≡ false) now fits))
 
   -- the next report of a download that runs, where the fold does not refuse it
   record FoldedOn (p : Partition) (n : ℕ) (a : Step Recovered) : Type 0 where
-    pub is_up : a.after.up ≡ true
-    pub runs : a.after.download ≡ stage.Running p
+    pub stays_up : is_up a.after ≡ true
+    pub runs : download_of a.after ≡ stage.Running p
     pub place : (at a.after.sides p).place ≡ n
     pub state : (at a.after.sides p).state ≡ (at f.sides p).state
     pub others : (q : Partition) → p ≢ q → at a.after.sides q ≡ at f.sides q
 
-  folded_as : (p : Partition) (n : ℕ) → f.download ≡ stage.Running p → (r : Result Knowledge FoldRefusal)
+  folded_as : (p : Partition) (n : ℕ) → download_of f ≡ stage.Running p → (r : Result Knowledge FoldRefusal)
       → is_unfit (folded_to recovered.Folded f p n r).answer ≡ false → FoldedOn p n (folded_to recovered.Folded f p n r)
   folded_as p n d (Err e) h = absurd (true≢false h)
   folded_as p n d (Ok k) h =
       let y : Side = record (at f.sides p) { place = n } in
       record {
-        is_up = up;
+        stays_up = up;
         runs = d;
         place = ap (λ (s : Side). s.place) (at_written f.sides p y);
         state = ap (λ (s : Side). s.state) (at_written f.sides p y);
         others = by_partition (λ q z. p ≢ q → z ≡ at f.sides q) f.sides p y (λ e. absurd (e refl)) (λ q e i. refl);
       }
 
-  report_step : (p : Partition) (h : NumberedReport) → f.download ≡ stage.Running p → (at f.sides p).place < number_of h
+  report_step : (p : Partition) (h : NumberedReport) → download_of f ≡ stage.Running p → (at f.sides p).place < number_of h
       → is_unfit (recovered_step f (Ok (Report p h))).answer ≡ false
       → FoldedOn p (number_of h) (recovered_step f (Ok (Report p h)))
   report_step p h d lt fits =
@@ -181,10 +184,10 @@ asked_is n buf z e = absurd cc
 
 -- ---- what a desk that awaits nothing asks
 
-asking_is : (f : Following) (t : Pending) (p : Partition) (room : ℕ) → f.up ≡ true → f.download ≡ stage.Idle
+asking_is : (f : Following) (t : Pending) (p : Partition) (room : ℕ) → is_up f ≡ true → download_of f ≡ stage.Idle
     → owed t ≡ None → nat_lt room BUFFER ≡ false → asking f t (partition_code p) room ≡ Ok p
 asking_is f t p room up idle none wide =
-    ap (λ b. cond b (Err fault.Buffer) (cond f.up (asking_of f t (follower_partition (partition_code p))) (Err fault.NotUp)))
+    ap (λ b. cond b (Err fault.Buffer) (cond (is_up f) (asking_of f t (follower_partition (partition_code p))) (Err fault.NotUp)))
     wide
     ∙ (ap (λ u. cond u (asking_of f t (follower_partition (partition_code p))) (Err fault.NotUp)) up
     ∙ (ap (asking_of f t) (named p)
@@ -219,6 +222,14 @@ some_missed c l a n e f =
     let h : Next c l a (length l) (Some n) = subst (Next c l a (length l)) e (next_owned c l a (length l)) in
     (let z : n ∷ owned l c n (length l) ≡ [] = sym h ∙ f in cc)
 
+above_in : (c : ℕ) (l : List Entry) (a t : ℕ) (r : Option ℕ) (n : ℕ) → Lowest l c a r → up_to t r ≡ Some n → a < n
+above_in c l a t None n h e = absurd cc
+above_in c l a t (Some m) n h e = by (leb m t) e
+  where
+    by : (b : Bool) → cond b (Some m) None ≡ Some n → a < n
+    by true g = let same : m ≡ n = cc in subst (λ i. a < i) same h.0
+    by false g = absurd cc
+
 -- ---- the session after a call
 
 session_set : (s w : State) (c : ℕ) (x : Session) → c < length s.lines → w ≡ with_session s c x → session w c ≡ x
@@ -249,8 +260,8 @@ module _ {M Q A : Type 0} (did : M → Asked → M → Type 0) (c : ℕ) where
     pub reached : Reached (made e.log) e.gateway.state e.desk
     pub clear : IsClear c (made e.log)
     -- the complete end of a download that runs makes its partition level
-    pub level : (p : Partition) → heard_in h ≡ Ok (End ending.Complete) → m.desk.follower.up ≡ true
-        → m.desk.follower.download ≡ stage.Running p → state_of e.desk p ≡ Level
+    pub level : (p : Partition) → heard_in h ≡ Ok (End ending.Complete) → is_up m.desk.follower ≡ true
+        → download_of m.desk.follower ≡ stage.Running p → state_of e.desk p ≡ Level
 
   pub gives : (h : Message) (z : Done) (m e : Ends M Q A) → IsGiven h z → Adds did z m e
       → Reached (made m.log) m.gateway.state m.desk → Left c h (made m.log) → Gives h m e
@@ -311,7 +322,7 @@ module _ {M Q A : Type 0} (did : M → Asked → M → Type 0) (c : ℕ) where
       let answer : r.answer ≡ Ok (total_of Request) = ans ∙ ap (λ o. (asked_as o).answer) ok in
       let wrote : r.after.items ≡ request p (place b.desk p) ++ drop (total_of Request) r.before.items =
           out ∙ ap (λ o. (asked_as o).out) ok in
-      let follower : e.desk.follower ≡ record f { download = stage.Asked p } =
+      let follower : e.desk.follower ≡ record f { line = connected.Up (stage.Asked p) } =
           ap (λ (d : Desk). d.follower) moves ∙ ap (λ o. (asked_as o).after) ok in
       let sides = ap (λ (i : Following). i.sides) follower in
       let here : place e.desk p ≡ place b.desk p = ap (λ (i : PerPartition Side). (at i p).place) sides in
@@ -326,8 +337,8 @@ module _ {M Q A : Type 0} (did : M → Asked → M → Type 0) (c : ℕ) where
           line = by h bytes back
               (subst (λ i. ((i ≡ []) × IsOpen c (made e.log)) ⊎ IsAsked c i (made e.log)) (sym (x.left ∙ ap left_by is))
               (ask_left did c (partition_code p) r b e adds ready.reached ready.asks.line));
-          up = ap (λ (i : Following). i.up) follower ∙ ready.asks.up;
-          asks = ap (λ (i : Following). i.download) follower;
+          up = ap is_up follower;
+          asks = ap download_of follower;
           on = ap (λ (i : State). (session i c).on) same
               ∙ none_runs (session b.gateway.state c).on ready.asks.on none;
           request = bytes ∙ ap (request p) (sym here);
@@ -354,7 +365,7 @@ module _ {M Q A : Type 0} (did : M → Asked → M → Type 0) (c : ℕ) where
       let sess : session e.gateway.state c ≡ granted_session b.gateway.state c p (place b.desk p) =
           session_set b.gateway.state e.gateway.state c _ there now in
       let kept : e.gateway.state.venue.kept ≡ b.gateway.state.venue.kept = ap (λ (i : State). i.venue.kept) now in
-      let step : e.desk.follower ≡ record f { download = stage.Running p } =
+      let step : e.desk.follower ≡ record f { line = connected.Up (stage.Running p) } =
           g.follower ∙ (ap (λ (d : Desk). (recovered_step d.follower (heard_in h)).after) same
           ∙ (ap (λ i. (recovered_step f i).after) hd ∙ ap (λ (a : Step Recovered). a.after) (granted_step f w.up p w.asks))) in
       let sides = ap (λ (i : Following). i.sides) step in
@@ -363,8 +374,8 @@ module _ {M Q A : Type 0} (did : M → Asked → M → Type 0) (c : ℕ) where
       record {
         reached = g.reached;
         line = g.clear;
-        up = ap (λ (i : Following). i.up) step ∙ w.up;
-        runs = ap (λ (i : Following). i.download) step;
+        up = ap is_up step;
+        runs = ap download_of step;
         stays = record {
           kept = kept;
           others = λ q n. ap (λ i. at i q) sides;
@@ -487,7 +498,8 @@ module _ {M Q A : Type 0} (did : M → Asked → M → Type 0) (c : ℕ) where
                   after = j;
                 };
                 under = refl;
-                above = h.above;
+                above = above_in c reports (place e.desk p) (length reports) (next_after reports c (place e.desk p)) n
+                    (next-lowest reports c (place e.desk p)) is;
                 fewer = next_missed c reports (place e.desk p) n is;
                 room = leb-false DOWNLOADED k room;
               }))
@@ -535,7 +547,7 @@ module _ {M Q A : Type 0} (did : M → Asked → M → Type 0) (c : ℕ) where
       open_line (x, ok, began, none) = (x, ok, began)
 
       -- a desk that awaits nothing more can ask
-      ready : o ≡ None → g.desk.follower.up ≡ true → g.desk.follower.download ≡ stage.Idle → Ready c g
+      ready : o ≡ None → is_up g.desk.follower ≡ true → download_of g.desk.follower ≡ stage.Idle → Ready c g
       ready e up idle = record {
         reached = gave.reached;
         asks = record {
@@ -563,8 +575,8 @@ module _ {M Q A : Type 0} (did : M → Asked → M → Type 0) (c : ℕ) where
         record {
           reached = gave.reached;
           line = gave.clear;
-          up = ap (λ (j : Following). j.up) st ∙ fold.is_up;
-          runs = ap (λ (j : Following). j.download) st ∙ fold.runs;
+          up = ap is_up st ∙ fold.stays_up;
+          runs = ap download_of st ∙ fold.runs;
           stays = stays mid g bytes h o m.hands same gave fold.others;
           on = ap (λ (i : Session). i.on) (sess mid g bytes h o m.hands same gave)
               ∙ (ap (λ n. Recovering (Some (record { partition = p; last = n; target = length reports; handed = k + 1 })))
@@ -589,8 +601,8 @@ module _ {M Q A : Type 0} (did : M → Asked → M → Type 0) (c : ℕ) where
             ∙ ap (λ n. owned reports c n (length reports)) here in
         let size : length (missed c g.gateway.state g.desk p) ≡ length (missed c s e.desk p) = ap length left in
         record {
-          ready = ready mid g bytes h None out same gave refl (ap (λ (j : Following). j.up) st ∙ l.up)
-              (ap (λ (j : Following). j.download) st);
+          ready = ready mid g bytes h None out same gave refl (ap is_up st)
+              (ap download_of st);
           stays = stays mid g bytes h None out same gave
               (λ i n. ap (λ (a : Step Recovered). at a.after.sides i) (limit_step f l.up p l.runs));
           brought = inr (
@@ -608,12 +620,12 @@ module _ {M Q A : Type 0} (did : M → Asked → M → Type 0) (c : ℕ) where
         let done = complete_step f l.up p l.runs (fits mid g bytes h None out same gave) in
         let size : length (missed c s e.desk p) ≡ 0 = ap length none in
         record {
-          ready = ready mid g bytes h None out same gave refl (ap (λ (j : Following). j.up) st ∙ done.is_up)
-              (ap (λ (j : Following). j.download) st ∙ done.idle);
+          ready = ready mid g bytes h None out same gave refl (ap is_up st ∙ done.stays_up)
+              (ap download_of st ∙ done.idle);
           stays = stays mid g bytes h None out same gave done.others;
           brought = inl (
-            gave.level p out.heard (ap (λ (d : Desk). d.follower.up) same ∙ l.up)
-                (ap (λ (d : Desk). d.follower.download) same ∙ l.runs),
+            gave.level p out.heard (ap (λ (d : Desk). is_up d.follower) same ∙ l.up)
+                (ap (λ (d : Desk). download_of d.follower) same ∙ l.runs),
             (let a = l.left in let b = l.few in omega arith),
           );
         }

@@ -88,7 +88,7 @@ module _ {M Q A : Type 0} (did : M → Asked → M → Type 0) (guided : Bool)
   fill x d [] (a ∷ ys) y e r h = cc h
   fill x d (Ask q ∷ cs) ys y e r h =
       let (xs, g, c, m) = fill x d cs ys y e r h in (
-        Answered q (answer q x.state d.follower) ∷ xs,
+        Answered q (answer q x.state x.free d.follower) ∷ xs,
         (x, d, (refl, refl, refl), g),
         ap (λ t. Ask q ∷ t) c,
         m,

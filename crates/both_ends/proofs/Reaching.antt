@@ -15,7 +15,7 @@ use Rattle.both_ends.specs.Agreement.{place}
 use Rattle.both_ends.specs.Allowed.{Allowed, Line, Message, after_log, quiet}
 use Rattle.both_ends.specs.Asking.{Answer, made}
 use Rattle.both_ends.specs.Both.{Begins, Ends, Ran}
-use Rattle.both_ends.specs.Catching.{CanCatchUp, CatchesUp, Downloads, IsOfDownload, IsOpen, downloads_for, granted, is_level, missed, needed}
+use Rattle.both_ends.specs.Catching.{CanCatchUp, CatchesUp, Downloads, IsOfDownload, IsOpen, downloads_for, granted, missed, needed}
 use Rattle.both_ends.specs.Deciding.{failed_in, is_failed}
 use Rattle.both_ends.specs.Downloading.{Adds, Downloaded, IsAsked, Levelled, Passes, Reached, Ready, Stays, Waiting, left_by}
 use Rattle.both_ends.specs.Laws.{state_of}
@@ -28,6 +28,7 @@ use Rattle.both_ends.specs.declared.entry.Entry.{Entry}
 use Rattle.both_ends.specs.declared.entry.Entry.TheVariants.{Made}
 use Rattle.both_ends.specs.declared.opening.Opening.{Opening}
 use Rattle.both_ends.specs.declared.opening.Opening.TheVariants.{Awaited, Open, Failed}
+use Rattle.follower.specs.Sides.{is_level}
 use Rattle.follower.specs.declared.side.Side.{Side}
 use Rattle.follower.specs.declared.side.State.{State as Standing}
 use Rattle.follower.specs.declared.side.State.TheVariants.{Level, Behind}
@@ -59,7 +60,7 @@ level_is z e = ap is_level e
 
 is_level_level : (z : Standing) → is_level z ≡ true → z ≡ Level
 is_level_level Level h = refl
-is_level_level Behind h = absurd cc
+is_level_level (Behind hs) h = absurd cc
 
 not_none : (xs : List ℕ) → xs ≢ [] → 1 ≤ length xs
 not_none [] h = absurd (h refl)

@@ -18,6 +18,7 @@ use Rattle.both_ends.proofs.Agreeing.{begun, log_keeps}
 use Rattle.both_ends.proofs.Follows.{up_of}
 use Rattle.both_ends.proofs.Heard.{ack_heard, end_heard, logon_heard, nothing_heard, reject_heard, report_heard}
 use Rattle.both_ends.proofs.Keeping.{Keeps, Channelled, Still, Taking}
+use Rattle.both_ends.proofs.Marks.{Load}
 use Rattle.both_ends.proofs.Passing.{made_push}
 use Rattle.both_ends.specs.Agreement.{Took, place, refuses_report}
 use Rattle.both_ends.proofs.Requested.{request_long}
@@ -34,7 +35,7 @@ use Rattle.both_ends.specs.declared.call.Done.TheVariants as done
 use Rattle.both_ends.specs.declared.opening.Opening.{Opening}
 use Rattle.both_ends.specs.declared.opening.Opening.TheVariants.{Awaited, Open, Failed}
 use Rattle.follower.specs.Asking.{asking, asking_of, asks_of, is_free, partition_of, request, ReadBack}
-use Rattle.follower.specs.Following.{Following}
+use Rattle.follower.specs.Following.{Following, download_of, is_up}
 use Rattle.follower.specs.Hearing.{heard_in}
 use Rattle.follower.specs.Owing.{Tied, owed}
 use Rattle.follower.specs.declared.fault.FollowerFault.{FollowerFault}
@@ -156,19 +157,18 @@ fits_at c xs z s d x (ps, v, r) h = last_fits xs z
 
 -- where nothing is asked nothing is under way on the recovery channel, and no download runs
 pub still_at : (c : ℕ) (xs : List Done) (s : State) (d : Desk) (x : Line) → Reached xs s d → after_log c xs quiet ≡ Ok x
-    → x.opening ≢ Failed → d.follower.up ≡ true → d.follower.download ≡ stage.Idle
+    → x.opening ≢ Failed → is_up d.follower ≡ true → download_of d.follower ≡ stage.Idle
     → Still (download (session s c)) x
 still_at c xs s d x r h began up idle =
     let k = keeps_at c xs s d x r h in
-    let (i, u) = up_of c s.venue.kept (session s c) d.follower (place d) x (taken_by xs) x.connection (k.up ∙ up) k.phase in
-    by x.opening u.b refl
-    (subst (λ g. Channelled x.opening g c s.venue.kept (place d) u.b (download (session s c)) x) idle u.staged)
+    let (i, u) = up_of c s.venue.kept (session s c) d.follower x (taken_by xs) x.connection (k.up ∙ up) k.phase in
+    by x.opening u.ds refl (subst (λ g. Channelled x.opening g u.ds (download (session s c)) x) idle u.staged)
   where
-    by : (o : Opening) (b : PerPartition ℕ) → x.opening ≡ o
-        → Channelled o stage.Idle c s.venue.kept (place d) b (download (session s c)) x → Still (download (session s c)) x
-    by Awaited b e (n, u, st) = st
-    by Open b e st = st
-    by Failed b e st = absurd (began e)
+    by : (o : Opening) (ds : PerPartition Load) → x.opening ≡ o
+        → Channelled o stage.Idle ds (download (session s c)) x → Still (download (session s c)) x
+    by Awaited ds e (n, u, st) = st
+    by Open ds e st = st
+    by Failed ds e st = absurd (began e)
 
 -- ---- messages under way
 
@@ -452,8 +452,8 @@ module _ {M Q A : Type 0} (did : M → Asked → M → Type 0) (c : ℕ) where
 
 -- a request is asked only of a follower that is up and awaits nothing
 pub record Free (f : Following) : Type 0 where
-  pub up : f.up ≡ true
-  pub idle : f.download ≡ stage.Idle
+  pub up : is_up f ≡ true
+  pub idle : download_of f ≡ stage.Idle
 
 pub asking_free : (f : Following) (t : Pending) (n room : ℕ) (p : Partition) → asking f t n room ≡ Ok p → Free f
 asking_free f t n room p e = by (nat_lt room BUFFER) e
@@ -463,22 +463,22 @@ asking_free f t n room p e = by (nat_lt room BUFFER) e
     idle_of (stage.Asked q) o h = absurd cc
     idle_of (stage.Running q) o h = absurd cc
 
-    by_free : (b : Bool) (q : Partition) → is_free f.download (owed t) ≡ b → cond b (Ok q) (Err OutOfTurn) ≡ Ok p
-        → f.download ≡ stage.Idle
-    by_free true q h z = idle_of f.download (owed t) h
+    by_free : (b : Bool) (q : Partition) → is_free (download_of f) (owed t) ≡ b → cond b (Ok q) (Err OutOfTurn) ≡ Ok p
+        → download_of f ≡ stage.Idle
+    by_free true q h z = idle_of (download_of f) (owed t) h
     by_free false q h z = absurd cc
 
-    by_partition : (o : Option Partition) → asking_of f t o ≡ Ok p → f.download ≡ stage.Idle
+    by_partition : (o : Option Partition) → asking_of f t o ≡ Ok p → download_of f ≡ stage.Idle
     by_partition None z = absurd cc
-    by_partition (Some q) z = by_free (is_free f.download (owed t)) q refl z
+    by_partition (Some q) z = by_free (is_free (download_of f) (owed t)) q refl z
 
-    by_up : (u : Bool) → f.up ≡ u → cond u (asking_of f t (partition_of n)) (Err NotUp) ≡ Ok p → Free f
+    by_up : (u : Bool) → is_up f ≡ u → cond u (asking_of f t (partition_of n)) (Err NotUp) ≡ Ok p → Free f
     by_up true q z = record { up = q; idle = by_partition (partition_of n) z }
     by_up false q z = absurd cc
 
-    by : (b : Bool) → cond b (Err Buffer) (cond f.up (asking_of f t (partition_of n)) (Err NotUp)) ≡ Ok p → Free f
+    by : (b : Bool) → cond b (Err Buffer) (cond (is_up f) (asking_of f t (partition_of n)) (Err NotUp)) ≡ Ok p → Free f
     by true z = absurd cc
-    by false z = by_up f.up refl z
+    by false z = by_up (is_up f) refl z
 
 -- what was asked stands at the front of the buffer
 pub asked_bytes : (p : Partition) (n : ℕ) (buffer : List ℕ) → ReadBack p n

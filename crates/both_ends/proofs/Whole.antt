@@ -15,6 +15,7 @@ use Rattle.both_ends.specs.Runs.{call_of}
 use Rattle.both_ends.specs.declared.call.Call.TheVariants as call
 use Rattle.both_ends.specs.declared.call.Done.{Done}
 use Rattle.both_ends.specs.declared.call.Done.TheVariants as done
+use Rattle.follower.specs.Following.{download_of}
 use Rattle.follower.specs.declared.stage.Stage.TheVariants as stage
 use Rattle.gateway_runs.specs.declared.call.Call.{Call as VenueCall}
 use Rattle.gateway_runs.specs.declared.call.Call.TheVariants as venue_call
@@ -130,7 +131,7 @@ module _ {M Q A : Type 0} (did : M → Asked → M → Type 0) (guided : Bool)
 
   module _ (m : Message) (b : Ends M Q A) (k : ℕ) (e : Ends M Q A) (u : UnderWay m b k e) where
     -- nothing is awaited any more
-    pub over : e.desk.follower.download ≡ stage.Idle → Loaded m b e
+    pub over : download_of e.desk.follower ≡ stage.Idle → Loaded m b e
     over idle = record {
       calls = u.calls;
       line = λ at a. clear_open c (made e.log) (u.clear at a).1;
@@ -171,7 +172,7 @@ module _ {M Q A : Type 0} (did : M → Asked → M → Type 0) (guided : Bool)
         line = λ at a. try_opens again e g (clear_open c (made e.log) (u.clear at a).1) (leaves at a) x;
       }
 
-      module _ (awaited : e.desk.follower.download ≢ stage.Idle) where
+      module _ (awaited : download_of e.desk.follower ≢ stage.Idle) where
         loading : (p : Partition) → Loading c p k b e ⊎ Downloaded c p b e → Loading c p k b e
         loading p (inl l) = l
         loading p (inr d) = absurd (awaited d.ready.asks.idle)

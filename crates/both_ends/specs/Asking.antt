@@ -15,9 +15,9 @@ use Rattle.texts.specs.declared.values.Price.{Price}
 use Rattle.venue.specs.Books.{Over, Sound}
 use Rattle.venue.specs.Telling.{Told}
 
--- a question's answer, as a function of what both ends show
+-- a question's answer, as a function of what both ends show: the gateway's state, the free places, the follower
 abbrev pub Answer : Type 0 → Type 0 → Type 0
-Answer Q A = Q → State → Following → A
+Answer Q A = Q → State → ℕ → Following → A
 
 -- one call: its end moves as its contract has it, the other stays, and both keep what they are to keep
 pub record Moves {M : Type 0} (did : M → Asked → M → Type 0) (x : Over State M) (d : Desk) (a : Done)
@@ -65,7 +65,7 @@ module _ {M Q A : Type 0} (did : M → Asked → M → Type 0) (guided : Bool)
   abbrev pub Takes : Over State M → Desk → Entry Q A → Over State M → Desk → Type 0
   Takes x d (Made a) y e = Moves did x d a y e
   Takes x d (Midpoint i p r) y e = Told guided learns i p r x y × (e ≡ d)
-  Takes x d (Answered q a) y e = (y ≡ x) × (e ≡ d) × (a ≡ answer q x.state d.follower)
+  Takes x d (Answered q a) y e = (y ≡ x) × (e ≡ d) × (a ≡ answer q x.state x.free d.follower)
 
   -- calls, midpoints and questions, one after the other
   abbrev pub Goes : Over State M → Desk → List (Entry Q A) → Over State M → Desk → Type 0

@@ -55,7 +55,7 @@ module _ {M Q A : Type 0} (meaning : M → Meaning) (did : M → Asked → M →
 
 -- a question is kept with its answer, which is its definition's, and both ends stay
 pub record Answers {M Q A : Type 0} (answer : Answer Q A) (q : Q) (a : A) (b e : Ends M Q A) : Type 0 where
-  pub answer_is : a ≡ answer q b.gateway.state b.desk.follower
+  pub answer_is : a ≡ answer q b.gateway.state b.gateway.free b.desk.follower
   pub log : e.log ≡ b.log ++ Kept q a ∷ []
   pub gateway : e.gateway ≡ b.gateway
   pub desk : e.desk ≡ b.desk

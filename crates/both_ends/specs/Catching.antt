@@ -17,10 +17,11 @@ use Rattle.both_ends.specs.declared.call.Done.{Done}
 use Rattle.both_ends.specs.declared.call.Done.TheVariants as done
 use Rattle.both_ends.specs.declared.entry.Entry.TheVariants.{Made}
 use Rattle.both_ends.specs.declared.opening.Opening.TheVariants.{Failed}
+use Rattle.follower.specs.Following.{download_of, is_up}
+use Rattle.follower.specs.Sides.{is_level}
 use Rattle.follower.specs.declared.fault.FollowerFault.{FollowerFault}
 use Rattle.follower.specs.declared.side.Side.{Side}
-use Rattle.follower.specs.declared.side.State.{State as Standing}
-use Rattle.follower.specs.declared.side.State.TheVariants.{Level, Behind}
+use Rattle.follower.specs.declared.side.State.TheVariants.{Level}
 use Rattle.follower.specs.declared.stage.Stage.TheVariants.{Idle, Running}
 use Rattle.gateway.specs.State.{State, session, fresh as fresh_state}
 use Rattle.gateway_runs.specs.Runs.{bytes_of}
@@ -47,10 +48,6 @@ downloads_for n = max 1 (div_ceil n 64)
 abbrev pub missed : ℕ → State → Desk → Partition → List ℕ
 missed c s d p = owned (at s.venue.kept p) c (place d p) (length (at s.venue.kept p))
 
-abbrev pub is_level : Standing → Bool
-is_level Level = true
-is_level Behind = false
-
 -- the downloads that make a partition level: none where it is
 abbrev pub needed : ℕ → State → Desk → Partition → ℕ
 needed c s d p = if is_level (state_of d p) then 0 else downloads_for (length (missed c s d p))
@@ -68,8 +65,8 @@ IsOpen c xs = (x : Line) × (after_log c xs quiet ≡ Ok x) × (x.opening ≢ Fa
 -- on such a line the follower is up and awaits no download, and the recovery channel is logged on
 pub record CanAsk (c : ℕ) (xs : List Done) (s : State) (d : Desk) : Type 0 where
   pub line : IsOpen c xs
-  pub up : d.follower.up ≡ true
-  pub idle : d.follower.download ≡ Idle
+  pub up : is_up d.follower ≡ true
+  pub idle : download_of d.follower ≡ Idle
   pub on : on Recovery (session s c) ≡ true
 
 -- and as many requests are left of the day's 48 as the partitions need

@@ -17,6 +17,7 @@ use Rattle.both_ends.specs.declared.call.Done.TheVariants as done
 use Rattle.both_ends.specs.declared.entry.Entry.{Entry}
 use Rattle.both_ends.specs.declared.entry.Entry.TheVariants.{Made, Midpoint, Asked as Answered}
 use Rattle.both_ends.specs.declared.opening.Opening.TheVariants.{Failed}
+use Rattle.follower.specs.Following.{download_of, is_up}
 use Rattle.follower.specs.Asking.{request, ReadBack}
 use Rattle.follower.specs.declared.fault.FollowerFault.{FollowerFault}
 use Rattle.follower.specs.declared.side.State.TheVariants.{Level}
@@ -121,8 +122,8 @@ module _ {M Q A : Type 0} (c : ℕ) where
   pub record Waiting (p : Partition) (m : Message) (b : Ends M Q A) : Type 0 where
     pub reached : Reached (made b.log) b.gateway.state b.desk
     pub line : IsAsked c m (made b.log)
-    pub up : b.desk.follower.up ≡ true
-    pub asks : b.desk.follower.download ≡ Asking p
+    pub up : is_up b.desk.follower ≡ true
+    pub asks : download_of b.desk.follower ≡ Asking p
     pub on : (session b.gateway.state c).on ≡ Recovering None
     pub request : m ≡ request p (place b.desk p)
     pub back : ReadBack p (place b.desk p)
@@ -131,8 +132,8 @@ module _ {M Q A : Type 0} (c : ℕ) where
   pub record Loading (p : Partition) (k : ℕ) (b e : Ends M Q A) : Type 0 where
     pub reached : Reached (made e.log) e.gateway.state e.desk
     pub line : IsClear c (made e.log)
-    pub up : e.desk.follower.up ≡ true
-    pub runs : e.desk.follower.download ≡ Running p
+    pub up : is_up e.desk.follower ≡ true
+    pub runs : download_of e.desk.follower ≡ Running p
     pub stays : Stays p 1 b e
     pub on : (session e.gateway.state c).on ≡ Recovering (Some (record {
       partition = p;

@@ -3,12 +3,14 @@ ghost use Rattle.std.specs.Prelude.{◌≡◌, ◌<◌, ◌≤◌, ◌+◌, ◌�
 ghost use Rattle.both_ends.specs.Allowed.{Allowed};
 ghost use Rattle.both_ends.specs.Asking.{made};
 ghost use Rattle.both_ends.specs.Both.{Ran};
-ghost use Rattle.both_ends.specs.Catching.{CanCatchUp, CatchesUp, Downloads, IsOpen, granted, is_level, needed};
+ghost use Rattle.both_ends.specs.Catching.{CanCatchUp, CatchesUp, Downloads, IsOpen, granted, needed};
 ghost use Rattle.both_ends.specs.Downloading.{Downloaded, Exchanges, IsAsked, Levelled, Passes, Reached, Ready, Waiting, left_by, left_in};
 ghost use Rattle.both_ends.specs.Agreement.{place as at_place};
 ghost use Rattle.both_ends.specs.Laws.{state_of};
 ghost use Rattle.follower.specs.declared.side.State.TheVariants.{Level};
 ghost use Rattle.codes.specs.declared.session.Partition.{Partition};
+ghost use Rattle.follower.specs.Following.{download_of};
+ghost use Rattle.follower.specs.Sides.{is_level};
 ghost use Rattle.follower.specs.declared.stage.Stage.TheVariants.{Idle};
 ghost use Rattle.both_ends.specs.declared.call.Call.TheVariants.{Venue as OfVenue};
 
@@ -20,7 +22,6 @@ use crate::replies::{bytes, written};
 use crate::state::BothEnds;
 use codes::code::Code;
 use codes::session::Partition;
-use follower::side::State;
 use follower::stage::Stage;
 use gateway_runs::call::{Call as VenueCall, Done as VenueDone};
 use limits::{DOWNLOADED, REQUESTS};
@@ -85,12 +86,12 @@ impl<M: Matcher, S: Store, Q: Question<A>, A: Copy> BothEnds<M, S, Q, A> {
     fn is_level(&self, partition: Partition) -> bool
         ensures { result ≡ is_level (state_of self.now.desk partition) }
     {
-        matches!(self.follower().state(partition), State::Level)
+        self.follower().is_level(partition)
     }
 
     // Whether no download is awaited.
     fn is_idle(&self) -> bool
-        ensures { IsTrue result ↔ (self.now.desk.follower.download ≡ Idle) }
+        ensures { IsTrue result ↔ (download_of self.now.desk.follower ≡ Idle) }
     {
         matches!(self.follower().download(), Stage::Idle)
     }

@@ -1,5 +1,5 @@
 // What may be asked of both ends. A question changes nothing, so it may stand anywhere among the calls.
-ghost use Rattle.std.specs.Prelude.{◌≡◌, IfOk};
+ghost use Rattle.std.specs.Prelude.{◌≡◌, ℕ, IfOk};
 ghost use Rattle.gateway.specs.State.{State};
 ghost use Rattle.follower.specs.Following.{Following};
 
@@ -11,8 +11,8 @@ use store::Store;
 
 /// A question, whose answer is a function of what both ends show.
 pub trait Question<A: Copy>: Drop {
-    /// The answer.
-    ghost answer: { Self → State → Following → A };
+    /// The answer, by the gateway's state, the free places of its store, and the follower.
+    ghost answer: { Self → State → ℕ → Following → A };
 
     /// Answers it. Its one error is want of memory.
     fn ask<M: Matcher, S: Store>(
@@ -21,5 +21,5 @@ pub trait Question<A: Copy>: Drop {
         gateway: &Gateway<M, S>,
         follower: &Follower,
     ) -> Result<A, AllocError>
-        ensures { IfOk result (λ a. a ≡ answer self.now gateway.now.state follower.now) };
+        ensures { IfOk result (λ a. a ≡ answer self.now gateway.now.state gateway.now.free follower.now) };
 }

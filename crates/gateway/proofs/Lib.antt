@@ -1,2 +1,6 @@
 pub mod Stored
 pub mod Requested
+pub mod Counting
+pub mod Alone
+pub mod Withdrawn
+pub mod Foretelling

@@ -6,3 +6,6 @@ pub mod Hearing
 pub mod Calls
 pub mod Telling
 pub mod Starting
+pub mod Counting
+pub mod Previews
+pub mod Foretelling

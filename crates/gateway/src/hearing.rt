@@ -120,7 +120,7 @@ fn answer_for(m: &Message<'_>, done: Result<(), Turned>) -> Answer
 }
 
 impl<M: Matcher, S: Store> Gateway<M, S> {
-    fn firm(&self, line: usize) -> u32
+    pub(crate) fn firm(&self, line: usize) -> u32
         ensures { result ≡ firm self.now.state line }
     {
         match self.participants.get(line) {

@@ -6,3 +6,4 @@ pub mod fault;
 pub mod gateway;
 mod hearing;
 mod lines;
+pub mod preview;

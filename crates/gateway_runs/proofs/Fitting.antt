@@ -25,8 +25,6 @@ use Rattle.order_messages.specs.declared.new_order.NewOrder.{NewOrder}
 use Rattle.order_messages.specs.declared.order_cancel_request.OrderCancelRequest.{OrderCancelRequest}
 use Rattle.order_messages.specs.declared.order_cancel_replace_request.OrderCancelReplaceRequest.{OrderCancelReplaceRequest}
 use Rattle.order_messages.specs.declared.order_mass_cancel_request.OrderMassCancelRequest.{OrderMassCancelRequest}
-use Rattle.order_messages.specs.declared.order_mass_cancel_request.Scope.{Scope}
-use Rattle.order_messages.specs.declared.order_mass_cancel_request.Scope.TheVariants.{FirmInstrument, FirmSegment, CompId, Firm, CompIdInstrument, CompIdSegment}
 use Rattle.orders.proofs.Kept.{kept_at}
 use Rattle.orders.specs.Orders.{replace_fault}
 use Rattle.orders.specs.Rows.{is_open, orderable}
@@ -35,11 +33,14 @@ use Rattle.orders.specs.declared.row.Ask.{Ask}
 use Rattle.orders.specs.declared.row.Ending.{Ending}
 use Rattle.orders.specs.declared.row.Row.{Row}
 use Rattle.requests.proofs.Found.{named_there}
+use Rattle.requests.proofs.Planning.{Tests, tested}
 use Rattle.requests.specs.Cancels as cancels
 use Rattle.requests.specs.Checks.{shares, shown}
 use Rattle.requests.specs.Deciding.{Decision, turned_if, with_listing}
 use Rattle.requests.specs.Instruments.{look_up}
 use Rattle.requests.specs.MassCancels as mass
+use Rattle.requests.specs.MassCancels.{Plan}
+use Rattle.requests.specs.MassCancels.Plan.{unserved, within as ends_in, everywhere as ends_in_all}
 use Rattle.requests.specs.Naming.{found, agrees, if_agreeing, if_open, named}
 use Rattle.requests.specs.NewOrders as new
 use Rattle.requests.specs.Replaces as replaces
@@ -337,52 +338,29 @@ module _ (s : State) (line : ℕ) where
     abbrev Massed : Decision → Type 0
     Massed = Decided (MayBy (message.OrderMassCancelRequest m))
 
-    instrument_fits : (x : List ℕ) (owner : ℕ → Bool) (bk : Book) → Owners (MayBy (message.OrderMassCancelRequest m)) owner
-        → Massed (mass.in_listing x owner bk line m t s.venue spare)
-    instrument_fits x owner bk f =
-        listed (MayBy (message.OrderMassCancelRequest m)) (look_up s.venue.instruments x) _
-        (λ l. unless (MayBy (message.OrderMassCancelRequest m)) (nat_lt spare 1) NoPlace _
-        (served l (serves s.venue.market bk)))
-      where
-        served : (l : Listing) (b : Bool) → Massed (cond b
-            (Ok (Note l.instrument.partition (mass.accepted line m t)
-            ∷ mass.swept (meant owner (of_instrument l.place bk) false) m s.venue))
-            (Ok (Note l.instrument.partition (mass.refused line m t) ∷ [])))
-        served l true = (
-          refl,
-          all_swept (MayBy (message.OrderMassCancelRequest m)) (meant owner (of_instrument l.place bk) false)
-              (Request (kept m.client_order_id.text))
-              (meant_own (MayBy (message.OrderMassCancelRequest m)) owner (of_instrument l.place bk) false f) (λ e i. tt),
-        )
-        served l false = (refl, tt)
+    owner_own : (firms : Bool)
+        → Owners (MayBy (message.OrderMassCancelRequest m)) (mass.owner_of firms s.participants (firm s line) line)
+    owner_own true = firms_own (MayBy (message.OrderMassCancelRequest m))
+    owner_own false = lines_own (MayBy (message.OrderMassCancelRequest m))
 
-    all_fits : (owner : ℕ → Bool) (within : Row → Bool) → Owners (MayBy (message.OrderMassCancelRequest m)) owner
-        → Massed (mass.in_all owner within line m t s.venue spare)
-    all_fits owner within f = unless (MayBy (message.OrderMassCancelRequest m)) (nat_lt spare 3) NoPlace _ (
-      refl,
-      (
-        refl,
-        (
-          refl,
-          all_swept (MayBy (message.OrderMassCancelRequest m)) (meant owner within false)
-              (Request (kept m.client_order_id.text))
-              (meant_own (MayBy (message.OrderMassCancelRequest m)) owner within false f) (λ e i. tt),
-        ),
-      ),
-    )
+    swept_fits : (q : Row → Bool) → Mine (MayBy (message.OrderMassCancelRequest m)) q
+        → AllByRecursion (Fit (MayBy (message.OrderMassCancelRequest m))) (mass.swept q m s.venue)
+    swept_fits q f = all_swept (MayBy (message.OrderMassCancelRequest m)) q (Request (kept m.client_order_id.text)) f
+        (λ e i. tt)
 
-    segment_fits : (x : List ℕ) (owner : ℕ → Bool) → Owners (MayBy (message.OrderMassCancelRequest m)) owner
-        → Massed (mass.in_segment x owner line m t s.venue spare)
-    segment_fits x owner f = unless (MayBy (message.OrderMassCancelRequest m)) (not (mass.has_segment s.venue.instruments x))
-        UnknownInstrument _ (all_fits owner (of_segment s.venue.instruments x) f)
+    done_fits : (r : Result Plan Turned) → Tests (Mine (MayBy (message.OrderMassCancelRequest m))) r → Massed (mass.done_as line m t s.venue r)
+    done_fits (Err e) f = tt
+    done_fits (Ok (unserved p)) f = (refl, tt)
+    done_fits (Ok (ends_in p q)) f = (refl, swept_fits q f)
+    done_fits (Ok (ends_in_all q)) f = (refl, (refl, (refl, swept_fits q f)))
 
-    scope_fits : (x : Scope) → Massed (mass.in_scope x s.participants (firm s line) line m t s.venue spare)
-    scope_fits (FirmInstrument x b) = instrument_fits _ _ b (firms_own (MayBy (message.OrderMassCancelRequest m)))
-    scope_fits (CompIdInstrument x b) = instrument_fits _ _ b (lines_own (MayBy (message.OrderMassCancelRequest m)))
-    scope_fits (FirmSegment x) = segment_fits _ _ (firms_own (MayBy (message.OrderMassCancelRequest m)))
-    scope_fits (CompIdSegment x) = segment_fits _ _ (lines_own (MayBy (message.OrderMassCancelRequest m)))
-    scope_fits Firm = all_fits _ anywhere (firms_own (MayBy (message.OrderMassCancelRequest m)))
-    scope_fits CompId = all_fits _ anywhere (lines_own (MayBy (message.OrderMassCancelRequest m)))
+    mass_fits : Massed (mass.mass_cancel s.participants (firm s line) line m t s.venue spare)
+    mass_fits =
+        let may = MayBy (message.OrderMassCancelRequest m) in
+        let aim = mass.aim_of m.scope in
+        let owner = mass.owner_of aim.0 s.participants (firm s line) line in
+        done_fits _ (tested (Mine may) aim.1 owner s.venue spare
+        (λ reach. meant_own may owner reach false (owner_own aim.0)))
 
   -- ---- each message
 
@@ -444,7 +422,7 @@ module _ (s : State) (line : ℕ) where
       (asked_fits (message.OrderCancelReplaceRequest m) _ (replace_fits m t spare))
   outcome_fits ch (message.OrderMassCancelRequest m) t spare =
       where_on (message.OrderMassCancelRequest m) (on ch (session s line)) _
-      (asked_fits (message.OrderMassCancelRequest m) _ (scope_fits m t spare m.scope))
+      (asked_fits (message.OrderMassCancelRequest m) _ (mass_fits m t spare))
   outcome_fits ch (message.MissedMessageRequest m) t spare =
       where_on (message.MissedMessageRequest m) (on ch (session s line)) _
       (missed_here (MayBy (message.MissedMessageRequest m)) ch m)

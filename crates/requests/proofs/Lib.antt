@@ -1,3 +1,4 @@
 pub mod Found
 pub mod Sweeping
 pub mod Decided
+pub mod Planning

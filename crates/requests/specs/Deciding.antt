@@ -17,11 +17,11 @@ use Rattle.venue.specs.Enacting.{Enacts}
 abbrev pub Decision : Type 0
 Decision = Result (List Act) Turned
 
-abbrev pub turned_if : Bool → Turned → Decision → Decision
+abbrev pub turned_if : {A : Type 0} → Bool → Turned → Result A Turned → Result A Turned
 turned_if b e d = if b then Err e else d
 
 -- of the instrument that is named, if it is there
-abbrev pub with_listing : Option Listing → (Listing → Decision) → Decision
+abbrev pub with_listing : {A : Type 0} → Option Listing → (Listing → Result A Turned) → Result A Turned
 with_listing None f = Err UnknownInstrument
 with_listing (Some l) f = f l
 

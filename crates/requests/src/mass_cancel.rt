@@ -3,8 +3,8 @@ ghost use Rattle.std.specs.Prelude.{◌≡◌, ◌≤◌, ◌+◌};
 ghost use Rattle.std.specs.Str.{bytes_eq};
 ghost use Rattle.orders.specs.Tables.{open_count};
 ghost use Rattle.requests.specs.Deciding.{Does, spare};
-ghost use Rattle.requests.specs.MassCancels.{accepted, has_segment, in_all, in_listing, in_segment, mass_cancel, mass_entry, refused, told_everywhere};
-ghost use Rattle.requests.specs.Selection.{in_reach, is_owner};
+ghost use Rattle.requests.specs.MassCancels.{Roomed, accepted, acts_of, aim_of, has_segment, in_all, in_listing, in_segment, mass_cancel, mass_entry, plan_of, planned, planned_as, refused, swept, told_count, told_everywhere};
+ghost use Rattle.requests.specs.Selection.{in_reach, is_owner, picks};
 ghost use Rattle.texts.specs.Bytes.{said};
 ghost use Rattle.texts.specs.declared.values.Time.{Time as Moment};
 ghost use Rattle.venue.specs.Enacting.{Enacts, Silent};
@@ -22,6 +22,17 @@ use reports::report::{Entry, MassAnswer, MassCancelReport, Report};
 use store::Store;
 use texts::values::Time;
 use venue::venue::Venue;
+
+/// What a Mass Cancel Request comes to, where it is not turned down.
+#[derive(Clone, Copy)]
+pub enum Sweep<'a> {
+    /// Its book is not served: nothing is cancelled, and the requester is told so in a partition.
+    Unserved(Partition),
+    /// Orders of a partition are cancelled, and the requester is told there.
+    Within(Partition, Selection<'a>),
+    /// Orders of all partitions are cancelled, and the requester is told in each.
+    Everywhere(Selection<'a>),
+}
 
 fn is_of(instrument: &Instrument, segment: &[u8]) -> bool
     ensures { result ≡ bytes_eq (said instrument.now.segment.bytes) segment.now }
@@ -73,18 +84,16 @@ fn tell_everywhere<M: Matcher, S: Store>(venue: &mut Venue<M, S>, entry: Entry)
     venue.note(Partition::Three, entry);
 }
 
-// Cancels an owner's orders of an instrument in one book.
-fn in_listing<M: Matcher, S: Store>(
-    venue: &mut Venue<M, S>,
+// An owner's orders of an instrument in one book.
+fn in_listing<'a, M: Matcher, S: Store>(
+    venue: &Venue<M, S>,
     symbol: &[u8],
-    owners: Owners<'_>,
+    owners: Owners<'a>,
     book: Book,
-    line: usize,
-    m: &OrderMassCancelRequest<'_>,
-    time: Time,
-) -> Result<(), Turned>
-    ensures { Does M.Did time (in_listing symbol.now (is_owner owners.entry) book line m.now time venue.old.state
-        (spare venue.old)) venue.old result venue.new }
+) -> Result<Sweep<'a>, Turned>
+    ensures planned { planned_as venue.now.state.instruments result
+        ≡ in_listing symbol.now (is_owner owners.entry) book venue.now.state (spare venue.now) }
+    ensures room { Roomed venue.now result }
 {
     let Some(listing) = look_up(venue.instruments(), symbol) else {
         return Err(Turned::UnknownInstrument);
@@ -94,62 +103,114 @@ fn in_listing<M: Matcher, S: Store>(
     }
     let partition = listing.instrument.partition;
     if !venue.matcher().serves(book) {
-        venue.note(partition, refused(line, m, time));
-        return Ok(());
+        return Ok(Sweep::Unserved(partition));
     }
-    venue.note(partition, accepted(line, m, time));
     let selection = Selection {
         owners,
         reach: Reach::Instrument(listing.place, book),
         marked: false,
     };
-    let cause = Cause::Request(m.client_order_id.text.keep());
-    withdraw_all(venue, &selection, cause, time);
-    Ok(())
+    Ok(Sweep::Within(partition, selection))
 }
 
-// Cancels an owner's orders of all partitions.
-fn in_all<M: Matcher, S: Store>(
-    venue: &mut Venue<M, S>,
-    owners: Owners<'_>,
-    reach: Reach<'_>,
-    line: usize,
-    m: &OrderMassCancelRequest<'_>,
-    time: Time,
-) -> Result<(), Turned>
-    ensures { Does M.Did time (in_all (is_owner owners.entry) (in_reach venue.old.state.instruments reach.entry) line m.now
-        time venue.old.state (spare venue.old)) venue.old result venue.new }
+// An owner's orders of all partitions.
+fn in_all<'a, M: Matcher, S: Store>(
+    venue: &Venue<M, S>,
+    owners: Owners<'a>,
+    reach: Reach<'a>,
+) -> Result<Sweep<'a>, Turned>
+    ensures planned { planned_as venue.now.state.instruments result
+        ≡ in_all (is_owner owners.entry) (in_reach venue.now.state.instruments reach.entry) (spare venue.now) }
+    ensures room { Roomed venue.now result }
 {
     if venue.spare() < 3 {
         return Err(Turned::NoPlace);
     }
-    tell_everywhere(venue, accepted(line, m, time));
-    let selection = Selection {
+    Ok(Sweep::Everywhere(Selection {
         owners,
         reach,
         marked: false,
-    };
-    let cause = Cause::Request(m.client_order_id.text.keep());
-    withdraw_all(venue, &selection, cause, time);
-    Ok(())
+    }))
 }
 
-// Cancels an owner's orders of a segment.
-fn in_segment<M: Matcher, S: Store>(
-    venue: &mut Venue<M, S>,
-    segment: &[u8],
-    owners: Owners<'_>,
-    line: usize,
-    m: &OrderMassCancelRequest<'_>,
-    time: Time,
-) -> Result<(), Turned>
-    ensures { Does M.Did time (in_segment segment.now (is_owner owners.entry) line m.now time venue.old.state
-        (spare venue.old)) venue.old result venue.new }
+// An owner's orders of a segment.
+fn in_segment<'a, M: Matcher, S: Store>(
+    venue: &Venue<M, S>,
+    segment: &'a [u8],
+    owners: Owners<'a>,
+) -> Result<Sweep<'a>, Turned>
+    ensures planned { planned_as venue.now.state.instruments result
+        ≡ in_segment segment.now (is_owner owners.entry) venue.now.state (spare venue.now) }
+    ensures room { Roomed venue.now result }
 {
     if !has_segment(venue.instruments(), segment) {
         return Err(Turned::UnknownInstrument);
     }
-    in_all(venue, owners, Reach::Segment(segment), line, m, time)
+    in_all(venue, owners, Reach::Segment(segment))
+}
+
+/// What a request of a line comes to, which is of a firm among the participants: the orders in its scope, or that its
+/// book is not served; or why it is turned down.
+pub fn plan<'a, M: Matcher, S: Store>(
+    venue: &Venue<M, S>,
+    participants: &'a [Participant],
+    firm: u32,
+    line: usize,
+    m: &OrderMassCancelRequest<'a>,
+) -> Result<Sweep<'a>, Turned>
+    ensures planned { planned_as venue.now.state.instruments result
+        ≡ planned (aim_of m.now.scope) participants.now firm line venue.now.state (spare venue.now) }
+    ensures room { Roomed venue.now result }
+{
+    let own = Owners::Line(line);
+    let firms = Owners::Firm(participants, firm);
+    match m.scope {
+        Scope::FirmInstrument(symbol, book) => in_listing(venue, symbol.as_bytes(), firms, book),
+        Scope::CompIdInstrument(symbol, book) => in_listing(venue, symbol.as_bytes(), own, book),
+        Scope::FirmSegment(segment) => in_segment(venue, segment.as_bytes(), firms),
+        Scope::CompIdSegment(segment) => in_segment(venue, segment.as_bytes(), own),
+        Scope::Firm => in_all(venue, firms, Reach::All),
+        Scope::CompId => in_all(venue, own, Reach::All),
+    }
+}
+
+// Cancels the orders that are meant, each told under the request's client order id.
+fn cancel_all<M: Matcher, S: Store>(
+    venue: &mut Venue<M, S>,
+    m: &OrderMassCancelRequest<'_>,
+    selection: &Selection<'_>,
+    time: Time,
+)
+    ensures { Enacts M.Did time (swept (picks venue.old.state.instruments selection.now) m.now venue.old.state)
+        venue.old venue.new }
+{
+    let cause = Cause::Request(m.client_order_id.text.keep());
+    withdraw_all(venue, selection, cause, time);
+}
+
+// Tells the requester, and then each owner of an order that is cancelled.
+fn carry_out<M: Matcher, S: Store>(
+    venue: &mut Venue<M, S>,
+    line: usize,
+    m: &OrderMassCancelRequest<'_>,
+    sweep: Sweep<'_>,
+    time: Time,
+)
+    requires { open_count venue.old.state.rows + told_count sweep ≤ venue.old.free }
+    ensures { Enacts M.Did time
+        (acts_of line m.now time venue.old.state (plan_of venue.old.state.instruments sweep.entry)) venue.old venue.new }
+{
+    match sweep {
+        Sweep::Unserved(partition) => venue.note(partition, refused(line, m, time)),
+        Sweep::Within(partition, selection) => {
+            venue.note(partition, accepted(line, m, time));
+            cancel_all(venue, m, &selection, time);
+        }
+        Sweep::Everywhere(selection) => {
+            tell_everywhere(venue, accepted(line, m, time));
+            cancel_all(venue, m, &selection, time);
+        }
+    }
 }
 
 /// Cancels the open orders in a request's scope: those of a line's CompID, or of its firm among the participants. The
@@ -166,18 +227,7 @@ pub fn mass_cancel<M: Matcher, S: Store>(
     ensures { Does M.Did time (mass_cancel participants.now firm line m.now time venue.old.state (spare venue.old))
         venue.old result venue.new }
 {
-    let own = Owners::Line(line);
-    let firms = Owners::Firm(participants, firm);
-    match m.scope {
-        Scope::FirmInstrument(symbol, book) => {
-            in_listing(venue, symbol.as_bytes(), firms, book, line, m, time)
-        }
-        Scope::CompIdInstrument(symbol, book) => {
-            in_listing(venue, symbol.as_bytes(), own, book, line, m, time)
-        }
-        Scope::FirmSegment(s) => in_segment(venue, s.as_bytes(), firms, line, m, time),
-        Scope::CompIdSegment(s) => in_segment(venue, s.as_bytes(), own, line, m, time),
-        Scope::Firm => in_all(venue, firms, Reach::All, line, m, time),
-        Scope::CompId => in_all(venue, own, Reach::All, line, m, time),
-    }
+    let sweep = plan(venue, participants, firm, line, m)?;
+    carry_out(venue, line, m, sweep, time);
+    Ok(())
 }

@@ -121,8 +121,8 @@ impl Reach<'_> {
 impl Selection<'_> {
     ghost use Rattle.requests.specs.Selection.{picks};
 
-    // Whether an order of one of the instruments is open and meant.
-    fn picks(&self, instruments: &[Instrument], row: &Row) -> bool
+    /// Whether an order of one of the instruments is open and meant.
+    pub fn picks(&self, instruments: &[Instrument], row: &Row) -> bool
         ensures { result ≡ picks instruments.now self.now row.now }
     {
         row.is_open()

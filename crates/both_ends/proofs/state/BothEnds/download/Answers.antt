@@ -1,4 +1,6 @@
 use Rattle.std.specs.Prelude.{nat_lt}
+use Rattle.std.specs.Vec.{vec_len}
+use Rattle.std.proofs.lemmas.Bool.{eqb-true, eq-eqb, true≢false}
 use Rattle.std.proofs.Common.{◌≡◌, ◌≢◌, ◌⊎◌, inl, inr, List, [], ◌∷◌, Bool, true, false, ap, eqb, ◌∙◌, sym, refl, subst, arith, length, Vec, Global, ℕ}
 use Rattle.codes.specs.Session.{partition_code}
 use Rattle.both_ends.proofs.Passing.{more_downloads}
@@ -19,6 +21,12 @@ is_none : (xs : List ℕ) → length xs ≡ 0 → xs ≡ []
 is_none [] e = refl
 is_none (x ∷ xs) e = absurd (omega arith)
 
+none_asked : (v : Vec ℕ Global) → true ≡ eqb (vec_len v) 0 → v.items ≡ []
+none_asked v e = is_none v.items (sym v.ok.0 ∙ eqb-true (vec_len v) 0 (sym e))
+
+some_asked : (v : Vec ℕ Global) → false ≡ eqb (vec_len v) 0 → v.items ≢ []
+some_asked v e h = true≢false (sym (eq-eqb (vec_len v) 0 (v.ok.0 ∙ ap length h)) ∙ sym e)
+
 pub returns-in_err-request-clause-calls : goal.returns-in_err-request-clause-calls
 returns-in_err-request-clause-calls g c = ask_tried g.M.Matcher.Did g.M.Matcher.guided g.M.Matcher.Learns g.Q.Question.answer c.args.line c.byte.result
     c.in_ok-buffer.field-0 c.args.self.now c.pass.new.self c.in_err-request.ensures.error
@@ -33,7 +41,7 @@ nothing_asked g c = not_asked g.M.Matcher.Did g.M.Matcher.guided g.M.Matcher.Lea
     (is_wide c.in_ok-buffer.field-0 c.in_ok-buffer.ensures) c.in_ok-request.request.items c.args.self.now c.pass.new.self
     (subst (λ n. Passes g.M.Matcher.Did (Ask n c.in_ok-buffer.field-0) c.in_ok-request.request.items c.args.self.now
     c.pass.new.self) c.byte.ensures c.in_ok-request.ensures.passed)
-    (is_none c.in_ok-request.request.items (grind arith))
+    (none_asked c.in_ok-request.request c.if-is_empty.ensures)
 
 pub returns-then-is_empty-clause-calls : goal.returns-then-is_empty-clause-calls
 returns-then-is_empty-clause-calls g c = (nothing_asked g c).calls
@@ -60,7 +68,7 @@ returns-in_err-load-clause-line g c =
     (is_wide c.in_ok-buffer.field-0 c.in_ok-buffer.ensures) c.in_ok-request.request.items c.args.self.now c.pass.new.self
     (subst (λ n. Passes g.M.Matcher.Did (Ask n c.in_ok-buffer.field-0) c.in_ok-request.request.items c.args.self.now
     c.pass.new.self) c.byte.ensures c.in_ok-request.ensures.passed) c.load.new.self
-    (λ e. let h : length c.in_ok-request.request.items ≡ 0 = ap length e in absurd (grind arith)) c.load.ensures.line
+    (some_asked c.in_ok-request.request c.if-is_empty.ensures) c.load.ensures.line
 
 asked : (g : Over) (c : goal.After-is_further g) → Tried g.M.Matcher.Did g.M.Matcher.guided g.M.Matcher.Learns g.Q.Question.answer c.args.line
     c.args.partition c.is_further.result c.args.self.now c.load.new.self
@@ -69,7 +77,7 @@ asked g c =
     (is_wide c.in_ok-buffer.field-0 c.in_ok-buffer.ensures) c.in_ok-request.request.items c.args.self.now c.pass.new.self
     (subst (λ n. Passes g.M.Matcher.Did (Ask n c.in_ok-buffer.field-0) c.in_ok-request.request.items c.args.self.now
     c.pass.new.self) c.byte.ensures c.in_ok-request.ensures.passed) c.is_further.result c.load.new.self
-    (λ e. let h : length c.in_ok-request.request.items ≡ 0 = ap length e in absurd (grind arith)) c.load.ensures.calls c.load.ensures.line
+    (some_asked c.in_ok-request.request c.if-is_empty.ensures) c.load.ensures.calls c.load.ensures.line
     c.in_ok-load.ensures.whole c.is_further.ensures.level
     (λ ne. c.is_further.ensures.moved (λ e. ne (e ∙ (c.place-place.ensures
     ∙ ap (λ (f : Following). (at f.sides c.args.partition).place) c.follower.ensures))))
