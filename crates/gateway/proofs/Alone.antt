@@ -85,10 +85,6 @@ own bs m r = ap (λ b. alone b (verdict RealTime bs)) (typed bs (message.OrderMa
 abbrev pub is_request : Message → Bool
 is_request m = eqb (letter_of (kind_of m)) (letter_of Request)
 
-pub other : (bs : List ℕ) (m : Message) → Reads RealTime bs m → is_request m ≡ false
-    → request_verdict bs ≡ Some Unknown
-other bs m r h = ap (λ b. alone b (verdict RealTime bs)) (typed bs m r ∙ h) ∙ ap (alone false) r.passes
-
 pub the_request : (bs : List ℕ) (m : Message) → Reads RealTime bs m → is_mass_cancel bs ≡ true
     → (n : OrderMassCancelRequest) × (m ≡ message.OrderMassCancelRequest n)
 the_request bs m r h = by_message m (sym (typed bs m r) ∙ h)

@@ -19,6 +19,7 @@ use Rattle.orders.specs.Rows.{ended, is_open, orderly}
 use Rattle.orders.specs.declared.row.Ending.{Ending}
 use Rattle.orders.specs.declared.row.Ending.TheVariants.{Cancelled, Expired}
 use Rattle.orders.specs.declared.row.Row.{Row}
+use Rattle.requests.proofs.Found.{parts}
 use Rattle.requests.proofs.Sweeping.{ended_apart}
 use Rattle.requests.specs.Selection.{ended_for, withdrawals}
 use Rattle.requests.specs.declared.selection.Cause.{Cause}
@@ -68,13 +69,6 @@ closed t LineLost r b n e =
 -- each of them is open
 pub record OnlyOpen (q : Row → Bool) : Type 0 where
   pub is : (r : Row) → q r ≡ true → is_open r ≡ true
-
-parts : (n : ℕ) (r : Row) (rs : List Row) → kept_from n (r ∷ rs) ≡ true → (r.number ≡ n) × (kept_from (suc n) rs ≡ true)
-unfolding kept_from
-parts n r rs h =
-    let p = and_parts (eqb r.number n) (orderly r && kept_from (suc n) rs) h in
-    let q = and_parts (orderly r) (kept_from (suc n) rs) p.1 in
-    (eqb-true _ _ p.0, q.1)
 
 module _ (t : Time) (q : Row → Bool) (c : Cause) where
   -- a number below those of the rows is not touched

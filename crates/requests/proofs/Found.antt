@@ -19,7 +19,8 @@ use Rattle.texts.specs.declared.fixed.FixedText.{FixedText}
 use Rattle.texts.specs.declared.identifiers.OrderId.{OrderId}
 use Rattle.venue.specs.Books.{Books, Sound}
 
-parts : (n : ℕ) (r : Row) (rs : List Row) → kept_from n (r ∷ rs) ≡ true → (r.number ≡ n) × (kept_from (suc n) rs ≡ true)
+-- the first of rows that are kept, and those behind it
+pub parts : (n : ℕ) (r : Row) (rs : List Row) → kept_from n (r ∷ rs) ≡ true → (r.number ≡ n) × (kept_from (suc n) rs ≡ true)
 unfolding kept_from
 parts n r rs h =
     let p = and_parts (eqb r.number n) (orderly r && kept_from (suc n) rs) h in
