@@ -170,7 +170,10 @@ fn catch_up<R: Print + AllocGlobal>(
     day.catch_up(line, state.clock)?;
     tell_from(rt, state, day, start)?;
     let all = [Partition::One, Partition::Two, Partition::Three];
-    if all.iter().all(|partition| day.follower().is_level(*partition)) {
+    if all
+        .iter()
+        .all(|partition| day.follower().is_level(*partition))
+    {
         return Ok(());
     }
     rt.println(Remark::NotLevel)

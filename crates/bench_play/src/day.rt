@@ -15,11 +15,11 @@ ghost use Rattle.both_ends.specs.declared.entry.Step.TheVariants.{Make};
 use crate::opening::{Engine, Opening, Shelf};
 use crate::show;
 use crate::tables::{Look, Shown};
+use book_pair::pair::BookPair;
 use both_ends::allowed::Breach;
 use both_ends::call::Call;
 use both_ends::entry::Entry;
 use both_ends::state::BothEnds;
-use book_pair::pair::BookPair;
 use byte_store::buffered::Buffered;
 use configuration::config::{Config, StartRefusal};
 use configuration::instrument::Instrument;
@@ -128,12 +128,7 @@ fn pair(heap: Global, config: Config, shelf: Shelf) -> Result<Day, StartRefusal>
     }
 }
 
-fn tape(
-    heap: Global,
-    config: Config,
-    lines: Vec<Line>,
-    shelf: Shelf,
-) -> Result<Day, StartRefusal> {
+fn tape(heap: Global, config: Config, lines: Vec<Line>, shelf: Shelf) -> Result<Day, StartRefusal> {
     let tape = Tape::new(heap, lines)?;
     match shelf {
         Shelf::Records(places) => {

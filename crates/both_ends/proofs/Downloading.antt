@@ -127,7 +127,7 @@ module _ (f : Following) (up : is_up f ≡ true) where
       → Completed p (recovered_step f (Ok (End ending.Complete)))
   complete_step p d fits =
       let now : recovered_step f (Ok (End ending.Complete)) ≡ ended f (stage.Running p) ending.Complete =
-          taken (End ending.Complete) ∙ ap (λ g. ended f g ending.Complete) d in
+      taken (End ending.Complete) ∙ ap (λ g. ended f g ending.Complete) d in
       subst (Completed p) (sym now) (completed_as p (caught_up p (reached f.standings (at f.sides p).place) (held_in (at f.sides p).state))
       (subst (λ (a : Step Recovered). is_unfit a.answer ≡ false) now fits))
 
@@ -157,10 +157,10 @@ module _ (f : Following) (up : is_up f ≡ true) where
       → FoldedOn p (number_of h) (recovered_step f (Ok (Report p h)))
   report_step p h d lt fits =
       let now : recovered_step f (Ok (Report p h)) ≡ folded recovered.Folded f p h =
-          taken (Report p h) ∙ (ap (λ g. reported f g p h) d
-          ∙ (ap (λ b. cond b (recovered_of f p h) (refused fault.Partition f)) (same_self p)
-          ∙ ap (λ b. cond b (answered recovered.Already f) (folded recovered.Folded f p h))
-          (lt-leb (number_of h) (at f.sides p).place lt))) in
+      taken (Report p h) ∙ (ap (λ g. reported f g p h) d
+      ∙ (ap (λ b. cond b (recovered_of f p h) (refused fault.Partition f)) (same_self p)
+      ∙ ap (λ b. cond b (answered recovered.Already f) (folded recovered.Folded f p h))
+      (lt-leb (number_of h) (at f.sides p).place lt))) in
       subst (FoldedOn p (number_of h)) (sym now) (folded_as p (number_of h) d (fold p h.told f.standings)
       (subst (λ (a : Step Recovered). is_unfit a.answer ≡ false) now fits))
 
@@ -271,7 +271,7 @@ module _ {M Q A : Type 0} (did : M → Asked → M → Type 0) (c : ℕ) where
       let (x, ok, began, none) = given_back did c h (done.Recovered v r) m e is a l in
       let log = ap made a.log ∙ made_push m.log (done.Recovered v r) in
       let fits : is_unfit r ≡ false = fits_at c (made m.log) (done.Recovered v r) e.gateway.state e.desk x
-          (subst (λ xs. Reached xs e.gateway.state e.desk) log on) (sym (ap (λ xs. after_log c xs quiet) log) ∙ ok) in
+      (subst (λ xs. Reached xs e.gateway.state e.desk) log on) (sym (ap (λ xs. after_log c xs quiet) log) ∙ ok) in
       record {
         state = same;
         follower = ap (λ (d : Desk). d.follower) after
@@ -315,23 +315,23 @@ module _ {M Q A : Type 0} (did : M → Asked → M → Type 0) (c : ℕ) where
       let f = b.desk.follower in
       let room : nat_lt (length r.before.items) BUFFER ≡ false = wide_too r.before buf before wide in
       let ok : asking f b.desk.token (partition_code p) (length r.before.items) ≡ Ok p =
-          asking_is f b.desk.token p (length r.before.items) ready.asks.up ready.asks.idle
-          (tied_at (made b.log) b.gateway.state b.desk ready.reached ∙ ap awaited ready.asks.idle) room in
+      asking_is f b.desk.token p (length r.before.items) ready.asks.up ready.asks.idle
+      (tied_at (made b.log) b.gateway.state b.desk ready.reached ∙ ap awaited ready.asks.idle) room in
       let asked_as = λ (o : Result Partition FollowerFault). asks_of f b.desk.token r.before.items o in
       let (same, ans, out, moves) = adds.moves.does in
       let answer : r.answer ≡ Ok (total_of Request) = ans ∙ ap (λ o. (asked_as o).answer) ok in
       let wrote : r.after.items ≡ request p (place b.desk p) ++ drop (total_of Request) r.before.items =
-          out ∙ ap (λ o. (asked_as o).out) ok in
+      out ∙ ap (λ o. (asked_as o).out) ok in
       let follower : e.desk.follower ≡ record f { line = connected.Up (stage.Asked p) } =
-          ap (λ (d : Desk). d.follower) moves ∙ ap (λ o. (asked_as o).after) ok in
+      ap (λ (d : Desk). d.follower) moves ∙ ap (λ o. (asked_as o).after) ok in
       let sides = ap (λ (i : Following). i.sides) follower in
       let here : place e.desk p ≡ place b.desk p = ap (λ (i : PerPartition Side). (at i p).place) sides in
       let back : ReadBack p (place b.desk p) = subst (λ o. IfOk o (λ i. ReadBack i (at f.sides i).place)) ok adds.moves.told in
       let bytes : h ≡ request p (place b.desk p) =
-          x.left ∙ (ap left_by is ∙ (ap (λ i. written i r.after.items) answer
-          ∙ (ap (take (total_of Request)) wrote ∙ asked_bytes p (place b.desk p) r.before.items back))) in
+      x.left ∙ (ap left_by is ∙ (ap (λ i. written i r.after.items) answer
+      ∙ (ap (take (total_of Request)) wrote ∙ asked_bytes p (place b.desk p) r.before.items back))) in
       let none : download (session b.gateway.state c) ≡ None = (still_at c (made b.log) b.gateway.state b.desk
-          ready.asks.line.0 ready.reached ready.asks.line.1 ready.asks.line.2 ready.asks.up ready.asks.idle).3 in (
+      ready.asks.line.0 ready.reached ready.asks.line.1 ready.asks.line.2 ready.asks.up ready.asks.idle).3 in (
         record {
           reached = reached_on did (done.Ask (partition_code p) r) b e adds ready.reached;
           line = by h bytes back
@@ -361,13 +361,13 @@ module _ {M Q A : Type 0} (did : M → Asked → M → Type 0) (c : ℕ) where
       let f = b.desk.follower in
       let there = recovering_there b.gateway.state c None w.on in
       let now : e.gateway.state
-          ≡ with_session b.gateway.state c (granted_session b.gateway.state c p (place b.desk p)) = g.state ∙ set in
+      ≡ with_session b.gateway.state c (granted_session b.gateway.state c p (place b.desk p)) = g.state ∙ set in
       let sess : session e.gateway.state c ≡ granted_session b.gateway.state c p (place b.desk p) =
-          session_set b.gateway.state e.gateway.state c _ there now in
+      session_set b.gateway.state e.gateway.state c _ there now in
       let kept : e.gateway.state.venue.kept ≡ b.gateway.state.venue.kept = ap (λ (i : State). i.venue.kept) now in
       let step : e.desk.follower ≡ record f { line = connected.Up (stage.Running p) } =
-          g.follower ∙ (ap (λ (d : Desk). (recovered_step d.follower (heard_in h)).after) same
-          ∙ (ap (λ i. (recovered_step f i).after) hd ∙ ap (λ (a : Step Recovered). a.after) (granted_step f w.up p w.asks))) in
+      g.follower ∙ (ap (λ (d : Desk). (recovered_step d.follower (heard_in h)).after) same
+      ∙ (ap (λ i. (recovered_step f i).after) hd ∙ ap (λ (a : Step Recovered). a.after) (granted_step f w.up p w.asks))) in
       let sides = ap (λ (i : Following). i.sides) step in
       let here : place e.desk p ≡ place b.desk p = ap (λ (i : PerPartition Side). (at i p).place) sides in
       let len = ap (λ k. length (at k p)) kept in
@@ -420,7 +420,7 @@ module _ {M Q A : Type 0} (did : M → Asked → M → Type 0) (c : ℕ) where
         let y = passed (call.Venue (venue_call.Recovery c v t buf)) (z r) h b mid x is in
         let g = granting r h mid before y in
         let l : Left c h (made mid.log) = subst (λ j. Left c j (made mid.log)) (sym y.bytes)
-            (request_left did c v t r b mid y.adds w.line) in
+        (request_left did c v t r b mid y.adds w.line) in
         let gave = gives h i mid e given a (reached_on did (z r) b mid y.adds w.reached) l in (
           refl,
           granted_begins p h v.items b mid e w g.after y.adds.moves.does.1
@@ -570,8 +570,8 @@ module _ {M Q A : Type 0} (did : M → Asked → M → Type 0) (c : ℕ) where
         let k' = kept mid g bytes h o m.hands same gave in
         let len : length (at g.gateway.state.venue.kept p) ≡ length reports = ap (λ (i : Kept). length (at i p)) k' in
         let left : length (missed c g.gateway.state g.desk p) ≡ length (owned reports c m.number (length reports)) =
-            ap (λ (i : Kept). length (owned (at i p) c (place g.desk p) (length (at i p)))) k'
-            ∙ ap (λ n. length (owned reports c n (length reports))) here in
+        ap (λ (i : Kept). length (owned (at i p) c (place g.desk p) (length (at i p)))) k'
+        ∙ ap (λ n. length (owned reports c n (length reports))) here in
         record {
           reached = gave.reached;
           line = gave.clear;
@@ -593,12 +593,12 @@ module _ {M Q A : Type 0} (did : M → Asked → M → Type 0) (c : ℕ) where
     limit mid g bytes out some full same gave =
         let h = End ending.MessageLimit in
         let st : g.desk.follower ≡ no_download f = step mid g bytes h None out same gave
-            ∙ ap (λ (a : Step Recovered). a.after) (limit_step f l.up p l.runs) in
+        ∙ ap (λ (a : Step Recovered). a.after) (limit_step f l.up p l.runs) in
         let here : place g.desk p ≡ place e.desk p = ap (λ (j : Following). (at j.sides p).place) st in
         let k' = kept mid g bytes h None out same gave in
         let left : missed c g.gateway.state g.desk p ≡ missed c s e.desk p =
-            ap (λ (i : Kept). owned (at i p) c (place g.desk p) (length (at i p))) k'
-            ∙ ap (λ n. owned reports c n (length reports)) here in
+        ap (λ (i : Kept). owned (at i p) c (place g.desk p) (length (at i p))) k'
+        ∙ ap (λ n. owned reports c n (length reports)) here in
         let size : length (missed c g.gateway.state g.desk p) ≡ length (missed c s e.desk p) = ap length left in
         record {
           ready = ready mid g bytes h None out same gave refl (ap is_up st)
@@ -663,6 +663,6 @@ module _ {M Q A : Type 0} (did : M → Asked → M → Type 0) (c : ℕ) where
           let (r, is, before) = sending_is c buf x.made x.is in
           let y = passed (call.Venue (venue_call.SendRecovered c buf)) (sends r) h e mid x is in
           let left : Left c h (made mid.log) = subst (λ j. Left c j (made mid.log)) (sym y.bytes)
-              (sends_left did c r e mid y.adds l.line) in
+          (sends_left did c r e mid y.adds l.line) in
           let gave = gives h i mid g given a (reached_on did (sends r) e mid y.adds l.reached) left in
           (refl, goes_on mid g h (handing r h mid before y) y.adds.moves.does.1 gave)

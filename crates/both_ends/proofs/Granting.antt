@@ -118,13 +118,13 @@ grants c s p z bs t r w (spare, k) is back wide on_is left_some =
     let there = recovering_there s c None on_is in
     let g = giving Recovery c bs.items t r.before.items spare in
     let read : Read Goes (verdict reader.Recovery bs.items) g s r.answer r.after.items =
-        subst (λ o. Checked Goes o g s r.answer r.after.items)
-        (no_call_fault s c (length r.before.items) there wide) k in
+    subst (λ o. Checked Goes o g s r.answer r.after.items)
+    (no_call_fault s c (length r.before.items) there wide) k in
     let (m, reads, settled) = subst (λ o. Read Goes o g s r.answer r.after.items)
-        (ap (verdict reader.Recovery) is ∙ back.taken) read in
+    (ap (verdict reader.Recovery) is ∙ back.taken) read in
     let asks : IsRequest p z m = back.read m (subst (λ b. Reads reader.Recovery b m) is reads) in
     let (answered_ok, after, out) = subst (λ o. Settled Goes o r.before.items r.answer r.after.items)
-        (outcome_is c s p z on_is left_some m t spare asks) settled in
+    (outcome_is c s p z on_is left_some m t spare asks) settled in
     record {
       bytes = left_all r.answer (answer_bytes (Ack Successful)) r.before.items r.after.items answered_ok out;
       after = after;
@@ -148,11 +148,11 @@ hands_out c s q r w (spare, k) wide on_is =
     let there = recovering_there s c (Some q) on_is in
     let x = session s c in
     let is_on : on_fault Recovery c s ≡ None =
-        ap (λ o. cond (on Recovery (record x { on = o })) None (Some (OfSession NotLoggedOn))) on_is in
+    ap (λ o. cond (on Recovery (record x { on = o })) None (Some (OfSession NotLoggedOn))) on_is in
     let fault : send_fault Recovery (length r.before.items) c s ≡ None =
-        ap (λ o. option_or o (on_fault Recovery c s)) (no_call_fault s c (length r.before.items) there wide) ∙ is_on in
+    ap (λ o. option_or o (on_fault Recovery c s)) (no_call_fault s c (length r.before.items) there wide) ∙ is_on in
     let (e, g, out) = subst (λ o. Hands (λ u acts. w ≡ u) o (recovery_handed c s) s r.before.items r.answer r.after.items)
-        fault k in
+    fault k in
     record {
       bytes = left_all r.answer (recovery_handed c s).bytes r.before.items r.after.items e out
           ∙ ap (λ o. recovered_bytes s.venue.kept (recovered s.venue.kept c (download (record x { on = o }))).0) on_is;

@@ -142,7 +142,7 @@ module _ {M Q A : Type 0} (did : M → Asked → M → Type 0) (guided : Bool)
           granted = d.stays.granted ∙ ap (λ (i : State). granted c i + 1) u.state;
         };
         brought = elim d.brought [
-          inl (l, n) ↦ inl (l, subst (λ xs. length xs ≤ 64) same n)
+          | inl (l, n) ↦ inl (l, subst (λ xs. length xs ≤ 64) same n)
           | inr (st, some, n) ↦ inr (
             st ∙ ap (λ (i : PerPartition Side). (at i p).state) u.sides,
             some,
@@ -163,9 +163,9 @@ module _ {M Q A : Type 0} (did : M → Asked → M → Type 0) (guided : Bool)
           → further ≡ true
       by (inl (l, n)) = level l
       by (inr (st, some, n)) = moved (λ h. (
-        let same : length (missed c e.gateway.state e.desk p) ≡ length (missed c b.gateway.state b.desk p) =
-            ap length (missed_same did c p b e d.stays.kept h) in
-        omega arith))
+          let same : length (missed c e.gateway.state e.desk p) ≡ length (missed c b.gateway.state b.desk p) =
+          ap length (missed_same did c p b e d.stays.kept h) in
+          omega arith))
 
   module _ (p : Partition) (buf : Vec ℕ Global) (wide : nat_lt (length buf.items) BUFFER ≡ false) (h : Message)
       (b a : Ends M Q A) (x : Passes did (call.Ask (partition_code p) buf) h b a) where
@@ -211,7 +211,7 @@ module _ {M Q A : Type 0} (did : M → Asked → M → Type 0) (guided : Bool)
       whole = λ r some.
           let (w, u) = waits did c p buf h b a r wide x in
           let few : granted c a.gateway.state < 48 =
-              subst (λ (i : State). granted c i < 48) (sym u.state) some in
+          subst (λ (i : State). granted c i < 48) (sym u.state) some in
           let d = from_asked p b a e u (whole p w few) in
           (moved_on p b e d further level moved, d);
     }
@@ -362,7 +362,7 @@ module _ {M Q A : Type 0} (did : M → Asked → M → Type 0) (guided : Bool)
   others_need p q n b e s ne =
       let side = s.others q ne in
       let missed_as : missed c e.gateway.state e.desk q ≡ missed c b.gateway.state b.desk q =
-          missed_same did c q b e s.kept (ap (λ (i : Side). i.place) side) in
+      missed_same did c q b e s.kept (ap (λ (i : Side). i.place) side) in
       ap (λ (i : Side). cond (is_level i.state) 0 (downloads_for (length (missed c e.gateway.state e.desk q)))) side
       ∙ ap (λ xs. cond (is_level (state_of b.desk q)) 0 (downloads_for (length xs))) missed_as
 
@@ -407,8 +407,12 @@ module _ {M Q A : Type 0} (did : M → Asked → M → Type 0) (guided : Bool)
 
   -- a line that allows the log, and whose recovery channel did not fail, is open
   pub opened : (xs : List Done) → failed_in (after_log c xs quiet) ≡ false → Allowed c xs → IsOpen c xs
-  opened xs h (x, ok) = (x, ok, λ e. true≢false (sym (ap is_failed e)
-      ∙ (sym (ap failed_in ok) ∙ h)))
+  opened xs h (x, ok) = (
+    x,
+    ok,
+    λ e. true≢false (sym (ap is_failed e)
+        ∙ (sym (ap failed_in ok) ∙ h)),
+  )
 
   pub allows : (b e : Ends M Q A) → failed_in (after_log c (made b.log) quiet) ≡ false → At b
       → (At b → IsOpen c (made b.log) → IsOpen c (made e.log)) → Allowed c (made b.log) → Allowed c (made e.log)

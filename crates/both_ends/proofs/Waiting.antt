@@ -435,11 +435,11 @@ module _ {M Q A : Type 0} (did : M → Asked → M → Type 0) (c : ℕ) where
       → Left c (bytes_of r) (made e.log)
   request_left v t r b e a l =
       let no : is_failed_logon r.answer v.items ≡ false =
-          ap (is_failed_logon r.answer) l.request ∙ no_failure r.answer l.partition l.from in
+      ap (is_failed_logon r.answer) l.request ∙ no_failure r.answer l.partition l.from in
       let does = effect_recovery c b.gateway.state v t r e.gateway.state a.moves.does.0 in
       let o = opens v.items r l.line l.line.opening refl no l.began l.asked l.recovered
-          (recovery_heard b.gateway.state.venue.kept v.items (bytes_of r) (session b.gateway.state c)
-          (session e.gateway.state c) does) in
+      (recovery_heard b.gateway.state.venue.kept v.items (bytes_of r) (session b.gateway.state c)
+      (session e.gateway.state c) does) in
       record {
         line = o.line;
         allowed = line_on did c (done.Venue (venue.Recovery c v t r)) b e l.line o.line a l.allowed
@@ -517,7 +517,7 @@ module _ {M Q A : Type 0} (did : M → Asked → M → Type 0) (c : ℕ) where
           let st = still_at c (made b.log) b.gateway.state b.desk x reached ok began fr.up fr.idle in
           let m = request p (at f.sides p).place in
           let is : take (total_of Request) r.after.items ≡ m =
-              ap (λ j. take (total_of Request) j) out ∙ asked_bytes p (at f.sides p).place r.before.items back in
+          ap (λ j. take (total_of Request) j) out ∙ asked_bytes p (at f.sides p).place r.before.items back in
           let y = record x { asked = x.asked ++ take (total_of Request) r.after.items ∷ [] } in
           subst (λ j. Ends_as j r.after.items) (sym ans) (inr (record {
             partition = p;

@@ -9,6 +9,9 @@ on_err (Err e) p = p
 
 pub returns-clause-error : goal.returns-clause-error
 returns-clause-error g c =
-    on_err c.left.result (inr (left_in c.last.result, passes g.M.Matcher.Did g.M.Matcher.guided g.M.Matcher.Learns g.Q.Question.answer c.args.call c.args.self.now
-    c.make.new.self c.last.result (left_in c.last.result) c.in_ok-make.ensures.made
-    c.last.ensures refl))
+    on_err c.left.result (inr (
+      left_in c.last.result,
+      passes g.M.Matcher.Did g.M.Matcher.guided g.M.Matcher.Learns g.Q.Question.answer c.args.call c.args.self.now
+          c.make.new.self c.last.result (left_in c.last.result) c.in_ok-make.ensures.made
+          c.last.ensures refl,
+    ))
