@@ -38,6 +38,10 @@ state_of (TapeWire b) = b.gateway.state
 abbrev pub free_of : Day → ℕ
 free_of (LitRecords b) = b.gateway.free
 free_of (LitWire b) = b.gateway.free
+free_of (DarkRecords b) = b.gateway.free
+free_of (DarkWire b) = b.gateway.free
+free_of (PairRecords b) = b.gateway.free
+free_of (PairWire b) = b.gateway.free
 free_of (TapeRecords b) = b.gateway.free
 free_of (TapeWire b) = b.gateway.free
 
