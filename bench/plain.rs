@@ -594,7 +594,7 @@ fn main() {
         let mut words = line.split(' ');
         let mut word = || words.next().unwrap_or("");
         let (verb, kind, texts) = (word(), word(), word());
-        match sum(verb, kind, texts, word().parse().unwrap_or(0)) {
+        match word().parse().ok().and_then(|times| sum(verb, kind, texts, times)) {
             Some(sum) => println!("{line}: {sum}"),
             None => println!("not understood: a line is write|read order|report short|full TIMES"),
         }
