@@ -1,4 +1,5 @@
 pub mod Fields
+pub mod Looks
 pub mod Options
 pub mod Overs
 pub mod Parts

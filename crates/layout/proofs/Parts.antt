@@ -3,7 +3,8 @@ use Rattle.std.proofs.Common.{◌≡◌, ℕ, suc, ◌+◌, ◌-◌, ◌*◌, �
 use Rattle.std.specs.List.{prefix_len}
 use Rattle.std.proofs.lemmas.Slice.{between_to_end}
 use Rattle.std.proofs.lemmas.List.{take-take, drop-take, drop-drop, length-take-le}
-use Rattle.texts.specs.Bytes.{part, le, all_null, printable, is_text}
+use Rattle.texts.specs.Bytes.{part, le, all_null, printable, is_text, text_end}
+use Rattle.texts.proofs.Padding.{end_within}
 
 pub part_more : (w at : ℕ) (bs : List ℕ) → at < length bs → part at (suc w) bs ≡ get_or bs at 0 ∷ part (at + 1) w bs
 part_more w at bs h = rw (add-one, drop-cons bs at 0 h)
@@ -64,6 +65,9 @@ is_text_rest f n e = let le : length f ≤ length f = omega arith in rw (between
 
 pub part_long : (at w : ℕ) (bs : List ℕ) → at + w ≤ length bs → length (part at w bs) ≡ w
 part_long at w bs h = let l = length-drop at bs in length-take-le w (drop at bs) (omega arith)
+
+pub end_at : (at w n : ℕ) (bs : List ℕ) → at + w ≤ length bs → n ≡ text_end (part at w bs) → n ≤ w
+end_at at w n bs h e = let l = part_long at w bs h in let k = end_within (part at w bs) in omega arith
 
 -- a field of eight bytes as two of four
 pub first_half : (at : ℕ) (bs : List ℕ) → take 4 (part at 8 bs) ≡ part at 4 bs

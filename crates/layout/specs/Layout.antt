@@ -1,6 +1,6 @@
 -- A message as a table of fields: which bytes are taken, which are refused and where, and what they hold.
 -- Assumes nothing.
-use Rattle.std.specs.Prelude.{◌&&◌, ◌≡◌, ℕ, ◌+◌, ◌^◌, max, Bool, true, false, List, [], filter, map, take, drop, ℤ, pos, is_some, Some, None, Option, Result, MatchResult, nat_le, nat_lt, if◌then◌else◌, not, slice_index_or, ◌==◌}
+use Rattle.std.specs.Prelude.{◌&&◌, ◌≡◌, ℕ, ◌+◌, ◌^◌, max, Bool, true, false, List, [], ◌∷◌, filter, map, take, drop, ℤ, pos, is_some, is_none, Some, None, Option, Result, MatchResult, nat_le, nat_lt, if◌then◌else◌, not, slice_index_or, ◌==◌}
 use Rattle.std.proofs.Common.{to_z}
 use Rattle.std.specs.Int.{w8, w32, w64}
 use Rattle.std.specs.List.{AllByRecursion, find, list_all}
@@ -119,6 +119,28 @@ within n fs = list_all (λ f. nat_le (span f) n) fs
 -- the offset of the first field that is refused
 unfoldable pub first_bad : List Field → List ℕ → Option ℕ
 first_bad fs bs = option_map place (find (λ f. not (ok bs f)) fs)
+
+-- whether a form asks anything of its bytes
+abbrev pub asks : Form → Bool
+asks (Text w) = true
+asks (Name w) = true
+asks Order = true
+asks Sequence = true
+asks (Code cs) = true
+asks _ = false
+
+-- what is so, and each field that asks something is taken: as tests of one field behind the other say it
+abbrev pub good_from : Bool → List Field → List ℕ → Bool
+good_from b [] bs = b
+good_from b (f ∷ fs) bs = good_from (if asks (form_of f) then b && ok bs f else b) fs bs
+
+-- whether each field is taken, in one test
+unfoldable pub all_good : List Field → List ℕ → Bool
+all_good fs bs = good_from true fs bs
+
+-- which is so just where a walk along the table finds none that is refused
+abbrev pub OneLook : Type 0
+OneLook = (fs : List Field) (bs : List ℕ) → all_good fs bs ≡ is_none (first_bad fs bs)
 
 -- each field is taken
 abbrev pub AllOk : List Field → List ℕ → Type 0

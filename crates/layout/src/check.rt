@@ -6,20 +6,19 @@ ghost use Rattle.layout.specs.Layout.{ok_form, ok, matters, wide, within, span, 
 use crate::fault::Fault;
 use crate::field::{Field, Form};
 use crate::reader::Reader;
-use crate::sequence::SEQUENCE_LIMIT;
 
 impl Form {
     // Whether the bytes at a place are of this form.
-    #[tactic(auto, unfolding(crate::specs::Layout::taken, texts::specs::Bytes::named))]
+    #[tactic(auto, unfolding(crate::specs::Layout::taken))]
     fn good(self, at: usize, r: &Reader<'_>) -> bool
         requires { at + wide self ≤ length r.now.src.now }
         ensures { result ≡ ok_form self (part at (wide self) r.now.src.now) }
     {
         match self {
-            Form::Text(width) => r.text_end(at, width).is_some(),
-            Form::Name(width) => r.text_end(at, width).is_some_and(|n| n > 0),
+            Form::Text(width) => r.is_text(at, width),
+            Form::Name(width) => r.is_name(at, width),
             Form::Order => r.is_order(at),
-            Form::Sequence => r.u32(at) < SEQUENCE_LIMIT,
+            Form::Sequence => r.is_sequence(at),
             Form::Code(codes) => codes.has(r.u8(at)),
             _ => true,
         }

@@ -6,6 +6,8 @@ pub mod check;
 pub mod fault;
 pub mod field;
 pub mod framed;
+pub mod laws;
+mod look;
 pub mod put;
 pub mod reader;
 pub mod sequence;

@@ -1,16 +1,21 @@
 // A message's fields, read at their places.
-ghost use Rattle.std.specs.Prelude.{◌≡◌, ◌+◌, ◌^◌, ◌≤◌, ◌&&◌, true, false, length, take, drop, nat_lt, MatchOption};
+ghost use Rattle.std.specs.Prelude.{◌≡◌, ◌+◌, ◌^◌, ◌≤◌, ◌&&◌, true, length, take, drop, nat_lt, IfSome};
 ghost use Rattle.std.proofs.Common.{to_z, of_z};
 ghost use Rattle.std.specs.Int.{w8, w32, w64};
-ghost use Rattle.std.specs.List.{prefix_len};
 ghost use Rattle.std.specs.Option.{option_map};
-ghost use Rattle.texts.specs.Bytes.{part, le, printable, said, is_text, named};
+ghost use Rattle.texts.specs.Bytes.{part, le, said, is_text, named, text_end};
 ghost use Rattle.texts.specs.Says.{says};
 ghost use Rattle.codes.specs.Lists.{listed};
-ghost use Rattle.layout.specs.Layout.{taken, is_order, order_at};
+ghost use Rattle.layout.specs.Layout.{taken, ok, is_order, order_at};
+ghost use Rattle.layout.specs.Looks.{Tells};
+ghost use Rattle.layout.specs.declared.field.Form.TheVariants as form;
+ghost use Rattle.layout.specs.declared.field.Field.TheVariants as field;
+ghost use Rattle.layout.specs.declared.sequence.TheConstants.{SEQUENCE_LIMIT};
 
-use crate::sequence::LastSequence;
+use crate::look::Masks;
+use crate::sequence::{LastSequence, SEQUENCE_LIMIT};
 use codes::code::Code;
+use codes::lists::Codes;
 use texts::bytes::{all_null, text_end};
 use texts::identifiers::OrderId;
 use texts::text::{Name, Text};
@@ -123,27 +128,70 @@ impl<'a> Reader<'a> {
         }
     }
 
-    // Where the text of a field ends, if the field holds text: printable bytes, and then nothing but nulls.
-    #[tactic(auto, using(crate::proofs::Parts::is_text_rest))]
-    pub(crate) fn text_end(&self, at: usize, width: usize) -> Option<usize>
+    // One look at a field and what stands behind it; none where fewer bytes stand there than are looked at side by side.
+    #[inline(always)]
+    fn look(&self, at: usize, width: usize) -> Option<Masks>
         requires { at + width ≤ length self.now.src.now }
-        ensures { let field = part at width self.now.src.now in
-            MatchOption result
-            (is_text field ≡ false)
-            (λ n. (is_text field ≡ true) × (n ≡ prefix_len printable field)) }
+        ensures { IfSome result (λ m. Tells (part at width self.now.src.now) width m) }
     {
-        let field = self.part(at, width);
-        let end = text_end(field);
-        all_null(&field[end..]).then_some(end)
+        let left = self.src.len() - at;
+        if width <= 16 && 16 <= left {
+            Some(Masks::of_16(self.src, at))
+        } else if width <= 32 && 32 <= left {
+            Some(Masks::of_32(self.src, at))
+        } else {
+            None
+        }
     }
 
-    /// What a field says, if it holds text: its printable bytes.
+    /// Where the text of a field ends.
+    #[inline(always)]
+    #[tactic(auto, using(crate::proofs::Parts::end_at))]
+    pub fn text_end(&self, at: usize, width: usize) -> usize
+        requires { at + width ≤ length self.now.src.now }
+        ensures value { result ≡ text_end (part at width self.now.src.now) }
+        ensures bound { result ≤ width }
+    {
+        match self.look(at, width) {
+            Some(masks) => masks.end(width),
+            None => text_end(self.part(at, width)),
+        }
+    }
+
+    /// Whether a field holds text: behind its end nothing but nulls.
+    #[inline(always)]
+    #[tactic(auto, using(crate::proofs::Parts::is_text_rest))]
+    pub fn is_text(&self, at: usize, width: usize) -> bool
+        requires { at + width ≤ length self.now.src.now }
+        ensures { result ≡ is_text (part at width self.now.src.now) }
+    {
+        match self.look(at, width) {
+            Some(masks) => masks.is_text(width),
+            None => {
+                let field = self.part(at, width);
+                all_null(&field[text_end(field)..])
+            }
+        }
+    }
+
+    /// Whether a field holds text that is not empty.
+    #[inline(always)]
+    #[tactic(auto, unfolding(texts::specs::Bytes::named))]
+    pub fn is_name(&self, at: usize, width: usize) -> bool
+        requires { at + width ≤ length self.now.src.now }
+        ensures { let field = part at width self.now.src.now in result ≡ (is_text field && named field) }
+    {
+        self.is_text(at, width) & (self.text_end(at, width) > 0)
+    }
+
+    /// What a field says, if it holds text.
+    #[tactic(auto, using(crate::proofs::Parts::part_long))]
     pub fn said(&self, at: usize, width: usize) -> &'a [u8]
         requires { at + width ≤ length self.now.src.now }
         ensures { result.now ≡ said (part at width self.now.src.now) }
     {
         let field = self.part(at, width);
-        &field[0..text_end(field)]
+        &field[..self.text_end(at, width)]
     }
 
     /// The text of a field that holds text.
@@ -155,8 +203,11 @@ impl<'a> Reader<'a> {
         ensures says { says result ≡ said (part at N self.now.src.now) }
         ensures offset { result.offset ≡ at }
     {
-        let field = self.part(at, N);
-        Text { field, offset: at }
+        Text {
+            field: self.part(at, N),
+            offset: at,
+            end: self.text_end(at, N),
+        }
     }
 
     /// The text of a field that holds text, and not an empty one.
@@ -183,9 +234,17 @@ impl<'a> Reader<'a> {
         }
     }
 
-    // Whether a field holds an order's identifier, or null.
+    /// Whether a number can stand in a field as the last of a sequence: it is not negative.
+    pub fn is_sequence(&self, at: usize) -> bool
+        requires { at + 4 ≤ length self.now.src.now }
+        ensures { result ≡ nat_lt (le (part at 4 self.now.src.now)) (2 ^ 31) }
+    {
+        self.u32(at) < SEQUENCE_LIMIT
+    }
+
+    /// Whether a field holds an order's identifier, or null.
     #[tactic(auto, using(crate::proofs::Options::some_mapped), unfolding(crate::specs::Layout::is_order))]
-    pub(crate) fn is_order(&self, at: usize) -> bool
+    pub fn is_order(&self, at: usize) -> bool
         requires { at + 12 ≤ length self.now.src.now }
         ensures { result ≡ is_order (part at 12 self.now.src.now) }
     {
@@ -213,5 +272,36 @@ impl<'a> Reader<'a> {
             Some(x) => x,
             None => unreachable!(),
         }
+    }
+    /// Whether a field of one byte holds a code.
+    #[inline(always)]
+    #[tactic(auto, unfolding(crate::specs::Layout::taken))]
+    pub fn is_code<C: Code + Drop>(&self, at: usize) -> bool
+        requires { at + 1 ≤ length self.now.src.now }
+        ensures { result ≡ taken (le (part at 1 self.now.src.now)) (listed C.list) }
+    {
+        C::of(self.u8(at)).is_some()
+    }
+
+    /// Whether a field of one byte holds a code, or the byte at another place makes it not matter.
+    #[inline(always)]
+    #[tactic(auto, unfolding(crate::specs::Layout::taken))]
+    pub fn is_code_when<C: Code + Drop>(&self, at: usize, other: usize, codes: Codes) -> bool
+        requires inside { at + 1 ≤ length self.now.src.now }
+        requires other { other + 1 ≤ length self.now.src.now }
+        ensures { result ≡ ok self.now.src.now (field.When at (form.Code C.list) other codes) }
+    {
+        !codes.has(self.u8(other)) || self.is_code::<C>(at)
+    }
+
+    /// Whether a field holds text, or the byte at another place makes it not matter.
+    #[inline(always)]
+    #[tactic(auto, unfolding(crate::specs::Layout::taken))]
+    pub fn is_text_when(&self, at: usize, width: usize, other: usize, codes: Codes) -> bool
+        requires inside { at + width ≤ length self.now.src.now }
+        requires other { other + 1 ≤ length self.now.src.now }
+        ensures { result ≡ ok self.now.src.now (field.When at (form.Text width) other codes) }
+    {
+        !codes.has(self.u8(other)) || self.is_text(at, width)
     }
 }

@@ -5,13 +5,13 @@ ghost use Rattle.order_messages.specs.declared.execution_report.TheConstants.{LE
 ghost use Rattle.order_messages.specs.Published.{execution_report_published};
 ghost use Rattle.codes.specs.Report.{exec_type_code};
 ghost use Rattle.layout.specs.Holding.{Holds};
-ghost use Rattle.layout.specs.Layout.{AllOk, Says};
+ghost use Rattle.layout.specs.Layout.{AllOk, Says, all_good};
 ghost use Rattle.layout.specs.Writing.{field_bytes, over};
 ghost use Rattle.order_messages.specs.Terms.{execution_contents, execution_fields, execution_liquidity, execution_reject, execution_trade, exec_type_of, liquidity_field, reject_field, trade_field};
 
 use codes::lists::Codes;
 use codes::order::{Book, Side};
-use codes::report::{Capacity, ExecType, PriceDifferential, Status};
+use codes::report::{Capacity, ExecType, Liquidity, PriceDifferential, Status, TradeType};
 use codes::session::Partition;
 use layout::put::{put_blank, put_code, put_i32, put_price, put_text, put_time, put_u64};
 use layout::{Field, Form, Framed, Layout, Reader, Shape};
@@ -105,6 +105,28 @@ impl Layout for ExecutionReport<'_> {
         ensures { Shaped (laid LETTER TOTAL TABLE) result }
     {
         Shape::new(LETTER, TOTAL, &TABLE)
+    }
+
+    #[tactic(auto, unfolding(layout::specs::Layout::all_good))]
+    fn good(r: &Reader<'_>) -> bool
+        requires { length r.now.src.now ≡ TOTAL }
+        ensures { result ≡ all_good TABLE r.now.src.now }
+    {
+        r.is_code::<Partition>(4)
+            & r.is_text(9, 12)
+            & r.is_text(21, 20)
+            & r.is_text(41, 12)
+            & r.is_code::<ExecType>(53)
+            & r.is_text(54, 12)
+            & r.is_code::<Status>(66)
+            & r.is_text(92, 6)
+            & r.is_code::<Side>(98)
+            & r.is_text(107, 11)
+            & r.is_code_when::<Liquidity>(118, 53, Codes::TradeOrCancel)
+            & r.is_code::<Book>(135)
+            & r.is_code_when::<TradeType>(136, 53, Codes::TradeOnly)
+            & r.is_code::<Capacity>(137)
+            & r.is_code::<PriceDifferential>(138)
     }
 }
 

@@ -6,15 +6,15 @@ ghost use Rattle.order_messages.specs.Published.{new_order_published};
 ghost use Rattle.codes.specs.Order.{order_type_code};
 ghost use Rattle.terms.specs.Pricing.{order_type_of};
 ghost use Rattle.layout.specs.Holding.{Holds};
-ghost use Rattle.layout.specs.Layout.{AllOk, Says};
+ghost use Rattle.layout.specs.Layout.{AllOk, Says, all_good};
 ghost use Rattle.layout.specs.Writing.{field_bytes, over};
 ghost use Rattle.order_messages.specs.Terms.{limit_field, pricing_contents, pricing_fields, pricing_price};
 
 use crate::target::{put_target, target_at};
 use codes::lists::Codes;
 use codes::order::{
-    AutoCancel, ClearingAccount, OrderCapacity, OrderSubType, OrderType, PassiveOnly, Side,
-    TimeInForce,
+    AutoCancel, Book, ClearingAccount, ExecInstruction, OrderCapacity, OrderSubType, OrderType,
+    PassiveOnly, Side, TimeInForce,
 };
 use layout::put::{put_blank, put_code, put_i32, put_name, put_price, put_text, put_u32};
 use layout::{Field, Form, Framed, Layout, Reader, Shape};
@@ -91,6 +91,27 @@ impl Layout for NewOrder<'_> {
         ensures { Shaped (laid LETTER TOTAL TABLE) result }
     {
         Shape::new(LETTER, TOTAL, &TABLE)
+    }
+
+    #[tactic(auto, unfolding(layout::specs::Layout::all_good))]
+    fn good(r: &Reader<'_>) -> bool
+        requires { length r.now.src.now ≡ TOTAL }
+        ensures { result ≡ all_good TABLE r.now.src.now }
+    {
+        r.is_name(4, 20)
+            & r.is_text(24, 11)
+            & r.is_text(35, 10)
+            & r.is_code::<ClearingAccount>(45)
+            & r.is_text(46, 6)
+            & r.is_code::<OrderType>(52)
+            & r.is_code::<TimeInForce>(53)
+            & r.is_code::<Side>(58)
+            & r.is_code::<OrderCapacity>(75)
+            & r.is_code::<AutoCancel>(76)
+            & r.is_code::<OrderSubType>(77)
+            & r.is_code::<Book>(87)
+            & r.is_code_when::<ExecInstruction>(88, 87, Codes::DarkOnly)
+            & r.is_code::<PassiveOnly>(96)
     }
 }
 

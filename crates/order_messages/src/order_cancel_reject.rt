@@ -1,5 +1,6 @@
 // Order Cancel Reject: type 9, 63 bytes.
-ghost use Rattle.std.specs.Prelude.{refl};
+ghost use Rattle.std.specs.Prelude.{◌≡◌, length, refl};
+ghost use Rattle.layout.specs.Layout.{all_good};
 ghost use Rattle.layout.specs.Shapes.{Shaped, laid};
 ghost use Rattle.order_messages.specs.declared.order_cancel_reject.TheConstants.{LETTER, TABLE, TOTAL};
 ghost use Rattle.order_messages.specs.Published.{order_cancel_reject_published};
@@ -50,6 +51,14 @@ impl Layout for OrderCancelReject<'_> {
         ensures { Shaped (laid LETTER TOTAL TABLE) result }
     {
         Shape::new(LETTER, TOTAL, &TABLE)
+    }
+
+    #[tactic(auto, unfolding(layout::specs::Layout::all_good))]
+    fn good(r: &Reader<'_>) -> bool
+        requires { length r.now.src.now ≡ TOTAL }
+        ensures { result ≡ all_good TABLE r.now.src.now }
+    {
+        r.is_code::<Partition>(4) & r.is_text(9, 20) & r.is_text(29, 12)
     }
 }
 

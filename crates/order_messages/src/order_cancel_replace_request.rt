@@ -1,12 +1,13 @@
 // Order Cancel Replace Request: type G, 112 bytes.
-ghost use Rattle.std.specs.Prelude.{refl};
+ghost use Rattle.std.specs.Prelude.{◌≡◌, length, refl};
+ghost use Rattle.layout.specs.Layout.{all_good};
 ghost use Rattle.layout.specs.Shapes.{Shaped, laid};
 ghost use Rattle.order_messages.specs.declared.order_cancel_replace_request.TheConstants.{LETTER, TABLE, TOTAL};
 ghost use Rattle.order_messages.specs.Published.{order_cancel_replace_request_published};
 
 use crate::target::{put_target, target_at};
 use codes::lists::Codes;
-use codes::order::{PassiveOnly, Side, TimeInForce};
+use codes::order::{Book, ExecInstruction, PassiveOnly, Side, TimeInForce};
 use layout::put::{
     put_blank, put_code, put_i32, put_name, put_order, put_price, put_text, put_u32,
 };
@@ -84,6 +85,23 @@ impl Layout for OrderCancelReplaceRequest<'_> {
         ensures { Shaped (laid LETTER TOTAL TABLE) result }
     {
         Shape::new(LETTER, TOTAL, &TABLE)
+    }
+
+    #[tactic(auto, unfolding(layout::specs::Layout::all_good))]
+    fn good(r: &Reader<'_>) -> bool
+        requires { length r.now.src.now ≡ TOTAL }
+        ensures { result ≡ all_good TABLE r.now.src.now }
+    {
+        r.is_name(4, 20)
+            & r.is_text(24, 20)
+            & r.is_order(44)
+            & r.is_text(56, 6)
+            & r.is_text(82, 10)
+            & r.is_code::<TimeInForce>(92)
+            & r.is_code::<Side>(93)
+            & r.is_code::<Book>(102)
+            & r.is_code_when::<ExecInstruction>(103, 102, Codes::DarkOnly)
+            & r.is_code::<PassiveOnly>(108)
     }
 }
 

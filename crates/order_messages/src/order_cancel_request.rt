@@ -1,5 +1,6 @@
 // Order Cancel Request: type F, 73 bytes.
-ghost use Rattle.std.specs.Prelude.{refl};
+ghost use Rattle.std.specs.Prelude.{◌≡◌, length, refl};
+ghost use Rattle.layout.specs.Layout.{all_good};
 ghost use Rattle.layout.specs.Shapes.{Shaped, laid};
 ghost use Rattle.order_messages.specs.declared.order_cancel_request.TheConstants.{LETTER, TABLE, TOTAL};
 ghost use Rattle.order_messages.specs.Published.{order_cancel_request_published};
@@ -51,6 +52,19 @@ impl Layout for OrderCancelRequest<'_> {
         ensures { Shaped (laid LETTER TOTAL TABLE) result }
     {
         Shape::new(LETTER, TOTAL, &TABLE)
+    }
+
+    #[tactic(auto, unfolding(layout::specs::Layout::all_good))]
+    fn good(r: &Reader<'_>) -> bool
+        requires { length r.now.src.now ≡ TOTAL }
+        ensures { result ≡ all_good TABLE r.now.src.now }
+    {
+        r.is_name(4, 20)
+            & r.is_text(24, 20)
+            & r.is_order(44)
+            & r.is_text(56, 6)
+            & r.is_code::<Side>(62)
+            & r.is_code::<Book>(63)
     }
 }
 

@@ -1,5 +1,6 @@
 // Order Mass Cancel Request: type q, 46 bytes.
 ghost use Rattle.std.specs.Prelude.{◌≡◌, ◌+◌, ◌≤◌, length, refl};
+ghost use Rattle.layout.specs.Layout.{all_good};
 ghost use Rattle.layout.specs.Shapes.{Shaped, laid};
 ghost use Rattle.order_messages.specs.declared.order_mass_cancel_request.TheConstants.{LETTER, TABLE, TOTAL};
 ghost use Rattle.order_messages.specs.Published.{order_mass_cancel_request_published};
@@ -62,6 +63,18 @@ impl Layout for OrderMassCancelRequest<'_> {
         ensures { Shaped (laid LETTER TOTAL TABLE) result }
     {
         Shape::new(LETTER, TOTAL, &TABLE)
+    }
+
+    #[tactic(auto, unfolding(layout::specs::Layout::all_good))]
+    fn good(r: &Reader<'_>) -> bool
+        requires { length r.now.src.now ≡ TOTAL }
+        ensures { result ≡ all_good TABLE r.now.src.now }
+    {
+        r.is_name(4, 20)
+            & r.is_code::<MassCancelType>(24)
+            & r.is_text_when(25, 6, 24, Codes::ByInstrument)
+            & r.is_text_when(31, 4, 24, Codes::BySegment)
+            & r.is_code_when::<Book>(36, 24, Codes::ByInstrument)
     }
 }
 

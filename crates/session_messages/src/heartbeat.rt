@@ -1,5 +1,6 @@
 // Heartbeat: type 0, 4 bytes.
-ghost use Rattle.std.specs.Prelude.{refl};
+ghost use Rattle.std.specs.Prelude.{◌≡◌, length, refl};
+ghost use Rattle.layout.specs.Layout.{all_good};
 ghost use Rattle.layout.specs.Shapes.{laid};
 ghost use Rattle.session_messages.specs.declared.heartbeat.TheConstants.{LETTER, TABLE, TOTAL};
 ghost use Rattle.session_messages.specs.Published.{heartbeat_published};
@@ -27,6 +28,14 @@ impl Layout for Heartbeat {
 
     fn shape() -> Shape {
         Shape::new(LETTER, TOTAL, &TABLE)
+    }
+
+    #[tactic(auto, unfolding(layout::specs::Layout::all_good))]
+    fn good(_r: &Reader<'_>) -> bool
+        requires { length _r.now.src.now ≡ TOTAL }
+        ensures { result ≡ all_good TABLE _r.now.src.now }
+    {
+        true
     }
 }
 

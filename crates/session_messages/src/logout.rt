@@ -1,5 +1,6 @@
 // Logout: type 5, 24 bytes.
-ghost use Rattle.std.specs.Prelude.{refl};
+ghost use Rattle.std.specs.Prelude.{◌≡◌, length, refl};
+ghost use Rattle.layout.specs.Layout.{all_good};
 ghost use Rattle.layout.specs.Shapes.{Shaped, laid};
 ghost use Rattle.session_messages.specs.declared.logout.TheConstants.{LETTER, TABLE, TOTAL};
 ghost use Rattle.session_messages.specs.Published.{logout_published};
@@ -33,6 +34,14 @@ impl Layout for Logout<'_> {
         ensures { Shaped (laid LETTER TOTAL TABLE) result }
     {
         Shape::new(LETTER, TOTAL, &TABLE)
+    }
+
+    #[tactic(auto, unfolding(layout::specs::Layout::all_good))]
+    fn good(r: &Reader<'_>) -> bool
+        requires { length r.now.src.now ≡ TOTAL }
+        ensures { result ≡ all_good TABLE r.now.src.now }
+    {
+        r.is_text(4, 20)
     }
 }
 

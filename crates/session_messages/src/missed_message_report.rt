@@ -1,5 +1,6 @@
 // Missed Message Report: type P, 5 bytes.
-ghost use Rattle.std.specs.Prelude.{refl};
+ghost use Rattle.std.specs.Prelude.{◌≡◌, length, refl};
+ghost use Rattle.layout.specs.Layout.{all_good};
 ghost use Rattle.layout.specs.Shapes.{laid};
 ghost use Rattle.session_messages.specs.declared.missed_message_report.TheConstants.{LETTER, TABLE, TOTAL};
 ghost use Rattle.session_messages.specs.Published.{missed_message_report_published};
@@ -32,6 +33,14 @@ impl Layout for MissedMessageReport {
 
     fn shape() -> Shape {
         Shape::new(LETTER, TOTAL, &TABLE)
+    }
+
+    #[tactic(auto, unfolding(layout::specs::Layout::all_good))]
+    fn good(r: &Reader<'_>) -> bool
+        requires { length r.now.src.now ≡ TOTAL }
+        ensures { result ≡ all_good TABLE r.now.src.now }
+    {
+        r.is_code::<ReportResponse>(4)
     }
 }
 

@@ -6,15 +6,18 @@ use Rattle.std.specs.List.{prefix_len}
 use Rattle.std.proofs.lemmas.List.{take_at, drop_at, length-take-le, drop_all, take_all}
 use Rattle.std.proofs.lemmas.List.Sums.{prefix_len-le-length}
 use Rattle.std.proofs.lemmas.Nat.{div-add-mod', div_below}
-use Rattle.texts.specs.Bytes.{le, to_le, printable, all_printable, all_null, said, is_text, named, padded}
+use Rattle.texts.specs.Bytes.{le, to_le, printable, all_printable, all_null, said, is_text, named, padded, text_end}
 
 -- the front that is printable
+
+pub end_within : (f : List ℕ) → text_end f ≤ length f
+end_within f = prefix_len-le-length printable f
 
 pub lead-all : (t : List ℕ) → all_printable t ≡ true → prefix_len printable t ≡ length t
 lead-all [] h = refl
 lead-all (b ∷ t) h = let q = and_parts (printable b) (all_printable t) h in rw (q.0, lead-all t q.1) (omega arith)
 
-lead-padded : (t : List ℕ) (k : ℕ) → all_printable t ≡ true → prefix_len printable (t ++ replicate k 0) ≡ length t
+pub lead-padded : (t : List ℕ) (k : ℕ) → all_printable t ≡ true → prefix_len printable (t ++ replicate k 0) ≡ length t
 lead-padded [] zero h = refl
 lead-padded [] (suc k) h = refl
 lead-padded (b ∷ t) k h =

@@ -25,17 +25,21 @@ all_printable bs = list_all printable bs
 abbrev pub all_null : List ℕ → Bool
 all_null bs = list_all (λ b. b == 0) bs
 
--- what a text field says: the printable bytes at its front
+-- where the text of a field ends: at its first byte that is not printable
+abbrev pub text_end : List ℕ → ℕ
+text_end f = prefix_len printable f
+
+-- what a text field says: the bytes before that end
 abbrev pub said : List ℕ → List ℕ
-said f = take (prefix_len printable f) f
+said f = take (text_end f) f
 
 -- a field that holds text: behind what it says all is null
 unfoldable pub is_text : List ℕ → Bool
-is_text f = all_null (drop (prefix_len printable f) f)
+is_text f = all_null (drop (text_end f) f)
 
 -- a field that says something
 unfoldable pub named : List ℕ → Bool
-named f = nat_lt 0 (prefix_len printable f)
+named f = nat_lt 0 (text_end f)
 
 -- text, and nulls up to a width: the one form in which a field holds it
 abbrev pub padded : ℕ → List ℕ → List ℕ

@@ -9,8 +9,16 @@ says t = said t.field.now
 
 -- the text with its bytes for its own
 abbrev pub kept : {N : ℕ} → Text N → FixedText N
-kept t = record { bytes = t.field.now; wide = t.wide; text = t.text }
+kept t = record { bytes = t.field.now; end = t.end; wide = t.wide; text = t.text; ends = t.ends }
 
 -- and a kept text lent, at no place of any message
 abbrev pub lent : {N : ℕ} → FixedText N → Text N
-lent x = record { field = record { ref_ptr = (0, 0); now = x.bytes }; offset = 0; wide = x.wide; text = x.text }
+lent x =
+    record {
+      field = record { ref_ptr = (0, 0); now = x.bytes };
+      offset = 0;
+      end = x.end;
+      wide = x.wide;
+      text = x.text;
+      ends = x.ends;
+    }

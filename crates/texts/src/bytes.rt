@@ -1,7 +1,6 @@
 // Looking at the bytes of a text field.
 ghost use Rattle.std.specs.Prelude.{◌≡◌, ◌≤◌, length};
-ghost use Rattle.std.specs.List.{prefix_len};
-ghost use Rattle.texts.specs.Bytes.{printable, all_printable, all_null};
+ghost use Rattle.texts.specs.Bytes.{printable, all_printable, all_null, text_end};
 
 /// Whether a byte is a character that a text may hold: a space to a tilde.
 pub fn is_printable(byte: u8) -> bool
@@ -12,7 +11,7 @@ pub fn is_printable(byte: u8) -> bool
 
 /// Where a field's text ends: at its first byte that is not printable.
 pub fn text_end(field: &[u8]) -> usize
-    ensures value { result ≡ prefix_len printable field.now }
+    ensures value { result ≡ text_end field.now }
     ensures bound { result ≤ length field.now }
 {
     field.iter().take_while(|b| is_printable(**b)).count()

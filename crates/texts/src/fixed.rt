@@ -1,17 +1,20 @@
 // Text that is kept: as wide as its field, with no heap.
 ghost use Rattle.std.specs.Prelude.{◌≡◌, ◌<◌, ◌≤◌, true, false, length, replicate, MatchOption};
-ghost use Rattle.texts.specs.Bytes.{all_printable, padded, said, is_text, named};
+ghost use Rattle.texts.specs.Bytes.{all_printable, padded, said, is_text, named, text_end};
 ghost use Rattle.texts.specs.Texts.{fitting, fitting_name};
 
-use crate::bytes::{all_printable, text_end};
+use crate::bytes::all_printable;
 use crate::text::{Name, Text};
 
-/// The bytes of a text field: printable ones, and then nothing but nulls.
+/// The bytes of a text field, printable ones and then nothing but nulls, with the place where the text ends.
 #[derive(Clone, Copy, Debug)]
 pub struct FixedText<const N: usize> {
     pub(crate) bytes: [u8; N],
+    /// How many of them are text.
+    pub(crate) end: usize,
     ghost wide: { length bytes ≡ N },
     ghost text: { is_text bytes ≡ true },
+    ghost ends: { end ≡ text_end bytes },
 }
 
 /// A request's Client Order ID, which is not empty.
@@ -29,6 +32,7 @@ fn filled<const N: usize>(text: &[u8]) -> [u8; N]
     ensures wide { length result ≡ N }
     ensures text { is_text result ≡ true }
     ensures said { said result ≡ text.now }
+    ensures ends { text_end result ≡ length text.now }
     ensures named { 0 < length text.now → named result ≡ true }
 {
     let mut bytes = [0; N];
@@ -47,6 +51,7 @@ impl<const N: usize> FixedText<N> {
         }
         Some(FixedText {
             bytes: filled(text),
+            end: text.len(),
         })
     }
 
@@ -54,16 +59,20 @@ impl<const N: usize> FixedText<N> {
     pub fn empty() -> FixedText<N>
         ensures { result.bytes ≡ replicate N 0 }
     {
-        FixedText { bytes: filled(b"") }
+        FixedText {
+            bytes: filled(b""),
+            end: 0,
+        }
     }
 
     /// What the text says.
+    #[tactic(auto, using(crate::proofs::Padding::end_within))]
     pub fn as_bytes(&self) -> &[u8]
         ensures value { result.now ≡ said self.now.bytes }
         ensures bound { length result.now ≤ N }
     {
         let field = &self.bytes[..];
-        &field[0..text_end(field)]
+        &field[..self.end]
     }
 
     /// The same text, lent: the whole field, at offset 0.
@@ -74,6 +83,7 @@ impl<const N: usize> FixedText<N> {
         Text {
             field: &self.bytes,
             offset: 0,
+            end: self.end,
         }
     }
 }

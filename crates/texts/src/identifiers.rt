@@ -92,6 +92,7 @@ fn id_text(letter: u8, number: u64) -> FixedText<12>
 {
     FixedText {
         bytes: write_id(letter, number),
+        end: 12,
     }
 }
 

@@ -1,19 +1,21 @@
 // Text as it stands in a message: borrowed, its width in its type.
 ghost use Rattle.std.specs.Prelude.{◌≡◌, true, length};
-ghost use Rattle.texts.specs.Bytes.{is_text, named};
+ghost use Rattle.texts.specs.Bytes.{is_text, named, text_end};
 
-use crate::bytes::text_end;
 use crate::fixed::{FixedText, RequestId};
 
-/// A text field of N bytes: printable ones, and then nothing but nulls.
+/// A text field of N bytes, printable ones and then nothing but nulls, with the place where its text ends.
 #[derive(Clone, Copy, Debug)]
 pub struct Text<'a, const N: usize> {
     /// The whole field, with its nulls.
     pub field: &'a [u8],
     /// Where the field begins in the message that it was read from; 0 in a text of its own.
     pub offset: usize,
+    /// How many bytes of the field are text.
+    pub end: usize,
     ghost wide: { length field.now ≡ N },
     ghost text: { is_text field.now ≡ true },
+    ghost ends: { end ≡ text_end field.now },
 }
 
 /// A text that is not empty.
@@ -33,7 +35,7 @@ impl<'a, const N: usize> Text<'a, N> {
         ensures bound { length result.now ≤ N }
     {
         let field = self.field;
-        &field[0..text_end(field)]
+        &field[..self.end]
     }
 
     /// Where the field begins in its message.
@@ -50,7 +52,10 @@ impl<'a, const N: usize> Text<'a, N> {
     {
         let mut bytes = [0; N];
         bytes.copy_from_slice(self.field);
-        FixedText { bytes }
+        FixedText {
+            bytes,
+            end: self.end,
+        }
     }
 }
 

@@ -1,7 +1,7 @@
 use Rattle.std.proofs.Common.{◌≡◌, ℕ, List, ◌-◌, ◌++◌, length, drop, replicate, ap, ◌∙◌}
 use Rattle.std.proofs.lemmas.List.{drop-replicate}
-use Rattle.texts.specs.Bytes.{said, is_text, named, padded}
-use Rattle.texts.proofs.Padding.{length-padded, is_text-padded, said-padded, named-padded}
+use Rattle.texts.specs.Bytes.{said, is_text, named, padded, text_end}
+use Rattle.texts.proofs.Padding.{length-padded, is_text-padded, said-padded, named-padded, lead-padded}
 use Rattle.texts.proofs.fixed.filled.Goals as goal
 
 pub returns : goal.returns
@@ -15,5 +15,6 @@ returns g c =
       wide = ap length v ∙ length-padded g.row.N t c.requires.short;
       text = ap is_text v ∙ is_text-padded g.row.N t c.requires.printable;
       said = ap said v ∙ said-padded g.row.N t c.requires.printable;
+      ends = ap text_end v ∙ lead-padded t (g.row.N - length t) c.requires.printable;
       named = λ h. ap named v ∙ named-padded g.row.N t c.requires.printable h;
     }
