@@ -15,11 +15,12 @@ pub enum Target {
     Integrated,
 }
 
-/// A text field, and where it begins.
+/// A text field, where it begins, and where its text ends.
 #[derive(Clone, Copy)]
 pub struct Text<'a> {
     pub field: &'a [u8],
     pub offset: usize,
+    pub end: usize,
 }
 
 #[derive(Clone, Copy)]
@@ -245,7 +246,7 @@ fn text(src: &[u8], at: usize, width: usize, least: usize) -> Result<Text<'_>, F
     if end < least || field[end..].iter().any(|b| *b != 0) {
         return Err(Fault::Field(at));
     }
-    Ok(Text { field, offset: at })
+    Ok(Text { field, offset: at, end })
 }
 
 fn code(src: &[u8], at: usize, listed: fn(u8) -> bool) -> Result<u8, Fault> {
@@ -438,7 +439,8 @@ impl Subject {
 }
 
 fn lent(field: &[u8]) -> Text<'_> {
-    Text { field, offset: 0 }
+    let end = field.iter().position(|b| *b == 0).unwrap_or(field.len());
+    Text { field, offset: 0, end }
 }
 
 impl Texts {
@@ -522,13 +524,28 @@ fn read_once(reader: Reader, bytes: &[u8]) -> u64 {
     }
 }
 
+// The next message is the same with another quantity.
+fn set_quantity(message: &mut Message, quantity: i32) {
+    match message {
+        Message::NewOrder(order) => order.quantity = quantity,
+        Message::ExecutionReport(report) => report.leaves_quantity = quantity,
+        Message::Heartbeat => {}
+    }
+}
+
+#[inline(never)]
+fn written_once(message: &Message, out: &mut [u8]) -> Result<usize, TooShort> {
+    write(message, out)
+}
+
 fn written(subject: Subject, texts: &Texts, times: u32) -> u64 {
+    let mut message = subject.message(texts, 0);
     let mut out = [0; REPORT];
     let place = subject.place();
     let mut sum: u64 = 0;
     for i in 0..times {
-        let message = subject.message(texts, (i & 0xffff) as i32);
-        let length = write(&message, &mut out).unwrap_or(0);
+        set_quantity(&mut message, (i & 0xffff) as i32);
+        let length = written_once(&message, &mut out).unwrap_or(0);
         sum = sum.wrapping_add(length as u64 + u64::from(out[place]));
     }
     sum

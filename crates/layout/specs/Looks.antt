@@ -3,7 +3,7 @@
 use Rattle.std.specs.Prelude.{◌≡◌, ◌≤◌, ℕ, ◌%◌, ◌/◌, ◌^◌, Bool, not, List, map, if◌then◌else◌, ◌==◌}
 use Rattle.std.specs.Int.{w64, trailing_zeros}
 use lib.Lanes.{mask_l}
-use Rattle.texts.specs.Bytes.{part, printable, text_end, is_text}
+use Rattle.texts.specs.Bytes.{printable, text_end, is_text}
 use Rattle.layout.specs.declared.look.Masks.{Masks}
 
 -- a bit for each byte that is not printable, and for each that is not null

@@ -98,13 +98,20 @@ pub trait Framed<'a>: Layout {
         ensures holds { HoldsIn Self.shape.table (contents self.now) };
 }
 
-/// Reads a message, or says which field is the first bad one.
+/// Reads a message, or says which field is the first bad one. Each type's own reading stands out of line, so that what it
+/// found is written once where the caller wants it.
+#[inline(never)]
 pub fn read<'a, M: Framed<'a>>(r: &Reader<'a>) -> Result<M, Fault>
     requires { length r.now.src.now ≡ M.shape.total }
     ensures { Body M.shape.table M.contents M.places r.now.src.now result }
 {
-    M::check(r)?;
-    Ok(M::fields(r))
+    let shape = M::shape();
+    // all bytes, cut to as many as there are, so that the compiler knows the number
+    let r = Reader {
+        src: &r.src[..usize::from(shape.total)],
+    };
+    M::check(&r)?;
+    Ok(M::fields(&r))
 }
 
 /// Writes a message to the front of a buffer; the bytes past it stay.

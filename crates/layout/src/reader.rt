@@ -29,6 +29,7 @@ pub struct Reader<'a> {
 
 impl<'a> Reader<'a> {
     /// The bytes of one field.
+    #[inline(always)]
     #[tactic(auto, using(crate::proofs::Parts::cut))]
     pub fn part(&self, at: usize, width: usize) -> &'a [u8]
         requires { at + width ≤ length self.now.src.now }
@@ -195,6 +196,7 @@ impl<'a> Reader<'a> {
     }
 
     /// The text of a field that holds text.
+    #[inline(always)]
     #[tactic(auto, using(crate::proofs::Parts::part_long))]
     pub fn text<const N: usize>(&self, at: usize) -> Text<'a, N>
         requires room { at + N ≤ length self.now.src.now }
@@ -211,6 +213,7 @@ impl<'a> Reader<'a> {
     }
 
     /// The text of a field that holds text, and not an empty one.
+    #[inline(always)]
     #[tactic(auto, using(crate::proofs::Parts::part_long, std::proofs::lemmas::Bool::and_parts))]
     pub fn name<const N: usize>(&self, at: usize) -> Name<'a, N>
         requires room { at + N ≤ length self.now.src.now }
@@ -262,6 +265,7 @@ impl<'a> Reader<'a> {
     }
 
     /// The value that a code stands for, where the code is one of its list.
+    #[inline(always)]
     #[tactic(auto, unfolding(crate::specs::Layout::taken))]
     pub fn code<C: Code>(&self, at: usize) -> C
         requires inside { at + 1 ≤ length self.now.src.now }

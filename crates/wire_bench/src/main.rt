@@ -79,13 +79,23 @@ fn read_once(reader: Channel, bytes: &[u8]) -> u64 {
     }
 }
 
+// The next message is the same with another quantity.
+fn set_quantity(message: &mut Message<'_>, quantity: i32) {
+    match message {
+        Message::NewOrder(order) => order.quantity = quantity,
+        Message::ExecutionReport(report) => report.leaves_quantity = quantity,
+        _ => {}
+    }
+}
+
 // The checksum of so many messages written: the low byte of each quantity and what each call answers.
 fn written(subject: Subject, texts: &Texts, times: u32) -> u64 {
+    let mut message = subject.message(texts, 0);
     let mut out = [0; LONGEST];
     let place = subject.place();
     let mut sum: u64 = 0;
     for i in 0..times {
-        let message = subject.message(texts, (i & 0xffff) as i32);
+        set_quantity(&mut message, (i & 0xffff) as i32);
         let length = written_once(&message, &mut out).unwrap_or(0);
         sum = sum
             .wrapping_add(length as u64)

@@ -1,4 +1,4 @@
-use Rattle.std.proofs.Common.{arith, rules, ◌≤◌}
+use Rattle.std.proofs.Common.{arith}
 use Rattle.layout.proofs.Looks.{told}
 use Rattle.layout.proofs.reader.Reader.look.Goals as goal
 

@@ -1,4 +1,4 @@
-use Rattle.std.proofs.Common.{rules, ◌≡◌}
+use Rattle.std.proofs.Common.{rules}
 use Rattle.texts.proofs.Kept.{fixed_same}
 use Rattle.texts.proofs.text.Text.keep.Goals as goal
 
