@@ -38,6 +38,6 @@ abbrev pub caught_up : Partition → Reached → List NumberedReport → Result 
 caught_up p r hs = fold_each (caught_next p) (Ok r) hs
 
 -- a call that folds reports, and says the place that is reached
-abbrev pub CatchesUp : Result Reached FoldRefusal → Result ℕ FoldRefusal → Knowledge → Type 0
-CatchesUp out (Ok n) k = out ≡ Ok (reached k n)
-CatchesUp out (Err e) k = out ≡ Err e
+abbrev pub FoldsTo : Result Reached FoldRefusal → Result ℕ FoldRefusal → Knowledge → Type 0
+FoldsTo out (Ok n) k = out ≡ Ok (reached k n)
+FoldsTo out (Err e) k = out ≡ Err e

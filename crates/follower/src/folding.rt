@@ -1,7 +1,7 @@
 // Folding the reports of a partition in turn.
 ghost use Rattle.reports.specs.Known.{known};
 ghost use Rattle.queue.specs.Queues.{elements};
-ghost use Rattle.follower.specs.Folding.{reached, caught_one, caught_at, caught_up, CatchesUp};
+ghost use Rattle.follower.specs.Folding.{reached, caught_one, caught_at, caught_up, FoldsTo};
 
 use crate::heard::NumberedReport;
 use crate::number::Number;
@@ -15,7 +15,7 @@ fn fold_one(
     place: Number,
     report: NumberedReport,
 ) -> Result<Number, FoldRefusal>
-    ensures { CatchesUp
+    ensures { FoldsTo
         (caught_one partition (reached (known standings.old) place) report)
         result (known standings.new) }
 {
@@ -33,7 +33,7 @@ fn fold_at(
     place: Number,
     report: Option<NumberedReport>,
 ) -> Result<Number, FoldRefusal>
-    ensures { CatchesUp
+    ensures { FoldsTo
         (caught_at partition (reached (known standings.old) place) report)
         result (known standings.new) }
 {
@@ -51,7 +51,7 @@ pub(crate) fn fold_all(
     mut place: Number,
     held: &Queue<'_, NumberedReport>,
 ) -> Result<Number, FoldRefusal>
-    ensures { CatchesUp
+    ensures { FoldsTo
         (caught_up partition (reached (known standings.old) place) (elements held.now))
         result (known standings.new) }
 {

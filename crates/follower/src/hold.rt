@@ -35,7 +35,7 @@ impl Model for Hold {
 
 impl Hold {
     ghost use Rattle.reports.specs.Known.{known};
-    ghost use Rattle.follower.specs.Folding.{reached, caught_up, CatchesUp};
+    ghost use Rattle.follower.specs.Folding.{reached, caught_up, FoldsTo};
 
     /// A hold with nothing in it.
     pub fn new() -> Hold
@@ -77,7 +77,7 @@ impl Hold {
         place: Number,
     ) -> Result<Number, FoldRefusal>
         ensures same { self.new ≡ self.old }
-        ensures folds { CatchesUp
+        ensures folds { FoldsTo
             (caught_up partition (reached (known standings.old) place) self.old)
             result (known standings.new) }
     {

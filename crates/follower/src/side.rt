@@ -2,7 +2,7 @@
 ghost use Rattle.std.specs.Prelude.{◌≡◌, false, length, is_ok, nat_lt, if◌then◌else◌};
 ghost use Rattle.reports.specs.Known.{known};
 ghost use Rattle.follower.specs.declared.hold.TheConstants.{HOLD};
-ghost use Rattle.follower.specs.Folding.{reached, caught_up, CatchesUp};
+ghost use Rattle.follower.specs.Folding.{reached, caught_up, FoldsTo};
 ghost use Rattle.follower.specs.Sides.{new_side, fallen, is_level, held_in, with_more};
 
 use crate::heard::NumberedReport;
@@ -84,7 +84,7 @@ impl Side {
         partition: Partition,
     ) -> Result<Number, FoldRefusal>
         ensures same { self.new ≡ self.old }
-        ensures folds { CatchesUp
+        ensures folds { FoldsTo
             (caught_up partition (reached (known standings.old) self.old.place) (held_in self.old.state))
             result (known standings.new) }
     {
