@@ -1,11 +1,13 @@
 -- Text and its one form in a field, and numbers and their bytes. Assumes nothing.
-use Rattle.std.proofs.Common.{◌≡◌, ℕ, zero, suc, ◌+◌, ◌-◌, ◌*◌, ◌/◌, ◌^◌, ◌<◌, ◌≤◌, Bool, true, false, cond, eqb, List, [], ◌∷◌, ◌++◌, length, take, drop, replicate, refl, ap, ◌∙◌, pow-suc, arith, length-append, length-drop, take-append-drop, lt-ltb, eqb-true}
+use Rattle.std.proofs.Common.{◌≡◌, ℕ, zero, suc, ◌+◌, ◌-◌, ◌*◌, ◌/◌, ◌^◌, ◌<◌, ◌≤◌, Bool, true, false, cond, eqb, List, [], ◌∷◌, ◌++◌, length, take, drop, replicate, refl, sym, ap, ◌∙◌, pow-suc, arith, length-append, length-drop, take-append-drop, lt-ltb, eqb-true}
 use Rattle.std.proofs.lemmas.Bool.{and_parts}
 use lib.ListN.{length-replicate}
 use Rattle.std.specs.List.{prefix_len}
 use Rattle.std.proofs.lemmas.List.{take_at, drop_at, length-take-le, drop_all, take_all}
 use Rattle.std.proofs.lemmas.List.Sums.{prefix_len-le-length}
 use Rattle.std.proofs.lemmas.Nat.{div-add-mod', div_below}
+use Rattle.std.proofs.lemmas.Slice.Eq.{bytes_eq-Decides}
+use Rattle.std.specs.Str.{bytes_eq}
 use Rattle.texts.specs.Bytes.{le, to_le, printable, all_printable, all_null, said, is_text, named, padded, text_end}
 
 -- the front that is printable
@@ -69,6 +71,26 @@ padded-said f h =
     let l = length-take-le n f (prefix_len-le-length printable f) in
     let z : drop n f ≡ replicate (length f - n) 0 = null_is (drop n f) h ∙ rw (length-drop n f) in
     rw (l, ← z) (take-append-drop n f)
+
+-- fields of one width that hold text are the same where they say the same
+said-apart : (w : ℕ) (f g : List ℕ) → length f ≡ w → length g ≡ w → is_text f ≡ true → is_text g ≡ true → said f ≡ said g
+    → f ≡ g
+said-apart w f g a b t u e =
+    let p : padded w (said f) ≡ f = ap (λ n. padded n (said f)) (sym a) ∙ padded-said f t in
+    let q : padded w (said g) ≡ g = ap (λ n. padded n (said g)) (sym b) ∙ padded-said g u in
+    sym p ∙ ap (padded w) e ∙ q
+
+pub same_said : (w : ℕ) (f g : List ℕ) → length f ≡ w → length g ≡ w → is_text f ≡ true → is_text g ≡ true
+    → bytes_eq f g ≡ bytes_eq (said f) (said g)
+same_said w f g a b t u =
+    same_test (bytes_eq f g) (bytes_eq (said f) (said g))
+    (λ h. (bytes_eq-Decides (said f) (said g)).1 (ap said ((bytes_eq-Decides f g).0 h)))
+    (λ h. (bytes_eq-Decides f g).1 (said-apart w f g a b t u ((bytes_eq-Decides (said f) (said g)).0 h)))
+  where
+    same_test : (p q : Bool) → (p ≡ true → q ≡ true) → (q ≡ true → p ≡ true) → p ≡ q
+    same_test true q there back = sym (there refl)
+    same_test false true there back = back refl
+    same_test false false there back = refl
 
 -- text that fills its field
 pub is_text-all : (t : List ℕ) → all_printable t ≡ true → is_text t ≡ true

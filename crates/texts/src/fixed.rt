@@ -41,6 +41,8 @@ fn filled<const N: usize>(text: &[u8]) -> [u8; N]
 }
 
 impl<const N: usize> FixedText<N> {
+    ghost use Rattle.std.specs.Str.{bytes_eq};
+
     /// Keeps a text, if it fits the field and is printable throughout.
     pub fn new(text: &[u8]) -> Option<FixedText<N>>
         ensures { MatchOption result (fitting N text.now ≡ false)
@@ -73,6 +75,14 @@ impl<const N: usize> FixedText<N> {
     {
         let field = &self.bytes[..];
         &field[..self.end]
+    }
+
+    /// Whether two texts say the same. As behind a text all is null, their fields are compared, whose width is known.
+    #[tactic(auto, using(crate::proofs::Padding::same_said))]
+    pub fn says_same(&self, other: &FixedText<N>) -> bool
+        ensures { result ≡ bytes_eq (said self.now.bytes) (said other.now.bytes) }
+    {
+        self.bytes == other.bytes
     }
 
     /// The same text, lent: the whole field, at offset 0.
