@@ -75,10 +75,13 @@ pub kept_at : (rs : List Row) (n : ℕ) (r : Row) → kept_from 1 rs ≡ true �
 kept_at rs zero r h e = none-some r e
 kept_at rs (suc m) r h e = let q = kept-nth 1 rs m r h e in (omega arith, q.1)
 
+pub orderly_under : (rs : List Row) (n : ℕ) (r : Row) → kept_from 1 rs ≡ true → under rs n ≡ Some r → orderly r ≡ true
+orderly_under rs n r h e = (kept_at rs n r h e).1
+
 -- a row that holds an order gives it
-pub order-made : (r : Row) (o : Option Row) → orderly r ≡ true → Makes (orderly r) r o → o ≡ Some r
-order-made r None h m = absurd (both_ways (orderly r) m h)
-order-made r (Some o) h m = ap Some m.1
+pub order_made : (r : Row) (o : Option Row) → orderly r ≡ true → Makes (orderly r) r o → o ≡ Some r
+order_made r None h m = absurd (both_ways (orderly r) m h)
+order_made r (Some o) h m = ap Some m.1
 
 -- a row that is found from the back holds an order
 pub orderly-found : (p : Row → Bool) (n : ℕ) (rs : List Row) (r : Row) → kept_from n rs ≡ true → find p (reverse rs)
@@ -95,12 +98,8 @@ orderly-found p n (x ∷ rs) r h e =
     here-or-behind None true behind here same = let is : x ≡ r = cc in ap orderly (sym is) ∙ here
     here-or-behind None false behind here same = none-some r same
 
--- what is made of the row of a number, and of a row that is found from the back
-pub held_under : (rs : List Row) (n : ℕ) (r : Row) (o : Option Row) → kept_from 1 rs ≡ true → Some r ≡ under rs n
-    → Makes (orderly r) r o → o ≡ under rs n
-held_under rs n r o h e m = order-made r o (kept_at rs n r h (sym e)).1 m ∙ e
-
+-- what is made of a row that is found from the back
 pub held_latest : (rs : List Row) (o : ℕ) (c c' : List ℕ) (r : Row) (out : Option Row) → kept_from 1 rs ≡ true → Some r
     ≡ latest o c rs → c ≡ c' → Makes (orderly r) r out → out ≡ latest o c' rs
 held_latest rs o c c' r out h e same m =
-    order-made r out (orderly-found (goes_by o c) 1 rs r h (sym e)) m ∙ e ∙ ap (λ t. latest o t rs) same
+    order_made r out (orderly-found (goes_by o c) 1 rs r h (sym e)) m ∙ e ∙ ap (λ t. latest o t rs) same

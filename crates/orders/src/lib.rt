@@ -4,5 +4,6 @@
 pub mod examples;
 pub mod order;
 pub mod row;
+mod sums;
 pub mod table;
 pub mod trade;
