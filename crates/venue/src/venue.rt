@@ -12,7 +12,7 @@ use matching::event::Event;
 use matching::matcher::Matcher;
 use matching::midpoint::MidpointRefusal;
 use orders::order::Order;
-use orders::row::{Ask, Ending, Terms};
+use orders::row::{Ask, Ending, Row, Terms};
 use orders::table::Table;
 use orders::trade::{Trade, Trades};
 use reports::report::Entry;
@@ -57,6 +57,7 @@ impl<M: Matcher, S: Store> Venue<M, S> {
     ghost use Rattle.store.specs.Kept.{empty};
     ghost use Rattle.texts.specs.Bytes.{said};
     ghost use Rattle.std.specs.FinMap.{len};
+    ghost use Rattle.std.specs.Option.{option_copied};
     ghost use Rattle.limits.specs.declared.TheConstants.{INSTRUMENTS, ORDERS, TRADES};
     ghost use Rattle.venue.specs.Acts.{Open, Alter, Note, Void};
     ghost use Rattle.venue.specs.Books.{Roomy, Sound, fresh};
@@ -220,6 +221,13 @@ impl<M: Matcher, S: Store> Venue<M, S> {
         ensures { result ≡ is_full self.now.state.rows }
     {
         self.ledger.table.is_full()
+    }
+
+    /// The row of a number, if there is one, to look at.
+    pub fn row(&self, number: u64) -> Option<&Row>
+        ensures { option_copied result ≡ under self.now.state.rows number }
+    {
+        self.ledger.table.row(number)
     }
 
     /// The order of a number, if there is one.
