@@ -71,3 +71,8 @@ rows_found rs line None original r h e = under_number rs r (from_back (goes_by l
 pub named_there : (b : Books) (line : ℕ) (i : Option OrderId) (original : FixedText 20) (r : Row) → Sound b → Some r
     ≡ found line i original b.rows → under b.rows r.number ≡ Some r
 named_there b line i original r s e = rows_found b.rows line i original r s.recorded.numbered (sym e)
+
+-- a row under a number stands under its own
+pub row_there : (b : Books) (n : ℕ) (r : Row) → Sound b → Some r ≡ under b.rows n → under b.rows r.number ≡ Some r
+row_there b n r s e =
+    ap (under b.rows) (kept_at b.rows n r s.recorded.numbered (sym e)).0 ∙ sym e

@@ -1,6 +1,6 @@
 -- Which orders a Mass Cancel Request can mean: what holds of each test that it can come to. Assumes nothing.
 use Rattle.std.proofs.Common.{ℕ, Bool, true, false, cond, Some, None, Option, Ok, Err, Result}
-use Rattle.std.specs.Prelude.{List, nat_lt, not}
+use Rattle.std.specs.Prelude.{nat_lt, not}
 use Rattle.matching.specs.Meaning.{serves}
 use Rattle.orders.specs.declared.row.Row.{Row}
 use Rattle.refusals.specs.declared.Turned.{Turned}

@@ -55,7 +55,7 @@ of_segment is s r = is_segment s (slice_get is r.terms.instrument)
 abbrev pub in_reach : List Listed → Reach → Row → Bool
 in_reach is All = anywhere
 in_reach is (Instrument place b) = of_instrument place b
-in_reach is (Segment s) = of_segment is s.now
+in_reach is (Segment s) = of_segment is (said s.bytes)
 
 -- ---- an open order of such an owner that stands there, and is marked where that is asked
 

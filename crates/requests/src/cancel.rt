@@ -82,7 +82,7 @@ pub fn cancel<M: Matcher, S: Store>(
 ) -> Result<(), Turned>
     ensures { Does M.Did time (cancel line m.now time venue.old.state (spare venue.old)) venue.old result venue.new }
 {
-    let Some(listing) = look_up(venue.instruments(), m.symbol.as_bytes()) else {
+    let Some(listing) = look_up(venue.instruments(), &m.symbol) else {
         return Err(Turned::UnknownInstrument);
     };
     let client = m.client_order_id.text.keep();

@@ -1,11 +1,11 @@
 // A Mass Cancel Request.
 ghost use Rattle.std.specs.Prelude.{◌≡◌, ◌≤◌, ◌+◌};
-ghost use Rattle.std.specs.Str.{bytes_eq};
 ghost use Rattle.orders.specs.Tables.{open_count};
 ghost use Rattle.requests.specs.Deciding.{Does, spare};
 ghost use Rattle.requests.specs.MassCancels.{Roomed, accepted, acts_of, aim_of, has_segment, in_all, in_listing, in_segment, mass_cancel, mass_entry, plan_of, planned, planned_as, refused, swept, told_count, told_everywhere};
 ghost use Rattle.requests.specs.Selection.{in_reach, is_owner, picks};
 ghost use Rattle.texts.specs.Bytes.{said};
+ghost use Rattle.texts.specs.Says.{says};
 ghost use Rattle.texts.specs.declared.values.Time.{Time as Moment};
 ghost use Rattle.venue.specs.Enacting.{Enacts, Silent};
 
@@ -20,6 +20,8 @@ use order_messages::order_mass_cancel_request::{OrderMassCancelRequest, Scope};
 use refusals::{Refusal, Turned};
 use reports::report::{Entry, MassAnswer, MassCancelReport, Report};
 use store::Store;
+use texts::names::Segment;
+use texts::text::Text;
 use texts::values::Time;
 use venue::venue::Venue;
 
@@ -34,18 +36,12 @@ pub enum Sweep<'a> {
     Everywhere(Selection<'a>),
 }
 
-fn is_of(instrument: &Instrument, segment: &[u8]) -> bool
-    ensures { result ≡ bytes_eq (said instrument.now.segment.bytes) segment.now }
-{
-    instrument.segment.as_bytes() == segment
-}
-
-fn has_segment(instruments: &[Instrument], segment: &[u8]) -> bool
-    ensures { result ≡ has_segment instruments.now segment.now }
+fn has_segment(instruments: &[Instrument], segment: &Segment) -> bool
+    ensures { result ≡ has_segment instruments.now (said segment.now.bytes) }
 {
     instruments
         .iter()
-        .any(|instrument| is_of(instrument, segment))
+        .any(|instrument| instrument.segment.says_same(segment))
 }
 
 fn mass_entry(line: usize, m: &OrderMassCancelRequest<'_>, answer: MassAnswer, time: Time) -> Entry
@@ -87,12 +83,12 @@ fn tell_everywhere<M: Matcher, S: Store>(venue: &mut Venue<M, S>, entry: Entry)
 // An owner's orders of an instrument in one book.
 fn in_listing<'a, M: Matcher, S: Store>(
     venue: &Venue<M, S>,
-    symbol: &[u8],
+    symbol: &Text<'_, 6>,
     owners: Owners<'a>,
     book: Book,
 ) -> Result<Sweep<'a>, Turned>
     ensures planned { planned_as venue.now.state.instruments result
-        ≡ in_listing symbol.now (is_owner owners.entry) book venue.now.state (spare venue.now) }
+        ≡ in_listing (says symbol.now) (is_owner owners.entry) book venue.now.state (spare venue.now) }
     ensures room { Roomed venue.now result }
 {
     let Some(listing) = look_up(venue.instruments(), symbol) else {
@@ -117,10 +113,10 @@ fn in_listing<'a, M: Matcher, S: Store>(
 fn in_all<'a, M: Matcher, S: Store>(
     venue: &Venue<M, S>,
     owners: Owners<'a>,
-    reach: Reach<'a>,
+    reach: Reach,
 ) -> Result<Sweep<'a>, Turned>
     ensures planned { planned_as venue.now.state.instruments result
-        ≡ in_all (is_owner owners.entry) (in_reach venue.now.state.instruments reach.entry) (spare venue.now) }
+        ≡ in_all (is_owner owners.entry) (in_reach venue.now.state.instruments reach) (spare venue.now) }
     ensures room { Roomed venue.now result }
 {
     if venue.spare() < 3 {
@@ -136,14 +132,15 @@ fn in_all<'a, M: Matcher, S: Store>(
 // An owner's orders of a segment.
 fn in_segment<'a, M: Matcher, S: Store>(
     venue: &Venue<M, S>,
-    segment: &'a [u8],
+    segment: &Text<'_, 4>,
     owners: Owners<'a>,
 ) -> Result<Sweep<'a>, Turned>
     ensures planned { planned_as venue.now.state.instruments result
-        ≡ in_segment segment.now (is_owner owners.entry) venue.now.state (spare venue.now) }
+        ≡ in_segment (says segment.now) (is_owner owners.entry) venue.now.state (spare venue.now) }
     ensures room { Roomed venue.now result }
 {
-    if !has_segment(venue.instruments(), segment) {
+    let segment = segment.keep();
+    if !has_segment(venue.instruments(), &segment) {
         return Err(Turned::UnknownInstrument);
     }
     in_all(venue, owners, Reach::Segment(segment))
@@ -156,7 +153,7 @@ pub fn plan<'a, M: Matcher, S: Store>(
     participants: &'a [Participant],
     firm: u32,
     line: usize,
-    m: &OrderMassCancelRequest<'a>,
+    m: &OrderMassCancelRequest<'_>,
 ) -> Result<Sweep<'a>, Turned>
     ensures planned { planned_as venue.now.state.instruments result
         ≡ planned (aim_of m.now.scope) participants.now firm line venue.now.state (spare venue.now) }
@@ -165,10 +162,10 @@ pub fn plan<'a, M: Matcher, S: Store>(
     let own = Owners::Line(line);
     let firms = Owners::Firm(participants, firm);
     match m.scope {
-        Scope::FirmInstrument(symbol, book) => in_listing(venue, symbol.as_bytes(), firms, book),
-        Scope::CompIdInstrument(symbol, book) => in_listing(venue, symbol.as_bytes(), own, book),
-        Scope::FirmSegment(segment) => in_segment(venue, segment.as_bytes(), firms),
-        Scope::CompIdSegment(segment) => in_segment(venue, segment.as_bytes(), own),
+        Scope::FirmInstrument(symbol, book) => in_listing(venue, &symbol, firms, book),
+        Scope::CompIdInstrument(symbol, book) => in_listing(venue, &symbol, own, book),
+        Scope::FirmSegment(segment) => in_segment(venue, &segment, firms),
+        Scope::CompIdSegment(segment) => in_segment(venue, &segment, own),
         Scope::Firm => in_all(venue, firms, Reach::All),
         Scope::CompId => in_all(venue, own, Reach::All),
     }

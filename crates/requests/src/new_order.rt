@@ -144,7 +144,7 @@ pub fn new_order<M: Matcher, S: Store>(
 ) -> Result<(), Turned>
     ensures { Does M.Did time (new_order line m.now time venue.old.state (spare venue.old)) venue.old result venue.new }
 {
-    let Some(listing) = look_up(venue.instruments(), m.symbol.as_bytes()) else {
+    let Some(listing) = look_up(venue.instruments(), &m.symbol) else {
         return Err(Turned::UnknownInstrument);
     };
     if venue.spare() < 2 {

@@ -2,6 +2,7 @@
 ghost use Rattle.std.specs.Prelude.{◌≡◌, slice_get};
 ghost use Rattle.keyed.specs.Numbers.{under};
 ghost use Rattle.requests.specs.Selection.{is_book, is_marked, is_segment, of_firm, picks, withdrawal, withdrawals};
+ghost use Rattle.texts.specs.Bytes.{said};
 ghost use Rattle.venue.specs.Enacting.{Enacts};
 
 use codes::order::{AutoCancel, Book};
@@ -11,6 +12,7 @@ use matching::matcher::Matcher;
 use orders::row::{Ending, Row};
 use store::Store;
 use texts::fixed::FixedText;
+use texts::names::Segment;
 use texts::values::Time;
 use venue::venue::Venue;
 
@@ -34,19 +36,19 @@ pub enum Owners<'a> {
 
 /// Which of their orders are meant.
 #[derive(Clone, Copy)]
-pub enum Reach<'a> {
+pub enum Reach {
     All,
     /// Those in one instrument, by its place, in one book.
     Instrument(usize, Book),
     /// Those in all instruments of a segment, in either book.
-    Segment(&'a [u8]),
+    Segment(Segment),
 }
 
 /// Which open orders are meant.
 #[derive(Clone, Copy)]
 pub struct Selection<'a> {
     pub owners: Owners<'a>,
-    pub reach: Reach<'a>,
+    pub reach: Reach,
     /// Only those that are marked to end with their owner's line.
     pub marked: bool,
 }
@@ -62,11 +64,11 @@ fn is_of_firm(participants: &[Participant], firm: u32, place: usize) -> bool
 }
 
 // Whether the instrument of a place is of a segment.
-fn is_segment(segment: &[u8], instruments: &[Instrument], place: usize) -> bool
-    ensures { result ≡ is_segment segment.now (slice_get instruments.now place) }
+fn is_segment(segment: &Segment, instruments: &[Instrument], place: usize) -> bool
+    ensures { result ≡ is_segment (said segment.now.bytes) (slice_get instruments.now place) }
 {
     match instruments.get(place) {
-        Some(instrument) => instrument.segment.as_bytes() == segment,
+        Some(instrument) => instrument.segment.says_same(segment),
         None => false,
     }
 }
@@ -100,7 +102,7 @@ impl Owners<'_> {
     }
 }
 
-impl Reach<'_> {
+impl Reach {
     ghost use Rattle.requests.specs.Selection.{in_reach};
 
     // Whether an order stands where it is meant.
@@ -133,6 +135,7 @@ impl Selection<'_> {
 }
 
 // Withdraws the order of a number, if it is meant.
+#[tactic(auto, using(crate::proofs::Found::row_there))]
 fn withdraw_if<M: Matcher, S: Store>(
     venue: &mut Venue<M, S>,
     number: u64,
@@ -146,14 +149,16 @@ fn withdraw_if<M: Matcher, S: Store>(
 {
     // for the proof: each order stands under its number
     venue.sound();
-    let Some(order) = venue.order(number) else {
+    let Some(row) = venue.row(number) else {
         return;
     };
-    if selection.picks(venue.instruments(), &order.row()) {
-        match cause {
-            Cause::Request(client) => venue.withdraw(order, Ending::Cancelled, client, time),
-            Cause::LineLost => venue.withdraw(order, Ending::Expired, order.row().client, time),
-        }
+    if !selection.picks(venue.instruments(), row) {
+        return;
+    }
+    let order = venue.order(number).unwrap();
+    match cause {
+        Cause::Request(client) => venue.withdraw(order, Ending::Cancelled, client, time),
+        Cause::LineLost => venue.withdraw(order, Ending::Expired, order.row().client, time),
     }
 }
 
