@@ -20,8 +20,8 @@ pub struct Instrument {
 impl Named for Instrument {
     ghost name_of = { λ i. said i.symbol.bytes };
 
-    fn name(&self) -> &[u8] {
-        self.symbol.as_bytes()
+    fn has_name_of(&self, other: &Instrument) -> bool {
+        self.symbol.says_same(&other.symbol)
     }
 }
 

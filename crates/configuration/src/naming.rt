@@ -7,21 +7,15 @@ ghost use Rattle.configuration.specs.Names.{all_differ};
 pub(crate) trait Named {
     ghost name_of: { Self → List ℕ };
 
-    fn name(&self) -> &[u8]
-        ensures { result.now ≡ name_of self.now };
+    fn has_name_of(&self, other: &Self) -> bool
+        ensures { result ≡ bytes_eq (name_of self.now) (name_of other.now) };
 }
 
-fn has_name<T: Named>(item: &T, name: &[u8]) -> bool
-    ensures { result ≡ bytes_eq (T.name_of item.now) name.now }
+// Whether any of the items has the name of another.
+fn has_among<T: Named>(items: &[T], other: &T) -> bool
+    ensures { result ≡ list_any (λ x. bytes_eq (T.name_of x) (T.name_of other.now)) items.now }
 {
-    item.name() == name
-}
-
-// Whether any of the items has the name.
-fn has_among<T: Named>(items: &[T], name: &[u8]) -> bool
-    ensures { result ≡ list_any (λ x. bytes_eq (T.name_of x) name.now) items.now }
-{
-    items.iter().any(|item| has_name(item, name))
+    items.iter().any(|item| item.has_name_of(other))
 }
 
 // Whether no two items have one name.
@@ -30,6 +24,6 @@ pub(crate) fn all_differ<T: Named>(items: &[T]) -> bool
 {
     match items {
         [] => true,
-        [first, rest @ ..] => { !has_among(rest, first.name()) && all_differ(rest) }
+        [first, rest @ ..] => { !has_among(rest, first) && all_differ(rest) }
     }
 }

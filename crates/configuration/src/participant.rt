@@ -20,8 +20,8 @@ pub struct Participant {
 impl Named for Participant {
     ghost name_of = { λ p. said p.name.bytes };
 
-    fn name(&self) -> &[u8] {
-        self.name.as_bytes()
+    fn has_name_of(&self, other: &Participant) -> bool {
+        self.name.says_same(&other.name)
     }
 }
 
