@@ -333,7 +333,7 @@ fn read_report(src: &[u8]) -> Result<ExecutionReport<'_>, Fault> {
     let book = code(src, 135, |b| matches!(b, 0 | 1))?;
     let trade = if kind == b'F' { code(src, 136, |b| matches!(b, 0 | 1))? } else { 0 };
     let capacity = code(src, 137, |b| matches!(b, 1..=3))?;
-    let price_differential = code(src, 138, |b| matches!(b, 0 | b'1'..=b'9' | b'A' | b'B'))?;
+    let price_differential = code(src, 138, |b| matches!(b, 0 | b'1'..=b'9' | b'A' | b'B' | b'P'))?;
     let u64_at = |at: usize| u64::from_le_bytes(src[at..at + 8].try_into().unwrap());
     let u32_at = |at: usize| u32::from_le_bytes(src[at..at + 4].try_into().unwrap());
     Ok(ExecutionReport {
