@@ -1,6 +1,6 @@
 -- Digits of base 62. Assumes nothing.
-use Rattle.std.proofs.Common.{◌≡◌, ◌&&◌, ℕ, zero, suc, ◌+◌, ◌-◌, ◌*◌, ◌/◌, ◌%◌, ◌^◌, ◌<◌, ◌≤◌, Bool, true, false, cond, eqb, ltb, List, [], ◌∷◌, ◌++◌, length, get_or, drop, set, Some, None, Option, sym, refl, ap, ◌∙◌, append_assoc, pow-suc, arith, length-append, lt-ltb, eq-eqb}
-use Rattle.std.proofs.lemmas.List.{drop-set}
+use Rattle.std.proofs.Common.{◌≡◌, ◌&&◌, ℕ, zero, suc, ◌+◌, ◌-◌, ◌*◌, ◌/◌, ◌%◌, ◌^◌, ◌<◌, ◌≤◌, Bool, true, false, cond, eqb, ltb, List, [], ◌∷◌, ◌++◌, length, take, drop, set, replicate, Some, None, Option, sym, refl, ap, ◌∙◌, append_assoc, pow-suc, arith, length-append, lt-ltb, eq-eqb}
+use Rattle.std.proofs.lemmas.List.{drop-set, take-set, take-take, take-replicate, take-append-drop, replicate-append-replicate}
 use Rattle.std.proofs.lemmas.List.Folds.{list_all-append}
 use Rattle.texts.proofs.Padding.{said_all}
 use Rattle.std.proofs.lemmas.Nat.{div-add-mod', div_below, mod_below}
@@ -90,8 +90,35 @@ write-turn (suc j) n out p h =
     let d = drop-set out (suc j) (digit (n % 62)) h in
     rw (a, b, d, append_assoc)
 
-pub write-end : (letter n m : ℕ) (out : List ℕ) → length out ≡ 12 → get_or out 0 0 ≡ letter → base62 11 n ≡ base62 0 m
-    ++ drop (0 + 1) out → out ≡ id_of letter n
+zeros : (k : ℕ) → base62 k 0 ≡ replicate k 48
 unfolding base62
-write-end letter n m [] l g e = absurd (omega arith)
-write-end letter n m (x ∷ out) l g e = rw (e, g)
+zeros zero = refl
+zeros (suc k) =
+    let j : k + 1 ≡ suc k = omega arith in
+    ap (λ ds. ds ++ (48 ∷ [])) (zeros k) ∙ replicate-append-replicate k 1 48 ∙ ap (λ m. replicate m 48) j
+
+-- of a number that is nothing any more, or with no room, only zeros are left to write
+pub rest_zeros : (k n : ℕ) → n ≡ 0 → base62 k n ≡ replicate k 48
+rest_zeros k n e = rw e (zeros k)
+
+pub no_room : (k n : ℕ) → k ≡ 0 → base62 k n ≡ replicate k 48
+unfolding base62
+no_room k n e = rw e refl
+
+-- before the digit at k the zeros stay
+pub write-zeros : (k letter d : ℕ) (out : List ℕ) → 0 < k → take (k + 1) out ≡ letter ∷ replicate k 48 → take (k - 1 + 1)
+    (set out k d) ≡ letter ∷ replicate (k - 1) 48
+write-zeros zero letter d out p h = absurd (omega arith)
+write-zeros (suc j) letter d out p h =
+    let a : suc j - 1 ≡ j = omega arith in
+    let b : j + 1 ≡ suc j = omega arith in
+    let t : take (suc j) out ≡ take (suc j) (letter ∷ replicate (suc j) 48) =
+    sym (take-take (suc j) (suc j + 1) out (omega arith)) ∙ ap (take (suc j)) h in
+    rw (a, b) (take-set out (suc j) d ∙ t ∙ ap (λ zs. letter ∷ zs) (take-replicate j (suc j) 48 (omega arith)))
+
+-- the writing ends where there is nothing left, or no room
+pub write-end : (letter number n k : ℕ) (out : List ℕ) → base62 k n ≡ replicate k 48 → take (k + 1) out ≡ letter
+    ∷ replicate k 48 → base62 11 number ≡ base62 k n ++ drop (k + 1) out → out ≡ id_of letter number
+write-end letter number n k out z h e =
+    sym (take-append-drop (k + 1) out) ∙ ap (λ front. front ++ drop (k + 1) out) h
+    ∙ ap (λ ds. letter ∷ ds) (ap (λ ds. ds ++ drop (k + 1) out) (sym z) ∙ sym e)

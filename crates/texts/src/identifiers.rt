@@ -54,13 +54,15 @@ fn worth_of(c: u8) -> u8
     WORTHS[usize::from(c)]
 }
 
+// Zeros stand already where the number has no digits.
 fn write_id(letter: u8, number: u64) -> [u8; 12]
     ensures { result ≡ id_of letter number }
 {
-    let mut out = [letter; 12];
+    let mut out = [b'0'; 12];
+    out[0] = letter;
     let mut n = number;
     let mut k = 11;
-    while k > 0 {
+    while k > 0 && n > 0 {
         out[k] = digit_of((n % 62) as u8);
         n /= 62;
         k -= 1;
