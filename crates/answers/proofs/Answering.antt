@@ -14,9 +14,10 @@ use Rattle.answers.specs.declared.answer.Answer.{Answer}
 use Rattle.answers.specs.declared.answer.Answer.TheVariants as answer
 use Rattle.answers.specs.Bytes.{answer_bytes}
 use Rattle.answers.specs.Numbers.{admission_number, reason_number}
-use Rattle.answers.specs.Sent.{Sent}
-use Rattle.answers.specs.Told.{Conveys, Answers, AnswerTold}
-use Rattle.answers.proofs.Heard.{heard}
+use Rattle.report_messages.specs.Sent.{Sent}
+use Rattle.report_messages.specs.Told.{Conveys}
+use Rattle.answers.specs.Told.{Answers, AnswerTold}
+use Rattle.report_messages.proofs.Heard.{heard}
 
 answers_to : (a : Answer) (m : Message) → Answers a m → Answers a (plain m)
 answers_to (answer.LogonReply c) (message.LogonReply m) h = h

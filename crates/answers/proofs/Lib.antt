@@ -1,2 +1,2 @@
 pub mod Answering
-pub mod Heard
+pub mod Ending

@@ -1,4 +1,3 @@
 pub mod Numbers
 pub mod Bytes
-pub mod Sent
 pub mod Told

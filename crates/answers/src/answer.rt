@@ -6,13 +6,13 @@ ghost use Rattle.answers.specs.declared.answer.Answer.TheVariants as answer;
 ghost use Rattle.wire.specs.declared.message.TheConstants.{BUFFER};
 ghost use Rattle.answers.specs.Bytes.{answer_bytes, client_said};
 ghost use Rattle.answers.specs.Numbers.{admission_number, reason_number};
-ghost use Rattle.answers.specs.Sent.{Sent};
+ghost use Rattle.report_messages.specs.Sent.{Sent};
 ghost use Rattle.answers.specs.Told.{Answers, AnswerTold};
 
-use crate::sending::send;
 use codes::session::AckResponse;
 use layout::fault::Fault;
 use refusals::{LogonRefusal, RequestRefusal, Turned};
+use report_messages::sending::send;
 use session_messages::logon_reply::LogonReply;
 use session_messages::missed_message_request_ack::MissedMessageRequestAck;
 use session_messages::reject::Reject;

@@ -2,7 +2,7 @@
 use Rattle.std.proofs.Common.{◌≡◌, ◌⊎◌, inl, inr, ℕ, List, [], ◌++◌, map, pos, Some, None, Ok, Err, Option, Result, refl, ap, ◌∙◌, subst, arith}
 use Rattle.answers.specs.Bytes.{answer_bytes, end_bytes}
 use Rattle.report_messages.specs.Telling.{report_bytes}
-use Rattle.answers.specs.Told.{ReportTold}
+use Rattle.report_messages.specs.Told.{ReportTold}
 use Rattle.answers.specs.declared.answer.Admission.{Admission}
 use Rattle.answers.specs.declared.answer.Answer.TheVariants as answer
 use Rattle.answers.specs.declared.answer.Rejection.{Rejection}

@@ -1,11 +1,12 @@
 -- What a follower reads from the bytes that are sent. Assumes nothing.
 use Rattle.std.specs.Prelude.{◌≡◌, ℕ, Some, None, Option}
-use Rattle.answers.specs.Told.{ReportTold, EndTold}
+use Rattle.answers.specs.Told.{EndTold}
 use Rattle.codes.specs.declared.session.Partition.{Partition}
 use Rattle.gateway.specs.Calls.{send_fault}
 use Rattle.gateway.specs.State.{State, session}
 use Rattle.keyed.specs.Numbers.{under}
 use Rattle.partitions.specs.PerPartition.{at}
+use Rattle.report_messages.specs.Told.{ReportTold}
 use Rattle.reports.specs.declared.report.Entry.{Entry}
 use Rattle.sessions.specs.Downloads.{recovered}
 use Rattle.sessions.specs.Sending.{next_to_send}

@@ -1,7 +1,7 @@
 // The seven calls of a gateway.
 ghost use Rattle.std.specs.Prelude.{◌≡◌, ◌<◌, ◌≤◌, length, Some};
 ghost use Rattle.wire.specs.declared.message.TheConstants.{BUFFER};
-ghost use Rattle.answers.specs.Sent.{Sent};
+ghost use Rattle.report_messages.specs.Sent.{Sent};
 ghost use Rattle.gateway.specs.Calls.{Steps, Undoes, Loses, Sends, Recovers, stored_bytes};
 ghost use Rattle.gateway.specs.Doing.{Comes, Stays};
 ghost use Rattle.gateway.specs.Hearing.{Hears};
@@ -13,12 +13,13 @@ ghost use Rattle.venue.specs.Telling.{Told};
 
 use crate::fault::{GatewayFault, SessionFault};
 use crate::gateway::Gateway;
-use answers::sending::{write_end, write_report};
+use answers::sending::write_end;
 use codes::session::Partition;
 use configuration::participant::Participant;
 use limits::TRADES;
 use matching::matcher::Matcher;
 use matching::midpoint::MidpointRefusal;
+use report_messages::sending::write_report;
 use sessions::download::HandedOut;
 use sessions::session::Channel;
 use store::Store;

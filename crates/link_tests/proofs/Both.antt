@@ -11,7 +11,7 @@ use Rattle.answers.specs.declared.answer.Admission.{Admission}
 use Rattle.answers.specs.declared.answer.Admission.TheVariants.{Accepted, Refused}
 use Rattle.answers.specs.declared.answer.Answer.TheVariants as answer
 use Rattle.answers.specs.Bytes.{answer_bytes}
-use Rattle.answers.specs.Sent.{Sent}
+use Rattle.report_messages.specs.Sent.{Sent}
 use Rattle.answers.specs.Told.{Answers, AnswerTold}
 use Rattle.link.specs.declared.awaiting.Awaiting.{Awaiting}
 use Rattle.refusals.specs.declared.LogonRefusal.TheVariants.{AlreadyOn, BadCredentials, RecoveryBeforeRealTime}

@@ -1,3 +1,4 @@
 pub mod Takes
 pub mod Texts
 pub mod Told
+pub mod Heard

@@ -1,5 +1,5 @@
 use Rattle.std.proofs.Common.{◌≡◌, Some, ap, ◌∙◌, subst}
-use Rattle.answers.specs.Sent.{Sent}
+use Rattle.report_messages.specs.Sent.{Sent}
 use Rattle.gateway.specs.Calls.{entry_bytes}
 use Rattle.gateway.specs.State.{State}
 use Rattle.gateway.specs.Telling.{EntryTold}

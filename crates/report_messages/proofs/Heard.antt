@@ -2,7 +2,6 @@
 use Rattle.std.proofs.Common.{◌≡◌, ℕ, ℤ, ◌≤◌, List, ◌++◌, drop, slice_index_or, pos, Some, Option, refl, sym, ap, ◌∙◌, subst, arith}
 use Rattle.codes.specs.Session.{partition_code}
 use Rattle.codes.specs.declared.session.Partition.{Partition}
-use Rattle.codes.specs.declared.session.ReportResponse.{ReportResponse}
 use Rattle.codes.specs.contracts.session.PartitionCode.TheImpl.Laws.{sound-law as partition_law}
 use Rattle.limits.specs.declared.TheConstants.{MESSAGE_BYTES}
 use Rattle.layout.specs.Layout.{Content, figure_of, int32_of}
@@ -22,11 +21,10 @@ use Rattle.order_messages.specs.declared.order_mass_cancel_request.Scope.TheVari
 use Rattle.reports.specs.declared.report.Report.{Report}
 use Rattle.reports.specs.declared.report.Report.TheVariants as report
 use Rattle.report_messages.specs.Back.{report_in}
+use Rattle.report_messages.specs.Sent.{Sent}
 use Rattle.report_messages.specs.Telling.{told_as, kind_told, report_bytes}
+use Rattle.report_messages.specs.Told.{Conveys, place_in, Reports, ReportTold}
 use Rattle.report_messages.proofs.Takes.{follower_takes}
-use Rattle.answers.specs.Bytes.{end_bytes}
-use Rattle.answers.specs.Sent.{Sent}
-use Rattle.answers.specs.Told.{Conveys, place_in, Reports, ReportTold, Ends, EndTold}
 
 pub sent : (m : Message) (n : ℕ) (before after : List ℕ) → Holdable m → n ≡ total_of (kind_of m)
     → total_of (kind_of m) ≤ MESSAGE_BYTES → after ≡ written m ++ drop n before → Sent (written m) before after n
@@ -65,7 +63,7 @@ place_plain : (m : Message) → place_in (plain m) ≡ place_in m
 place_plain (message.Logon m) = refl
 place_plain _ = refl
 
-kind_plain : (m : Message) → kind_of (plain m) ≡ kind_of m
+pub kind_plain : (m : Message) → kind_of (plain m) ≡ kind_of m
 kind_plain (message.Logon m) = refl
 kind_plain _ = refl
 
@@ -75,7 +73,7 @@ scope_plain : (c : Name 20) (s : Scope) → contents_of
 scope_plain c (scope.FirmInstrument t b) = refl
 scope_plain c _ = refl
 
-contents_plain : (m : Message) → contents_of (plain m) ≡ contents_of m
+pub contents_plain : (m : Message) → contents_of (plain m) ≡ contents_of m
 contents_plain (message.OrderMassCancelRequest m) = scope_plain m.client_order_id m.scope
 contents_plain _ = refl
 
@@ -83,7 +81,7 @@ along : {X : Type 0} (f : Message → X) → ((m : Message) → f (plain m) ≡ 
     → f a ≡ f b
 along f p a b e = sym (p a) ∙ ap f e ∙ p b
 
-reports_plain : (p : Partition) (n : ℕ) (r : Report) (a b : Message) → plain a ≡ plain b → Reports p n r b
+pub reports_plain : (p : Partition) (n : ℕ) (r : Report) (a b : Message) → plain a ≡ plain b → Reports p n r b
     → Reports p n r a
 reports_plain p n r a b e h =
     record {
@@ -92,17 +90,6 @@ reports_plain p n r a b e h =
       kind = along kind_of kind_plain a b e ∙ h.kind;
       contents = along contents_of contents_plain a b e ∙ h.contents;
     }
-
-ends_to : (r : ReportResponse) (m : Message) → Ends r m → Ends r (plain m)
-ends_to r (message.MissedMessageReport m) h = h
-ends_to r m h = absurd h
-
-ends_from : (r : ReportResponse) (m : Message) → Ends r (plain m) → Ends r m
-ends_from r (message.MissedMessageReport m) h = h
-ends_from r m h = absurd h
-
-ends_plain : (r : ReportResponse) (a b : Message) → plain a ≡ plain b → Ends r b → Ends r a
-ends_plain r a b e h = ends_from r a (subst (Ends r) (sym e) (ends_to r b h))
 
 -- a message that says what a report's does stands where it does
 figure_at : (i : ℕ) {us vs : List Content} → us ≡ vs → figure_of (slice_index_or us i nothing)
@@ -138,9 +125,3 @@ report_told p n r m b k c w g =
 pub same_told : (p q : Partition) (n k : ℕ) (r s : Report) → ReportTold p n r → p ≡ q → n ≡ k → r ≡ s → ReportTold q k s
 same_told p q n k r s t a b c =
     subst (ReportTold q k) c (subst (λ x. ReportTold q x r) b (subst (λ x. ReportTold x n r) a t))
-
-pub end_told : (r : ReportResponse) → Holdable (message.MissedMessageReport (record { response = r }))
-    → GivenBack (message.MissedMessageReport (record { response = r })) → EndTold r
-end_told r w g =
-    heard (Ends r) (end_bytes r) (message.MissedMessageReport (record { response = r }))
-    (ends_plain r) refl w g refl refl

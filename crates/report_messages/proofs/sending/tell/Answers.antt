@@ -1,5 +1,5 @@
-use Rattle.answers.proofs.Heard.{report_told}
-use Rattle.answers.proofs.sending.tell.Goals as goal
+use Rattle.report_messages.proofs.Heard.{report_told}
+use Rattle.report_messages.proofs.sending.tell.Goals as goal
 
 pub returns-clause-told : goal.returns-clause-told
 returns-clause-told c =
