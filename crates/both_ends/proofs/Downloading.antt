@@ -48,9 +48,9 @@ use Rattle.follower.specs.declared.heard.NumberedReport.{NumberedReport}
 use Rattle.follower.specs.declared.side.Side.{Side}
 use Rattle.follower.specs.declared.side.State.TheVariants.{Level}
 use Rattle.follower.specs.declared.stage.Stage.TheVariants as stage
-use Rattle.gateway.specs.Calls.{entry_bytes, recovered_bytes, stored_bytes}
+use Rattle.gateway.specs.Calls.{recovered_bytes}
 use Rattle.gateway.specs.State.{State, session, with_session}
-use Rattle.gateway.specs.Telling.{EntryTold, RecoveredTold}
+use Rattle.gateway.specs.Telling.{RecoveredTold}
 use Rattle.gateway_runs.specs.Runs.{bytes_of}
 use Rattle.gateway_runs.specs.Runs as runs
 use Rattle.gateway_runs.specs.declared.call.Call.TheVariants as venue_call
@@ -86,6 +86,7 @@ use Rattle.sessions.specs.declared.session.LoggedOn.TheVariants.{Off, Live, Reco
 use Rattle.sessions.specs.declared.session.Session.{Session}
 use Rattle.store.specs.Kept.{Kept, next_after}
 use Rattle.store.specs.Laws.{Lowest}
+use Rattle.store.specs.Messages.{EntryTold, entry_bytes, stored_bytes}
 use Rattle.texts.specs.declared.values.Time.{Time}
 use Rattle.venue.proofs.Recording.{same_self}
 use Rattle.wire.specs.declared.message.TheConstants.{BUFFER}

@@ -39,10 +39,10 @@ use Rattle.follower.specs.declared.heard.Heard.TheVariants.{Report, Ack, End, Re
 use Rattle.follower.specs.declared.heard.NumberedReport.{NumberedReport}
 use Rattle.follower.specs.declared.stage.Stage.{Stage}
 use Rattle.follower.specs.declared.stage.Stage.TheVariants.{Idle, Asked, Running}
-use Rattle.gateway.specs.Calls.{entry_bytes, sent_bytes, recovered_bytes}
+use Rattle.gateway.specs.Calls.{sent_bytes, recovered_bytes}
 use Rattle.gateway.specs.Hearing.{partition_of}
 use Rattle.gateway.specs.State.{State, session, lasts}
-use Rattle.gateway.specs.Telling.{EntryTold, SentTold, RecoveredTold, SendTold, RecoverTold}
+use Rattle.gateway.specs.Telling.{SentTold, RecoveredTold, SendTold, RecoverTold}
 use Rattle.keyed.specs.Numbers.{under}
 use Rattle.layout.specs.declared.fault.Fault.{Fault}
 use Rattle.limits.specs.declared.TheConstants.{ORDERS}
@@ -61,6 +61,7 @@ use Rattle.sessions.specs.declared.download.Download.{Download}
 use Rattle.sessions.specs.declared.download.HandedOut.{HandedOut}
 use Rattle.sessions.specs.declared.download.HandedOut.TheVariants as handed
 use Rattle.store.specs.Kept.{Kept}
+use Rattle.store.specs.Messages.{EntryTold, entry_bytes}
 use Rattle.venue.specs.Books.{Sound}
 use Rattle.wire.specs.Messages.{Reads}
 use Rattle.wire.specs.declared.kinds.Channel.TheVariants as reader

@@ -45,9 +45,9 @@ use Rattle.follower.specs.declared.heard.Heard.{Heard}
 use Rattle.follower.specs.declared.heard.Heard.TheVariants.{Report, Ack, End, Reject, Nothing}
 use Rattle.follower.specs.declared.stage.Stage.{Stage}
 use Rattle.follower.specs.declared.stage.Stage.TheVariants as stage
-use Rattle.gateway.specs.Calls.{entry_bytes, recovered_bytes}
+use Rattle.gateway.specs.Calls.{recovered_bytes}
 use Rattle.gateway.specs.State.{State, session, fresh as fresh_state}
-use Rattle.gateway.specs.Telling.{EntryTold, RecoverTold, RecoveredTold}
+use Rattle.gateway.specs.Telling.{RecoverTold, RecoveredTold}
 use Rattle.gateway.specs.declared.fault.GatewayFault.{GatewayFault}
 use Rattle.gateway_runs.proofs.Effects.{RecoveryDoes, RecoverDoes, effect_recover, effect_recovery}
 use Rattle.gateway_runs.specs.Runs.{Turns, bytes_of}
@@ -66,6 +66,7 @@ use Rattle.sessions.specs.declared.download.HandedOut.{HandedOut}
 use Rattle.sessions.specs.declared.download.HandedOut.TheVariants as handed
 use Rattle.sessions.specs.declared.session.Session.{Session}
 use Rattle.store.specs.Kept.{Kept}
+use Rattle.store.specs.Messages.{EntryTold, entry_bytes}
 use Rattle.texts.specs.declared.values.Time.{Time}
 use Rattle.wire.specs.Kinds.{letter_of, total_of}
 use Rattle.wire.specs.declared.kinds.Kind.TheVariants as kind

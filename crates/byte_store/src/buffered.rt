@@ -1,10 +1,13 @@
 // A store of bytes: one buffer, in which the entries stand as they were appended, and the places of each partition's.
-ghost use Rattle.std.specs.Prelude.{◌≡◌, ◌+◌, ◌<◌, ◌≤◌, length, IfOk, MatchOption, Some, None, vec_len, vec_capacity};
+ghost use Rattle.std.specs.Prelude.{◌≡◌, ◌+◌, ◌<◌, ◌≤◌, length, IfOk, IfSome, MatchOption, Some, None, vec_len, vec_capacity};
 ghost use Rattle.std.specs.Option.{option_map};
-ghost use Rattle.limits.specs.declared.TheConstants.{REPORTS as MOST};
+ghost use Rattle.limits.specs.declared.TheConstants.{MESSAGE_BYTES as LONGEST, REPORTS as MOST};
 ghost use Rattle.partitions.specs.Series.{total, mapped};
+ghost use Rattle.report_messages.specs.Sent.{Sent};
+ghost use Rattle.report_messages.specs.Telling.{report_bytes};
 ghost use Rattle.byte_store.specs.Places.{Within, entry_in};
 ghost use Rattle.byte_store.specs.Logs.{IsLog};
+ghost use Rattle.byte_store.specs.Told.{AllTold};
 
 use crate::codec::{Codec, Number};
 use codes::session::Partition;
@@ -43,7 +46,18 @@ pub struct Buffered<C: Codec> {
     ghost held: { vec_len buffer ≤ size },
     ghost few: { total places ≤ MOST },
     ghost inside: { Within (vec_len buffer) places },
-    ghost logged: { ∥ IsLog C.Codec.coded buffer.items places (mapped (entry_in C.Codec.decoded buffer.items) places) ∥₁ },
+    ghost logged: { ∥ IsLog report_bytes buffer.items places (mapped (entry_in C.Codec.decoded buffer.items) places) ∥₁ },
+    ghost told: { ∥ AllTold (mapped (entry_in C.Codec.decoded buffer.items) places) ∥₁ },
+}
+
+// Writes bytes to the front of a buffer, and says how many.
+fn put(bytes: &[u8], out: &mut [u8]) -> usize
+    requires short { length bytes.now ≤ LONGEST }
+    requires room { LONGEST ≤ length out.old }
+    ensures { Sent bytes.now out.old out.new result }
+{
+    out[..bytes.len()].copy_from_slice(bytes);
+    bytes.len()
 }
 
 impl<C: Codec + Drop> Buffered<C> {
@@ -70,7 +84,9 @@ impl<C: Codec> Buffered<C> {
     ghost use Rattle.keyed.specs.Numbers.{under};
     ghost use Rattle.partitions.specs.PerPartition.{at};
     ghost use Rattle.partitions.specs.Series.{grown};
+    ghost use Rattle.report_messages.specs.Told.{ReportTold};
     ghost use Rattle.store.specs.Kept.{next_after};
+    ghost use Rattle.store.specs.Messages.{StoredTold, stored_bytes};
     ghost use Rattle.byte_store.specs.Logs.{Messages};
     ghost use Rattle.byte_store.specs.Places.{part, filed, free_places};
     ghost use Rattle.byte_store.specs.Views.{kept_in, free_in};
@@ -124,16 +140,30 @@ impl<C: Codec> Buffered<C> {
 
     /// The bytes kept of the report of a number, if there is one: those of its message.
     pub fn message(&self, partition: Partition, number: u32) -> Option<&[u8]>
-        ensures { let entry = under (at (kept_in self.now) partition) number in MatchOption result (entry ≡ None)
-            (λ m. option_map (λ e. C.Codec.coded partition number e.report) entry ≡ Some m.now) }
+        ensures bytes { let entry = under (at (kept_in self.now) partition) number in MatchOption result (entry ≡ None)
+            (λ m. option_map (λ e. report_bytes partition number e.report) entry ≡ Some m.now) }
+        ensures short { IfSome result (λ m. length m.now ≤ LONGEST) }
+        ensures told { StoredTold (kept_in self.now) partition number }
     {
         let place = self.places.at(partition).item(number)?;
         Some(self.part(place))
     }
 
+    // Hands out those bytes as they are kept: nothing is decoded.
+    fn write_kept(&self, partition: Partition, number: u32, out: &mut [u8]) -> usize
+        requires { LONGEST ≤ length out.old }
+        ensures sent { Sent (stored_bytes (kept_in self.now) partition number) out.old out.new result }
+        ensures told { StoredTold (kept_in self.now) partition number }
+    {
+        match self.message(partition, number) {
+            Some(message) => put(message, out),
+            None => 0,
+        }
+    }
+
     /// All bytes kept: the messages of all reports, one behind another in the order in which they were appended.
     pub fn bytes(&self) -> &[u8]
-        ensures { Messages C.Codec.coded (kept_in self.now) result.now }
+        ensures { Messages report_bytes (kept_in self.now) result.now }
     {
         &self.buffer
     }
@@ -144,7 +174,9 @@ impl<C: Codec> Buffered<C> {
         requires start { place.start ≡ vec_len self.old.buffer }
         requires len { place.len ≡ length bytes.now }
         requires coded { let number = length (at (kept_in self.old) partition) + 1 in
-            bytes.now ≡ C.Codec.coded partition number (C.Codec.decoded bytes.now) }
+            bytes.now ≡ report_bytes partition number (C.Codec.decoded bytes.now) }
+        requires told { let number = length (at (kept_in self.old) partition) + 1 in
+            ReportTold partition number (C.Codec.decoded bytes.now) }
         requires room { vec_len self.old.buffer + length bytes.now ≤ self.old.size }
         requires few { total self.old.places < REPORTS }
         ensures kept { let entry = filed place.owner (C.Codec.decoded bytes.now) in
@@ -207,6 +239,10 @@ impl<C: Codec> Store for Buffered<C> {
 
     fn read(&self, partition: Partition, number: u32) -> Option<Entry> {
         self.entry_of(partition, number)
+    }
+
+    fn write_message(&self, partition: Partition, number: u32, out: &mut [u8]) -> usize {
+        self.write_kept(partition, number, out)
     }
 
     fn next(&self, partition: Partition, owner: usize, above: u32) -> Option<u32> {

@@ -1,4 +1,3 @@
-pub mod Stored
 pub mod Requested
 pub mod Counting
 pub mod Alone

@@ -1,8 +1,7 @@
 -- The calls beside the two that take messages. Assumes nothing.
 use Rattle.std.specs.Prelude.{◌≡◌, ℕ, List, [], ◌∷◌, length, Some, None, Ok, Err, Option, Result, nat_lt, if◌then◌else◌}
-use Rattle.std.specs.Option.{option_map_or, option_or}
+use Rattle.std.specs.Option.{option_or}
 use Rattle.answers.specs.Bytes.{end_bytes}
-use Rattle.report_messages.specs.Telling.{report_bytes}
 use Rattle.codes.specs.declared.session.Partition.{Partition}
 use Rattle.gateway.specs.Hearing.{call_fault, line_fault, fronted}
 use Rattle.gateway.specs.Lines.{ends_of, line_closed}
@@ -15,8 +14,6 @@ use Rattle.limits.specs.declared.TheConstants.{TRADES}
 use Rattle.orders.specs.Trades.{void_fault}
 use Rattle.orders.specs.declared.trade.TradeRefusal.{TradeRefusal}
 use Rattle.orders.specs.declared.trade.TradeRefusal.TheVariants.{Unknown, DoneBefore}
-use Rattle.partitions.specs.PerPartition.{at}
-use Rattle.reports.specs.declared.report.Entry.{Entry}
 use Rattle.sessions.specs.Downloads.{recovered}
 use Rattle.sessions.specs.Sending.{next_to_send, sent_after}
 use Rattle.sessions.specs.Sessions.{download, on, with_download, with_sent}
@@ -25,6 +22,7 @@ use Rattle.sessions.specs.declared.download.HandedOut.TheVariants.{Report, Ended
 use Rattle.sessions.specs.declared.session.Channel.{Channel}
 use Rattle.sessions.specs.declared.session.Channel.TheVariants.{RealTime, Recovery}
 use Rattle.store.specs.Kept.{Kept}
+use Rattle.store.specs.Messages.{stored_bytes}
 use Rattle.matching.specs.Meaning.{Allowed}
 use Rattle.matching.specs.declared.event.Event.{Event}
 use Rattle.venue.specs.Acts.{Act, Take, Void, step_of}
@@ -80,13 +78,6 @@ Loses goes line s (Err f) = (lost_fault line s ≡ Some f) × goes s []
 
 abbrev pub send_fault : Channel → ℕ → ℕ → State → Option GatewayFault
 send_fault ch room line s = option_or (call_fault room line s) (on_fault ch line s)
-
-abbrev pub entry_bytes : Partition → ℕ → Option Entry → List ℕ
-entry_bytes p n o = option_map_or (λ e. report_bytes p n e.report) o []
-
--- the bytes of a report, by its partition and number
-abbrev pub stored_bytes : Kept → Partition → ℕ → List ℕ
-stored_bytes k p n = entry_bytes p n (under (at k p) n)
 
 abbrev pub sent_bytes : Kept → Option (Partition × ℕ) → List ℕ
 sent_bytes k None = []

@@ -4,10 +4,6 @@ use Rattle.answers.specs.Told.{EndTold}
 use Rattle.codes.specs.declared.session.Partition.{Partition}
 use Rattle.gateway.specs.Calls.{send_fault}
 use Rattle.gateway.specs.State.{State, session}
-use Rattle.keyed.specs.Numbers.{under}
-use Rattle.partitions.specs.PerPartition.{at}
-use Rattle.report_messages.specs.Told.{ReportTold}
-use Rattle.reports.specs.declared.report.Entry.{Entry}
 use Rattle.sessions.specs.Downloads.{recovered}
 use Rattle.sessions.specs.Sending.{next_to_send}
 use Rattle.sessions.specs.Sessions.{download}
@@ -15,15 +11,9 @@ use Rattle.sessions.specs.declared.download.HandedOut.{HandedOut}
 use Rattle.sessions.specs.declared.download.HandedOut.TheVariants.{Report, Ended}
 use Rattle.sessions.specs.declared.session.Channel.TheVariants.{RealTime, Recovery}
 use Rattle.store.specs.Kept.{Kept}
+use Rattle.store.specs.Messages.{StoredTold}
 
--- a report, if it is there, is read from its bytes under its partition and number
-abbrev pub EntryTold : Partition → ℕ → Option Entry → Type 0
-EntryTold p n None = Unit {0}
-EntryTold p n (Some e) = ReportTold p n e.report
-
-abbrev pub StoredTold : Kept → Partition → ℕ → Type 0
-StoredTold k p n = EntryTold p n (under (at k p) n)
-
+-- a stored report that is sent is read from its bytes
 abbrev pub SentTold : Kept → Option (Partition × ℕ) → Type 0
 SentTold k None = Unit {0}
 SentTold k (Some (p, n)) = StoredTold k p n

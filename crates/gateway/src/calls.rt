@@ -2,13 +2,14 @@
 ghost use Rattle.std.specs.Prelude.{◌≡◌, ◌<◌, ◌≤◌, length, Some};
 ghost use Rattle.wire.specs.declared.message.TheConstants.{BUFFER};
 ghost use Rattle.report_messages.specs.Sent.{Sent};
-ghost use Rattle.gateway.specs.Calls.{Steps, Undoes, Loses, Sends, Recovers, stored_bytes};
+ghost use Rattle.gateway.specs.Calls.{Steps, Undoes, Loses, Sends, Recovers};
 ghost use Rattle.gateway.specs.Doing.{Comes, Stays};
 ghost use Rattle.gateway.specs.Hearing.{Hears};
 ghost use Rattle.gateway.specs.State.{venue_of};
-ghost use Rattle.gateway.specs.Telling.{RecoverTold, SendTold, StoredTold};
+ghost use Rattle.gateway.specs.Telling.{RecoverTold, SendTold};
 ghost use Rattle.requests.specs.Deciding.{spare};
 ghost use Rattle.sessions.specs.declared.session.Channel.TheVariants.{RealTime, Recovery};
+ghost use Rattle.store.specs.Messages.{StoredTold, stored_bytes};
 ghost use Rattle.venue.specs.Telling.{Told};
 
 use crate::fault::{GatewayFault, SessionFault};
@@ -19,7 +20,6 @@ use configuration::participant::Participant;
 use limits::TRADES;
 use matching::matcher::Matcher;
 use matching::midpoint::MidpointRefusal;
-use report_messages::sending::write_report;
 use sessions::download::HandedOut;
 use sessions::session::Channel;
 use store::Store;
@@ -112,16 +112,13 @@ impl<M: Matcher, S: Store> Gateway<M, S> {
         Ok(())
     }
 
-    // Writes the report of a number to the front of the buffer.
+    // Writes the message of the report of a number to the front of the buffer, as the store keeps it.
     fn write_stored(&self, partition: Partition, number: u32, out: &mut [u8]) -> usize
         requires room { BUFFER ≤ length out.old }
         ensures sent { Sent (stored_bytes self.now.state.venue.kept partition number) out.old out.new result }
         ensures told { StoredTold self.now.state.venue.kept partition number }
     {
-        match self.venue.store().read(partition, number) {
-            Some(entry) => write_report(partition, number, entry.report, out),
-            None => 0,
-        }
+        self.venue.store().write_message(partition, number, out)
     }
 
     /// Hands out the next report of the line's CompID on its real-time channel: its bytes, at the front of `out`, and

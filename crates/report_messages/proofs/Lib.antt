@@ -2,3 +2,4 @@ pub mod Takes
 pub mod Texts
 pub mod Told
 pub mod Heard
+pub mod Known

@@ -10,6 +10,7 @@ use codes::session::Partition;
 use limits::REPORTS;
 use partitions::per_partition::PerPartition;
 use partitions::series::{Series, total};
+use report_messages::sending::write_report;
 use reports::report::Entry;
 use std::alloc::{AllocError, Global};
 
@@ -61,6 +62,14 @@ impl Store for Records {
 
     fn read(&self, partition: Partition, number: u32) -> Option<Entry> {
         self.reports.at(partition).item(number)
+    }
+
+    #[tactic(auto, using(crate::proofs::Fits::number_fits))]
+    fn write_message(&self, partition: Partition, number: u32, out: &mut [u8]) -> usize {
+        match self.read(partition, number) {
+            Some(entry) => write_report(partition, number, entry.report, out),
+            None => 0,
+        }
     }
 
     fn next(&self, partition: Partition, owner: usize, above: u32) -> Option<u32> {

@@ -1,9 +1,9 @@
 -- What is told from a message's contents is what the message tells. Assumes nothing.
-use Rattle.std.proofs.Common.{◌≡◌, ℕ, cond, List, [], ◌++◌, length, take, drop, replicate, Some, None, Ok, Option, refl, sym, ap, ◌∙◌, subst, arith, le-leb}
+use Rattle.std.proofs.Common.{◌≡◌, ℕ, cond, List, [], length, replicate, Some, None, Ok, Option, refl, sym, ap, ◌∙◌, subst, arith, le-leb}
 use Rattle.std.specs.Option.{unwrap_or, is_some, option_and_then, option_map}
 use Rattle.std.proofs.Math.Path.{fun_ext}
 use Rattle.std.proofs.lemmas.Bool.{and_from, cond-true}
-use Rattle.std.proofs.lemmas.List.{length-take-le, take_at}
+use Rattle.std.proofs.lemmas.List.{length-take-le}
 use Rattle.std.proofs.lemmas.List.Sums.{prefix_len-le-length}
 use Rattle.std.specs.List.{prefix_len}
 use Rattle.codes.specs.Order.{sides, side_code, books, book_code}
@@ -40,7 +40,6 @@ use Rattle.texts.proofs.Kept.{fixed_same}
 use Rattle.texts.proofs.Padding.{padded-said, said_printable}
 use Rattle.layout.specs.declared.fault.Fault.{Fault}
 use Rattle.layout.specs.declared.fault.Fault.TheVariants as fault
-use Rattle.layout.specs.declared.field.Field.{Field}
 use Rattle.layout.specs.Layout.{Says, value_of}
 use Rattle.layout.specs.Writing.{header, encode}
 use Rattle.layout.proofs.Values.{all_got, value_back}
@@ -61,6 +60,7 @@ use Rattle.reports.specs.declared.report.Report.{Report}
 use Rattle.reports.specs.declared.report.Report.TheVariants as report
 use Rattle.report_messages.specs.Back.{answer_in, execution_with, report_in, sent_for}
 use Rattle.report_messages.specs.Telling.{told_as, kind_told, report_bytes}
+use Rattle.report_messages.specs.Told.{ReportTold}
 use Rattle.report_messages.proofs.Takes.{follower_takes}
 use Rattle.wire_store.specs.Fitted.{fit, fitted}
 use Rattle.wire_store.specs.Told.{decoded, executed_from, execution_from, nothing_told, told_from, told_in}
@@ -212,14 +212,11 @@ module _ (p : Partition) (n : ℕ) (r : Report) (m : Message) (k : kind_of m ≡
       let l = t.2 in
       (o, ap (after_opening (written m)) o ∙ ap (λ x. option_map (λ at. fault.Field at) x) t.0, t.1, omega arith)
 
-  pub given_back : report_in m ≡ Some r → decoded (report_bytes p n r) ≡ r
+  given_back : report_in m ≡ Some r → decoded (report_bytes p n r) ≡ r
   given_back e =
       let a = read_again in
       ap decoded (sym (report_is p n r m k c)) ∙ told_by (written m) m a.1 a.0 a.2
       ∙ ap (λ o. unwrap_or o nothing_told) e
 
-  pub whole : (total : ℕ) (before after : List ℕ) → total ≡ total_of (kind_of m) → after ≡ written m
-      ++ drop total before → take total after ≡ report_bytes p n r
-  whole total before after t w =
-      let a = read_again in
-      ap (take total) w ∙ take_at (written m) (drop total before) total (a.3 ∙ sym t) ∙ report_is p n r m k c
+pub told_back : (p : Partition) (n : ℕ) (r : Report) → ReportTold p n r → decoded (report_bytes p n r) ≡ r
+told_back p n r t = given_back p n r t.message t.holds.kind t.holds.contents t.held t.holds.report

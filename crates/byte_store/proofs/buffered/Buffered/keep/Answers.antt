@@ -3,9 +3,12 @@ use Rattle.std.proofs.lemmas.Bool.{cond-true}
 use Rattle.partitions.specs.PerPartition.{at, with_at}
 use Rattle.partitions.specs.Series.{total, grown, mapped}
 use Rattle.partitions.proofs.Totals.{total_grown}
-use Rattle.byte_store.specs.Places.{entry_in, all_within}
+use Rattle.report_messages.specs.Telling.{report_bytes}
+use Rattle.byte_store.specs.Places.{entry_in, all_within, filed}
 use Rattle.byte_store.proofs.Messages.{log_more}
 use Rattle.byte_store.proofs.Parts.{kept_grown, within_grown}
+use Rattle.byte_store.proofs.Tellings.{told_grown}
+use Rattle.byte_store.specs.Views.{kept_in}
 use Rattle.byte_store.proofs.buffered.Buffered.keep.Goals as goal
 
 pub invariant_of-self : goal.invariant_of-self
@@ -34,8 +37,9 @@ invariant_of-self g c =
       few = omega arith;
       inside = λ q. ap (λ ps. all_within (vec_len c.extend_from_slice.new.self) (at ps q)) e ∙ within_grown
           (vec_len s.buffer) _ s.places p x s.inside (omega arith) (omega arith) q;
-      logged = log_more g.C.Codec.coded _ _ bs _ _ _ _ p x (d bs) s.logged c.requires.coded items start
+      logged = log_more report_bytes _ _ bs _ _ _ _ p x (d bs) s.logged c.requires.coded items start
           c.requires.len e kept;
+      told = told_grown (kept_in s) _ p (filed x.owner (d bs)) s.told kept c.requires.told;
     }
 
 pub returns-clause-kept : goal.returns-clause-kept
