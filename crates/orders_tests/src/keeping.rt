@@ -1,4 +1,4 @@
-// A store that fills up.
+// A store that fills up, and what it hands out.
 use codes::session::Partition;
 use limits::MESSAGE_BYTES;
 use refusals::Refusal;
@@ -59,6 +59,21 @@ fn numbers_and_owners<S: Store>(store: &mut S) -> Result<(), Fail> {
     Ok(())
 }
 
+// The same message of each number, with the same bytes behind it, and nothing where there is no report.
+fn same_messages<S: Store, T: Store>(one: &S, other: &T) -> Result<(), Fail> {
+    for partition in [Partition::One, Partition::Two, Partition::Three] {
+        for number in 0..4 {
+            let mut here = [7; 2 * MESSAGE_BYTES];
+            let mut there = [7; 2 * MESSAGE_BYTES];
+            let len = one.write_message(partition, number, &mut here);
+            same(len == 0, number == 0 || number > one.last(partition))?;
+            same(other.write_message(partition, number, &mut there), len)?;
+            same(here == there, true)?;
+        }
+    }
+    Ok(())
+}
+
 #[test]
 fn records_keep(rt: HostRuntime) -> Result<(), Fail> {
     let mut store = Records::new(rt.alloc(), 3)?;
@@ -85,4 +100,13 @@ fn wire_bytes_keep(rt: HostRuntime) -> Result<(), Fail> {
     assert_eq!(rt; store.places(), 1);
     drop(store);
     kept
+}
+
+#[test]
+fn both_hand_out_the_same(rt: HostRuntime) -> Result<(), Fail> {
+    let mut records = Records::new(rt.alloc(), 3)?;
+    let mut bytes = wire_store::new(rt.alloc(), 3 * MESSAGE_BYTES)?;
+    numbers_and_owners(&mut records)?;
+    numbers_and_owners(&mut bytes)?;
+    same_messages(&records, &bytes)
 }
