@@ -3,7 +3,7 @@ use Rattle.std.specs.Prelude.{◌≡◌, ℕ, Bool, true, false, not, ◌&&◌, 
 use Rattle.orders.specs.declared.row.Row.{Row}
 use Rattle.orders.specs.Rows.{is_open, orderable}
 use Rattle.refusals.specs.declared.Refusal.{Refusal}
-use Rattle.refusals.specs.declared.Refusal.TheVariants.{NotOpen, BadTerms, NotAboveExecuted}
+use Rattle.refusals.specs.declared.Refusal.TheVariants.{NotOpen, BadTerms}
 
 -- a change that is made exactly where it is allowed, and what it then makes of the row
 abbrev pub Makes : Bool → Row → Option Row → Type 0
@@ -21,8 +21,7 @@ undoable q r = nat_lt 0 q && nat_le q r.executed
 abbrev pub replace_fault : ℕ → Row → Option Refusal
 replace_fault q r =
     if not (is_open r) then Some NotOpen
-    else if not (orderable q) then Some BadTerms
-    else if nat_le q r.executed then Some NotAboveExecuted else None
+    else if not (orderable q) then Some BadTerms else None
 
 abbrev pub Replaces : Option Refusal → Row → Result Row Refusal → Type 0
 Replaces fault after (Ok r) = (fault ≡ None) × (r ≡ after)

@@ -1,6 +1,6 @@
 // An order whose figures agree, its five changes and its status.
 ghost use Rattle.std.specs.Prelude.{◌≡◌, ◌+◌, ◌≤◌, true, IfSome, IfOk};
-ghost use Rattle.orders.specs.Rows.{balanced, untouched, orderly, orderable, is_open, accepted, replaced, ended, filled, undone, status_of};
+ghost use Rattle.orders.specs.Rows.{balanced, untouched, orderly, orderable, is_open, accepted, in_force, left_open, replaced, ended, filled, undone, status_of};
 ghost use Rattle.orders.specs.declared.row.Row.{Row as Figures};
 
 use crate::row::{Ask, Ending, Row, Terms};
@@ -30,6 +30,13 @@ pub fn is_orderable(quantity: u32) -> bool
     ensures { result ≡ orderable quantity }
 {
     quantity > 0 && quantity <= SHARES
+}
+
+// The quantity that a replacement puts in force: what is asked for, and no less than what is executed.
+fn in_force(executed: u32, asked: u32) -> u32
+    ensures { result ≡ in_force executed asked }
+{
+    executed.max(asked)
 }
 
 impl Row {
@@ -90,13 +97,20 @@ impl Order {
         Some(Order { row })
     }
 
-    /// The order with another quantity, price and client order id. Refused with 26 where it is not open, 22 where the
-    /// quantity is 0 or above 1,000,000,000, and 27 where it is not above what is executed, tried in this order; the
-    /// order is then as it was.
+    /// How many shares a replacement would leave open: none where no more are asked for than are executed.
+    pub fn left_open(self, asked: u32) -> u32
+        ensures { result ≡ left_open self.executed asked }
+    {
+        in_force(self.row.executed, asked) - self.row.executed
+    }
+
+    /// The order with another quantity, price and client order id; nothing of it is open where the quantity is not above
+    /// what is executed. Refused with 26 where the order is not open, and 22 where the quantity is 0 or above
+    /// 1,000,000,000, tried in this order; the order is then as it was.
     pub fn replace(self, ask: Ask) -> Result<Order, Refusal>
         ensures answer { Replaces (replace_fault ask.quantity self) (replaced ask self) result }
-        ensures figures { IfOk result (λ r. (r.ordered ≡ ask.quantity)
-            × (r.leaves + self.executed ≡ ask.quantity)
+        ensures figures { IfOk result (λ r. (r.ordered ≡ in_force self.executed ask.quantity)
+            × (r.leaves + self.executed ≡ r.ordered)
             × (r.executed ≡ self.executed)
             × (r.withdrawn ≡ 0)) }
     {
@@ -107,15 +121,13 @@ impl Order {
         if !is_orderable(ask.quantity) {
             return Err(Refusal::BadTerms);
         }
-        if ask.quantity <= row.executed {
-            return Err(Refusal::NotAboveExecuted);
-        }
+        let ordered = in_force(row.executed, ask.quantity);
         let row = Row {
             client: ask.client,
             price: ask.price,
             display: ask.display,
-            ordered: ask.quantity,
-            leaves: ask.quantity - row.executed,
+            ordered,
+            leaves: ordered - row.executed,
             ..row
         };
         Ok(Order { row })

@@ -43,7 +43,7 @@ fn numbers_and_owners<S: Store>(store: &mut S) -> Result<(), Fail> {
         Some(2),
     )?;
     same(
-        store.append(Partition::One, entry(1, Refusal::NotAboveExecuted)),
+        store.append(Partition::One, entry(1, Refusal::TimeInForceDiffers)),
         Some(1),
     )?;
     same(store.last(Partition::Two), 2)?;

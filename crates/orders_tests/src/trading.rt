@@ -63,16 +63,17 @@ fn undone_after_cancel(rt: HostRuntime) -> Result<(), Fail> {
 }
 
 #[test]
-fn replaced_above_executed(rt: HostRuntime) -> Result<(), Fail> {
+fn replaced_about_executed(rt: HostRuntime) -> Result<(), Fail> {
     let mut table = Table::new(rt.alloc())?;
     let order = traded(&mut table);
     drop(table);
     let order = order?;
     assert_eq!(rt; order.status() as u8, 1);
-    if let Err(refusal) = order.replace(ask(40)) {
-        assert_eq!(rt; refusal.number(), 27);
-    } else {
-        return Err(Fail::new("replaced by what is executed"));
+    for quantity in [10, 40] {
+        let lowered = order.replace(ask(quantity))?;
+        assert_eq!(rt; lowered.row().ordered, 40);
+        assert_eq!(rt; lowered.row().leaves, 0);
+        assert_eq!(rt; lowered.status() as u8, 2);
     }
     let order = order.replace(ask(41))?;
     assert_eq!(rt; order.row().leaves, 1);

@@ -31,13 +31,12 @@ refusal_number refusal.OrdersFull = 23
 refusal_number refusal.MatcherFull = 24
 refusal_number refusal.NoSuchOrder = 25
 refusal_number refusal.NotOpen = 26
-refusal_number refusal.NotAboveExecuted = 27
 refusal_number refusal.TimeInForceDiffers = 28
 
 abbrev pub refusals : List Refusal
 refusals =
     refusal.BookNotServed ∷ refusal.BadTerms ∷ refusal.OrdersFull ∷ refusal.MatcherFull
-    ∷ refusal.NoSuchOrder ∷ refusal.NotOpen ∷ refusal.NotAboveExecuted ∷ refusal.TimeInForceDiffers ∷ []
+    ∷ refusal.NoSuchOrder ∷ refusal.NotOpen ∷ refusal.TimeInForceDiffers ∷ []
 
 -- the refusal of a number, if it is one's
 abbrev pub refusal_of : ℤ → Option Refusal

@@ -39,18 +39,16 @@ pub enum Refusal {
     /// The CompID has no such order, or the request's symbol, side or book is not the order's.
     NoSuchOrder = 25,
     NotOpen = 26,
-    NotAboveExecuted = 27,
     TimeInForceDiffers = 28,
 }
 
-const REFUSALS: [Refusal; 8] = [
+const REFUSALS: [Refusal; 7] = [
     Refusal::BookNotServed,
     Refusal::BadTerms,
     Refusal::OrdersFull,
     Refusal::MatcherFull,
     Refusal::NoSuchOrder,
     Refusal::NotOpen,
-    Refusal::NotAboveExecuted,
     Refusal::TimeInForceDiffers,
 ];
 
@@ -91,7 +89,7 @@ impl RequestRefusal {
 }
 
 impl Refusal {
-    /// The number of the reason: 21 to 28.
+    /// The number of the reason: 21 to 26 or 28.
     pub fn number(self) -> u8
         ensures { result ≡ refusal_number self }
     {

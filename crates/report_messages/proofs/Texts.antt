@@ -61,7 +61,6 @@ refusal_back refusal.OrdersFull = refl
 refusal_back refusal.MatcherFull = refl
 refusal_back refusal.NoSuchOrder = refl
 refusal_back refusal.NotOpen = refl
-refusal_back refusal.NotAboveExecuted = refl
 refusal_back refusal.TimeInForceDiffers = refl
 
 sent_back : (e : Execution Refusal) → sent_for (sent_as e) ≡ Some e
