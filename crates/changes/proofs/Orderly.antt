@@ -4,9 +4,10 @@ use Rattle.std.specs.Prelude.{is_none, nat_le, nat_lt, nat_eq}
 use Rattle.std.proofs.lemmas.Bool.{and_parts, and_from, eqb-true, eq-eqb, ne_eqb, leb-true, le-leb, ltb-true}
 use Rattle.std.proofs.lemmas.Grind.{common_steps}
 use Rattle.limits.specs.declared.TheConstants.{SHARES}
+use Rattle.orders.specs.declared.row.Ask.{Ask}
 use Rattle.orders.specs.declared.row.Row.{Row}
 use Rattle.orders.specs.declared.row.Ending.{Ending}
-use Rattle.orders.specs.Rows.{balanced, untouched, orderly, orderable, is_open}
+use Rattle.orders.specs.Rows.{balanced, untouched, orderly, orderable, is_open, replaced}
 use Rattle.orders.specs.Orders.{replace_fault}
 use Rattle.refusals.specs.declared.Refusal.{Refusal}
 use Rattle.changes.specs.Changes.{where_allowed}
@@ -48,19 +49,23 @@ orderly_from r f =
     and_from (balanced r) (nat_le r.ordered SHARES && untouched r) (eq-eqb _ _ f.sum)
     (and_from (nat_le r.ordered SHARES) (untouched r) (le-leb _ _ f.limit) (rest r.leaves r.withdrawn r.ending f.whole))
 
-refused : (x y z : Bool) (i j k : Refusal)
-    → is_none (cond (not x) (Some i) (cond (not y) (Some j) (cond z (Some k) None))) ≡ true → (x ≡ true) × (y ≡ true)
-    × (z ≡ false)
-refused false y z i j k h = absurd (cc)
-refused true false z i j k h = absurd (cc)
-refused true true true i j k h = absurd (cc)
-refused true true false i j k h = (refl, refl, refl)
+refused : (x y : Bool) (i j : Refusal) → is_none (cond (not x) (Some i) (cond (not y) (Some j) None)) ≡ true
+    → (x ≡ true) × (y ≡ true)
+refused false y i j h = absurd (cc)
+refused true false i j h = absurd (cc)
+refused true true i j h = (refl, refl)
 
--- a quantity that an order can be replaced by
-pub replaceable : (q : ℕ) (r : Row) → is_none (replace_fault q r) ≡ true → (0 < r.leaves) × (r.executed < q)
-    × (q ≤ SHARES)
+-- an order that can be replaced, and a quantity that it can be replaced by
+pub replaceable : (q : ℕ) (r : Row) → is_none (replace_fault q r) ≡ true → (0 < r.leaves) × (q ≤ SHARES)
 replaceable q r h =
-    let p = refused (is_open r) (orderable q) (nat_le q r.executed) _ _ _ h in
-    let l = ltb-true 0 r.leaves p.0 in
-    let o = leb-true q SHARES (and_parts (nat_lt 0 q) (nat_le q SHARES) p.1).1 in
-    (l, grind (arith, common_steps), o)
+    let p = refused (is_open r) (orderable q) _ _ h in
+    (ltb-true 0 r.leaves p.0, leb-true q SHARES (and_parts (nat_lt 0 q) (nat_le q SHARES) p.1).1)
+
+-- the replaced order's figures
+pub replaced_figures : (a : Ask) (r : Row) → orderly r ≡ true → is_none (replace_fault a.quantity r) ≡ true
+    → Figures (replaced a r)
+replaced_figures a r o h =
+    let f = figures r o in
+    let e = replaceable a.quantity r h in
+    let w = f.whole e.0 in
+    record { sum = omega (arith, w.0); limit = omega (arith, e.1, f.sum, f.limit); whole = λ x. w }

@@ -1,12 +1,12 @@
 -- What the changes keep, in words. Assumes nothing.
-use Rattle.std.specs.Prelude.{◌≡◌, ℕ, ◌+◌, ◌<◌, true, List, [], ◌∷◌, Some, None, Ok, Err, Option, Result, IfSome, is_none, is_some, slice_get, sum_by}
+use Rattle.std.specs.Prelude.{◌≡◌, ℕ, ◌+◌, ◌-◌, ◌<◌, Bool, true, false, not, List, [], ◌∷◌, Some, None, Ok, Err, Option, Result, IfSome, is_some, sum_by}
 use Rattle.std.specs.FinMap.{get, insert, len}
-use Rattle.std.specs.List.{filter_map, fold as fold_each, take_while}
-use Rattle.std.specs.Option.{option_map, unwrap_or}
+use Rattle.std.specs.List.{fold as fold_each, take_while}
+use Rattle.std.specs.Option.{option_map}
 use Rattle.codes.specs.declared.session.Partition.{Partition}
 use Rattle.limits.specs.declared.TheConstants.{ORDERS}
 use Rattle.orders.specs.declared.row.Row.{Row}
-use Rattle.orders.specs.Rows.{orderly, status_of}
+use Rattle.orders.specs.Rows.{in_force, orderly, status_of}
 use Rattle.reports.specs.declared.report.ExecutionReport.{ExecutionReport}
 use Rattle.reports.specs.declared.report.Report.TheVariants.{Execution}
 use Rattle.reports.specs.declared.standing.Standing.{Standing}
@@ -60,12 +60,7 @@ abbrev pub Makes : ℕ → List Change → Option Row → Type 0
 Makes n [] b = b ≡ None
 Makes n (c ∷ cs) b = (a : Option Row) × Makes n cs a × (after n c a ≡ b) × (is_some b ≡ true)
 
--- the quantity that a change accepts, that it fills, and that it undoes
-abbrev pub accepted_by : Change → Option ℕ
-accepted_by (Accept t a) = Some a.quantity
-accepted_by (Replace a) = Some a.quantity
-accepted_by c = None
-
+-- how many shares a change fills, and how many it undoes
 abbrev pub filled_by : Change → ℕ
 filled_by (Fill f) = f.quantity
 filled_by c = 0
@@ -74,20 +69,29 @@ abbrev pub undone_by : Change → ℕ
 undone_by (Undo u) = u.quantity
 undone_by c = 0
 
--- the quantity of the newest accept or replace
-abbrev pub last_accepted : List Change → ℕ
-last_accepted cs = unwrap_or (slice_get (filter_map accepted_by cs) 0) 0
-
--- what was undone since
-abbrev pub undone_since : List Change → ℕ
-undone_since cs = sum_by undone_by (take_while (λ c. is_none (accepted_by c)) cs)
-
 -- all that was filled, and all of it that was undone
 abbrev pub all_filled : List Change → ℕ
 all_filled cs = sum_by filled_by cs
 
 abbrev pub all_undone : List Change → ℕ
 all_undone cs = sum_by undone_by cs
+
+-- the quantity last accepted, which is the one put in force: of a replace no less than what was executed by then
+abbrev pub last_accepted : List Change → ℕ
+last_accepted [] = 0
+last_accepted (Accept t a ∷ cs) = a.quantity
+last_accepted (Replace a ∷ cs) = in_force (all_filled cs - all_undone cs) a.quantity
+last_accepted (c ∷ cs) = last_accepted cs
+
+-- whether a change puts a quantity in force
+abbrev pub accepts : Change → Bool
+accepts (Accept t a) = true
+accepts (Replace a) = true
+accepts c = false
+
+-- what was undone since
+abbrev pub undone_since : List Change → ℕ
+undone_since cs = sum_by undone_by (take_while (λ c. not (accepts c)) cs)
 
 pub record Conserved (cs : List Change) (r : Row) : Type 0 where
   pub accepted : last_accepted cs ≡ r.executed + r.leaves + r.withdrawn + undone_since cs
