@@ -1,6 +1,6 @@
 -- Every call keeps a venue sound. Assumes nothing.
 use Rattle.std.specs.Prelude.{slice_get, is_none, nat_le, nat_lt}
-use Rattle.std.proofs.Common.{◌≡◌, ℕ, zero, suc, ◌+◌, ◌-◌, ◌<◌, ◌≤◌, ◌⊎◌, Bool, true, false, cond, eqb, List, [], ◌∷◌, ◌++◌, length, Some, None, Ok, Option, inl, inr, is_some, refl, sym, ap, ◌∙◌, subst, arith, ltb-true, lt-ltb}
+use Rattle.std.proofs.Common.{◌≡◌, ℕ, zero, suc, ◌+◌, ◌<◌, ◌≤◌, ◌⊎◌, Bool, true, false, cond, eqb, List, [], ◌∷◌, ◌++◌, length, Some, None, Ok, Option, inl, inr, is_some, refl, sym, ap, ◌∙◌, subst, arith, ltb-true, lt-ltb}
 use Rattle.std.proofs.lemmas.Bool.{and_parts, cond-true, cond-false, cases_eq, le-ltb}
 use Rattle.std.proofs.lemmas.List.Sums.{fold-append, sum_by-cons, sum_by_push}
 use Rattle.std.specs.Option.{option_map}
@@ -16,13 +16,13 @@ use Rattle.keyed.specs.Numbers.{under, put_under}
 use Rattle.keyed.proofs.Keyed.{put-here, put-apart}
 use Rattle.keyed.proofs.Under.{none-some, under-others}
 use Rattle.limits.specs.declared.TheConstants.{ORDERS, SHARES}
-use Rattle.matching.specs.Meaning.{Meaning}
+use Rattle.matching.specs.Meaning.{Meaning, closed, resized, with_order}
 use Rattle.matching.specs.declared.matcher.Held.{Held}
 use Rattle.orders.specs.declared.row.Row.{Row}
 use Rattle.orders.specs.declared.row.Ask.{Ask}
 use Rattle.orders.specs.declared.row.Terms.{Terms}
 use Rattle.orders.specs.declared.row.Ending.{Ending}
-use Rattle.orders.specs.Rows.{is_open, orderable, accepted, ended, replaced}
+use Rattle.orders.specs.Rows.{is_open, orderable, accepted, ended, left_open, replaced}
 use Rattle.orders.specs.Orders.{replace_fault}
 use Rattle.orders.specs.Tables.{open_count}
 use Rattle.orders.proofs.Kept.{kept_at, kept_none}
@@ -321,28 +321,33 @@ module _ (b : Books) (t : Time) (n : ℕ) (a : Ask) (x : Row) (s : Sound b) (was
   pub sound-replaced : Sound (enact t (Alter n (Replace a)) b)
   sound-replaced = sound-changed b t n (Replace a) x (replaced a x) s was replaced-made refl
 
-  -- as many orders are open
-  pub count-replaced : open_count (changed b.instruments t n (Replace a) (ledger_of b)).rows ≡ open_count b.rows
+  -- no more orders are open
+  pub count-replaced : open_count (changed b.instruments t n (Replace a) (ledger_of b)).rows ≤ open_count b.rows
   count-replaced =
       let count = changed-open b.instruments t n (Replace a) (ledger_of b) x (replaced a x) s.recorded was
       replaced-made in
-      let f = replaceable a.quantity x fits in
-      let y = one_open x f.0 in
-      let g = f.1 in
-      let z = one_open (replaced a x) (omega arith) in
+      let y = one_open x (replaceable a.quantity x fits).0 in
+      let z = at_most_one (replaced a x) in
       omega arith
 
-  -- what the matcher is asked for is what it then holds
-  pub held-replaced : option_map (λ (h : Held). record h { quantity = a.quantity - x.executed }) (get b.market.orders n)
-      ≡ open_of (under (changed b.instruments t n (Replace a) (ledger_of b)).rows n)
+  -- what the matcher is set to is what it then holds
+  pub held-replaced : cond (nat_lt 0 (left_open x.executed a.quantity))
+      (resized b.market n (left_open x.executed a.quantity)) (closed b.market n)
+      ≡ with_order b.market n (open_of (under (changed b.instruments t n (Replace a) (ledger_of b)).rows n))
   held-replaced =
-      let f = replaceable a.quantity x fits in
-      let g = f.1 in
+      let q = left_open x.executed a.quantity in
       let holds : get b.market.orders n ≡ Some (held_as x) = s.booked n ∙ ap open_of was ∙ cond-true _ _ _
-      (lt-ltb 0 x.leaves f.0) in
-      ap (option_map (λ (h : Held). record h { quantity = a.quantity - x.executed })) holds
-      ∙ sym (ap open_of (changed-here b.instruments t n (Replace a) (ledger_of b) x (replaced a x) s.recorded was
-      replaced-made) ∙ cond-true _ _ _ (lt-ltb 0 (a.quantity - x.executed) (omega arith)))
+      (lt-ltb 0 x.leaves (replaceable a.quantity x fits).0) in
+      ap (λ o. cond (nat_lt 0 q) (with_order b.market n (option_map (λ (h : Held). record h { quantity = q }) o))
+      (closed b.market n)) holds
+      ∙ joined (nat_lt 0 q)
+      ∙ ap (with_order b.market n) (sym (ap open_of (changed-here b.instruments t n (Replace a) (ledger_of b) x
+      (replaced a x) s.recorded was replaced-made)))
+    where
+      joined : (v : Bool) → cond v (with_order b.market n (Some (held_as (replaced a x)))) (with_order b.market n None)
+          ≡ with_order b.market n (cond v (Some (held_as (replaced a x))) None)
+      joined true = refl
+      joined false = refl
 
 -- ---- a report that touches no order
 

@@ -21,7 +21,7 @@ use Rattle.changes.specs.Changes.{after}
 use Rattle.changes.specs.Telling.{report_of, restated_of}
 use Rattle.changes.specs.Laws.{and_also}
 use Rattle.reports.specs.declared.report.ExecutionReport.{ExecutionReport}
-use Rattle.changes.proofs.Orderly.{figures, orderly_from, allowed, replaceable}
+use Rattle.changes.proofs.Orderly.{figures, orderly_from, allowed, replaced_figures}
 use Rattle.configuration.specs.declared.instrument.Instrument.{Instrument}
 use Rattle.venue.specs.Ledger.{Ledger, ledger, report_count, told_at, told_in, appended, entries_of, changed, rewritten}
 use Rattle.venue.proofs.Recording.{Rewrites}
@@ -75,11 +75,7 @@ pub keeps : (n : ℕ) (c : Change) (b r : Row) → orderly b ≡ true → after 
 keeps n (Accept t a) b r o h = absurd (cc)
 keeps n (Replace a) b r o h =
     let q = allowed (is_none (replace_fault a.quantity b)) _ _ h in
-    let f = figures b o in
-    let e = replaceable a.quantity b q.0 in
-    let w = f.whole e.0 in
-    as_is b (replaced a b) (orderly_from (replaced a b)
-    (record { sum = omega (arith, e.1, w.0); limit = e.2; whole = λ x. w })) refl refl r q.1
+    as_is b (replaced a b) (orderly_from (replaced a b) (replaced_figures a b o q.0)) refl refl r q.1
 keeps n (Withdraw e i) b r o h =
     let q = allowed (nat_lt 0 b.leaves) _ _ h in
     let f = figures b o in

@@ -1,11 +1,12 @@
 -- What can be done to a venue: what each act makes of the books, and what it asks of the matcher. Assumes nothing.
-use Rattle.std.specs.Prelude.{ℕ, ◌+◌, ◌-◌, List, [], ◌∷◌, ◌++◌, length, Some, None, Option}
+use Rattle.std.specs.Prelude.{ℕ, ◌+◌, List, [], ◌∷◌, ◌++◌, length, Some, None, Option}
 use Rattle.codes.specs.declared.session.Partition.{Partition}
 use Rattle.keyed.specs.Numbers.{under, put_under}
-use Rattle.matching.specs.Asked.{Asked, Enter, Cancel, Amend, Next}
+use Rattle.matching.specs.Asked.{Asked, Enter, Cancel, Next}
 use Rattle.matching.specs.Meaning.{happened, opened, with_order}
 use Rattle.matching.specs.declared.event.Event.{Event}
 use Rattle.matching.specs.declared.event.Event.TheVariants as event
+use Rattle.orders.specs.Rows.{left_open}
 use Rattle.orders.specs.Trades.{void}
 use Rattle.orders.specs.declared.row.Ask.{Ask}
 use Rattle.orders.specs.declared.row.Row.{Row}
@@ -17,7 +18,7 @@ use Rattle.texts.specs.declared.values.Price.{Price}
 use Rattle.texts.specs.declared.values.Time.{Time}
 use Rattle.changes.specs.declared.change.Change.{Change}
 use Rattle.changes.specs.declared.change.Change.TheVariants.{Accept, Replace, Withdraw, Fill, Undo}
-use Rattle.venue.specs.Asking.{ticket_of}
+use Rattle.venue.specs.Asking.{set_to, ticket_of}
 use Rattle.venue.specs.Books.{Books, executed_of, open_of}
 use Rattle.venue.specs.Ledger.{Ledger, changed, entered, expired, ledger, report_count}
 use Rattle.venue.specs.Trading.{both_filled, both_undone, trade_of}
@@ -88,7 +89,7 @@ enact t (Void n) b = voided t n (under b.trades n) b
 
 abbrev pub asked_for : ℕ → Change → Option Row → List Asked
 asked_for n (Accept s a) o = []
-asked_for n (Replace a) o = Amend n (a.quantity - executed_of o) a.price ∷ []
+asked_for n (Replace a) o = set_to n (left_open (executed_of o) a.quantity) a.price ∷ []
 asked_for n (Withdraw e c) o = Cancel n ∷ []
 asked_for n (Fill f) o = []
 asked_for n (Undo u) o = []

@@ -1,7 +1,7 @@
 // A venue: the orders, the trades, a matcher and a store of one day, kept in step.
 ghost use Rattle.std.specs.Prelude.{◌≡◌, ◌+◌, ◌<◌, ◌≤◌, ◌∷◌, [], true, is_none, length, None, Some, MatchResult};
 
-use crate::asking::{enter, resize, take_out, ticket_of};
+use crate::asking::{enter, set_to, take_out, ticket_of};
 use crate::ledger::Ledger;
 use crate::step::Step;
 use crate::trading::Deal;
@@ -123,16 +123,17 @@ impl<M: Matcher, S: Store> Venue<M, S> {
             .change(order, &Change::Withdraw(ending, client), time);
     }
 
-    /// Replaces an open order's quantity, price and client order id by a request's.
+    /// Replaces an open order's quantity, price and client order id by a request's; where nothing is left open of it, it
+    /// leaves the matcher.
     pub fn replace(&mut self, order: Order, ask: Ask, time: Time)
         requires there { under self.old.state.rows order.number ≡ Some order }
         requires allowed { is_none (replace_fault ask.quantity order) ≡ true }
         requires spare { open_count self.old.state.rows + 1 ≤ self.old.free }
         ensures { Enacts M.Did time (Alter order.number (Replace ask) ∷ []) self.old self.new }
     {
-        let row = order.row();
-        let quantity = ask.quantity - row.executed;
-        resize(&mut self.matcher, row.number, quantity, ask.price);
+        let number = order.row().number;
+        let quantity = order.left_open(ask.quantity);
+        set_to(&mut self.matcher, number, quantity, ask.price);
         self.ledger.change(order, &Change::Replace(ask), time);
     }
 
