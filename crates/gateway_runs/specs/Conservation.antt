@@ -23,8 +23,8 @@ Made s (d ∷ ds) ms w =
     (x : State) × (now : List Move) × (later : List Move)
     × Moves s d now x × Made x ds later w × (ms ≡ later ++ now)
 
--- for every order: the quantity last accepted, of its New Order or of its last Replace that was taken, is what is
--- executed, open and withdrawn of it, and what was undone since
+-- for every order: the quantity last accepted, which its New Order or its last Replace that was taken put in force, is
+-- what is executed, open and withdrawn of it, and what was undone since
 abbrev pub EachConserved : List Move → State → Type 0
 EachConserved ms w = (n : ℕ) (r : Row) → under w.venue.rows n ≡ Some r → Conserved (of_order n ms) r
 
