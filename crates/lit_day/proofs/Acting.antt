@@ -1,5 +1,6 @@
 -- What is done to a venue over the lit book: the book follows each act. Assumes nothing.
-use Rattle.std.proofs.Common.{◌≡◌, ℕ, ◌+◌, ◌-◌, ◌<◌, true, length, List, [], ◌∷◌, ◌++◌, Some, None, Option, refl, sym, ap, ◌∙◌, subst}
+use Rattle.std.proofs.Common.{◌≡◌, ℕ, ◌+◌, Bool, true, false, cond, length, List, [], ◌∷◌, ◌++◌, Some, None, Option, refl, sym, subst}
+use Rattle.std.specs.Prelude.{nat_lt}
 use Rattle.std.proofs.lemmas.List.{take-append-drop}
 use Rattle.std.specs.List.{AllByRecursion}
 use Rattle.changes.specs.declared.change.Change.{Change}
@@ -9,21 +10,21 @@ use Rattle.keyed.proofs.Looks.{distinct_from}
 use Rattle.keyed.specs.Numbers.{under}
 use Rattle.lit_book.specs.Books.{LitDid, lit}
 use Rattle.lit_book.specs.declared.book.LitBook.{LitBook}
-use Rattle.lit_day.proofs.Finding.{Once, found_has, once, once_in}
+use Rattle.lit_day.proofs.Finding.{Once, once, once_in}
 use Rattle.lit_day.proofs.Mirroring.{accepts_none, enters, replaces, undoes, withdraws}
 use Rattle.lit_day.proofs.Taking.{Apart, taken}
 use Rattle.lit_day.specs.Trading.{Mirrors}
 use Rattle.matching.specs.Asked.{Asked, Asks, Enter, Cancel, Amend, Next}
 use Rattle.order_book.specs.Books.{table}
-use Rattle.order_book.specs.Lists.{order_held, order_in, order_number}
-use Rattle.order_book.specs.Rules.{Lists, order_under}
-use Rattle.order_book.specs.declared.order.Order.{Order}
-use Rattle.orders.specs.Rows.{orderable}
+use Rattle.order_book.specs.Lists.{order_held, order_number}
+use Rattle.order_book.specs.Rules.{Lists, altered, amended, order_under}
+use Rattle.orders.specs.Rows.{left_open, orderable}
 use Rattle.orders.specs.declared.trade.Leg.{Leg}
 use Rattle.orders.specs.declared.trade.Trade.{Trade}
+use Rattle.texts.specs.declared.values.Price.{Price}
 use Rattle.texts.specs.declared.values.Time.{Time}
 use Rattle.venue.specs.Acts.{Act, Open, Alter, Note, Take, Void, asked, asked_all, enact, enact_all, ledger_of, voided}
-use Rattle.venue.specs.Asking.{ticket_of}
+use Rattle.venue.specs.Asking.{set_to, ticket_of}
 use Rattle.venue.specs.Books.{Books, executed_of}
 use Rattle.venue.specs.Ledger.{Ledger}
 use Rattle.venue.specs.Trading.{passive_undone, side_undone}
@@ -37,11 +38,6 @@ pub apart_in : (e : LitBook) → Apart (lit e)
 apart_in e n =
     subst (Once n) (sym (all_of e)) (once n (table e.orders)
     (distinct_from order_number order_held (table e.orders) e.orders.apart))
-
-some_open : (e : LitBook) (n : ℕ) (o : Order) → order_under (lit e) n ≡ Some o → 0 < o.quantity
-some_open e n o h =
-    found_has (λ (x : Order). 0 < x.quantity) n o (table e.orders) e.orders.nonzero
-    (ap (λ (l : List Order). order_in l n) (sym (all_of e)) ∙ h)
 
 -- ---- acts that may be done
 
@@ -68,6 +64,11 @@ Follows b e = Mirrors b.rows (lit e)
 one_asked : (x : Asked) (e e' : LitBook) → Asks LitDid (x ∷ []) e e' → LitDid e x e'
 one_asked x e e' (m, did, same) = subst (LitDid e x) (sym same) did
 
+was_set : (n q : ℕ) (x : Price) (v : Bool) (e e' : LitBook) → LitDid e (cond v (Amend n q x) (Cancel n)) e'
+    → lit e' ≡ cond v (amended (lit e) (order_under (lit e) n) q x) (altered (lit e) n None)
+was_set n q x true e e' d = d
+was_set n q x false e e' d = d
+
 unasked : (b : Books) (e e' : LitBook) → e' ≡ e → Follows b e → Follows b e'
 unasked b e e' same k = subst (Follows b) (sym same) k
 
@@ -76,8 +77,9 @@ alters : (t : Time) (n : ℕ) (c : Change) (b : Books) (e e' : LitBook) → MayA
 alters t n (Accept s a) b e e' may d k =
     unasked (enact t (Alter n (Accept s a)) b) e e' d (accepts_none b.instruments t n s a (ledger_of b) (lit e) k)
 alters t n (Replace a) b e e' may d k =
+    let q = left_open (executed_of (under b.rows n)) a.quantity in
     replaces b.instruments t n a (ledger_of b) (lit e) (lit e') k (once_in n (lit e) (apart_in e n)) may
-    (one_asked (Amend n (a.quantity - executed_of (under b.rows n)) a.price) e e' d) (some_open e' n)
+    (was_set n q a.price (nat_lt 0 q) e e' (one_asked (set_to n q a.price) e e' d))
 alters t n (Withdraw x c) b e e' may d k =
     withdraws b.instruments t n x c (ledger_of b) (lit e) (lit e') k (once_in n (lit e) (apart_in e n))
     (one_asked (Cancel n) e e' d)

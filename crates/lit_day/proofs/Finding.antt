@@ -1,10 +1,8 @@
 -- Who is found under a number, in a book's two lists and after a change of them. Assumes nothing.
-use Rattle.std.proofs.Common.{◌≡◌, ℕ, Bool, true, false, cond, eqb, List, [], ◌∷◌, ◌++◌, Some, None, Option, refl, sym, ap, ◌∙◌, subst}
+use Rattle.std.proofs.Common.{◌≡◌, ℕ, Bool, true, false, cond, eqb, List, [], ◌∷◌, ◌++◌, Some, None, Option, refl, sym, ap, ◌∙◌}
 use Rattle.std.proofs.lemmas.Bool.{cond-false, cond-true, eq-eqb, eqb-true, ne_eqb}
 use Rattle.std.proofs.lemmas.List.{append_assoc}
-use Rattle.std.proofs.lemmas.List.Elements.{All-head, All-tail}
 use Rattle.std.proofs.lemmas.List.Folds.{find-append}
-use Rattle.std.specs.List.{All}
 use Rattle.std.specs.Option.{option_map, option_or}
 use Rattle.keyed.proofs.Under.{none-some}
 use Rattle.keyed.specs.Look.{Distinct, look}
@@ -175,13 +173,3 @@ entered_here b o m e h =
     entered_is b o m
     ∙ ap (λ p. option_or p (cond (eqb o.number m) (Some o) None)) h
     ∙ cond-true (eqb o.number m) _ _ (eq-eqb o.number m e)
-
--- ---- what holds of each order holds of the one that is found
-
-pub found_has : (P : Order → Type 0) (n : ℕ) (o : Order) (xs : List Order) → All P xs → order_in xs n ≡ Some o → P o
-found_has P n o [] h e = none-some o e
-found_has P n o (x ∷ xs) h e = go (eqb x.number n) e (found_has P n o xs (All-tail P x xs h))
-  where
-    go : (b : Bool) → cond b (Some x) (order_in xs n) ≡ Some o → (order_in xs n ≡ Some o → P o) → P o
-    go true k later = let is : x ≡ o = cc in subst P is (All-head P x xs h)
-    go false k later = later k

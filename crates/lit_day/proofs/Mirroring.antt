@@ -1,6 +1,6 @@
 -- What a change makes of an order, the book follows. Assumes nothing.
 use Rattle.std.specs.Prelude.{is_none, nat_lt, not, ◌||◌}
-use Rattle.std.proofs.Common.{◌≡◌, ℕ, zero, suc, ◌+◌, ◌-◌, ◌<◌, ◌≤◌, Bool, true, false, cond, leb, ◌⊎◌, inl, inr, List, [], ◌∷◌, length, Some, None, Option, refl, sym, ap, ◌∙◌, subst, arith}
+use Rattle.std.proofs.Common.{◌≡◌, ℕ, zero, suc, ◌+◌, ◌-◌, ◌<◌, ◌≤◌, Bool, true, false, cond, ◌⊎◌, inl, inr, List, [], ◌∷◌, length, Some, None, Option, refl, sym, ap, ◌∙◌, subst, arith}
 use Rattle.std.proofs.lemmas.Bool.{and_parts, both_ways, cases_eq, cond-false, cond-true, lt-ltb, ltb-true}
 use Rattle.std.proofs.lemmas.Int.{ints}
 use Rattle.std.specs.Option.{option_map}
@@ -20,13 +20,13 @@ use Rattle.order_book.specs.declared.order.Order.{Order}
 use Rattle.lit_day.proofs.Finding.{OnceIn, altered_none, altered_other, altered_some, entered_here, entered_other}
 use Rattle.lit_day.specs.Trading.{Mirrors, as_order, open_order}
 use Rattle.orders.specs.Orders.{fillable, replace_fault, undoable}
-use Rattle.orders.specs.Rows.{accepted, ended, filled, orderable, replaced, undone}
+use Rattle.orders.specs.Rows.{accepted, ended, filled, left_open, orderable, replaced, undone}
 use Rattle.orders.specs.declared.row.Ask.{Ask}
 use Rattle.orders.specs.declared.row.Ending.{Ending}
 use Rattle.orders.specs.declared.row.Row.{Row}
 use Rattle.orders.specs.declared.row.Terms.{Terms}
 use Rattle.refusals.specs.declared.Refusal.{Refusal}
-use Rattle.refusals.specs.declared.Refusal.TheVariants.{NotOpen, BadTerms, NotAboveExecuted}
+use Rattle.refusals.specs.declared.Refusal.TheVariants.{NotOpen, BadTerms}
 use Rattle.terms.specs.Pricing.{pricing_of}
 use Rattle.terms.specs.declared.pricing.Pricing.{Pricing}
 use Rattle.terms.specs.declared.pricing.Pricing.TheVariants.{Limit}
@@ -234,15 +234,15 @@ record Again (n : ℕ) (a : Ask) (r : Row) (b b' : Lists) : Type 0 where
   others : (m : ℕ) → (n ≡ m → ⊥) → order_under b' m ≡ order_under b m
 
 again : (n : ℕ) (a : Ask) (r : Row) (b : Lists) → OnceIn n b → order_under b n ≡ Some (as_order n r)
-    → Again n a r b (amended b (Some (as_order n r)) (a.quantity - r.executed) a.price)
-again n a r b u e = go (goes_back (as_order n r) (a.quantity - r.executed) a.price) refl
+    → Again n a r b (amended b (Some (as_order n r)) (left_open r.executed a.quantity) a.price)
+again n a r b u e = go (goes_back (as_order n r) (left_open r.executed a.quantity) a.price) refl
   where
-    go : (v : Bool) → goes_back (as_order n r) (a.quantity - r.executed) a.price ≡ v
+    go : (v : Bool) → goes_back (as_order n r) (left_open r.executed a.quantity) a.price ≡ v
         → Again n a r b (cond v
-        (entered (altered b n None) (with_limit (with_quantity (as_order n r) (a.quantity - r.executed)) a.price))
-        (altered b n (Some (a.quantity - r.executed))))
+        (entered (altered b n None) (with_limit (with_quantity (as_order n r) (left_open r.executed a.quantity)) a.price))
+        (altered b n (Some (left_open r.executed a.quantity))))
     go true h =
-        let o = with_limit (with_quantity (as_order n r) (a.quantity - r.executed)) a.price in
+        let o = with_limit (with_quantity (as_order n r) (left_open r.executed a.quantity)) a.price in
         record {
           here = entered_here (altered b n None) o n refl (altered_none b n u)
               ∙ ap (λ (z : Pricing). Some (record (as_order n (replaced a r)) { pricing = z }))
@@ -250,77 +250,101 @@ again n a r b u e = go (goes_back (as_order n r) (a.quantity - r.executed) a.pri
           others = λ m ne. entered_other (altered b n None) o m ne ∙ altered_other b n m None ne;
         }
     go false h = record {
-      here = altered_some b n (a.quantity - r.executed)
-          ∙ ap (option_map (λ (x : Order). with_quantity x (a.quantity - r.executed))) e
+      here = altered_some b n (left_open r.executed a.quantity)
+          ∙ ap (option_map (λ (x : Order). with_quantity x (left_open r.executed a.quantity))) e
           ∙ ap (λ (z : Pricing). Some (record (as_order n (replaced a r)) { pricing = z }))
           (same_price r.terms.kind r.price a.price (or_right _ _ h));
-      others = λ m ne. altered_other b n m (Some (a.quantity - r.executed)) ne;
+      others = λ m ne. altered_other b n m (Some (left_open r.executed a.quantity)) ne;
     }
 
-replaceable : (r : Row) (a : Ask) → 0 < r.leaves → orderable a.quantity ≡ true → r.executed < a.quantity
+replaceable : (r : Row) (a : Ask) → nat_lt 0 r.leaves ≡ true → orderable a.quantity ≡ true
     → is_none (replace_fault a.quantity r) ≡ true
-replaceable r a l o x =
-    let more : leb a.quantity r.executed ≡ false = Prim.grind arith in
-    ap (λ b. is_none (cond (not b) (Some NotOpen) (cond (not (orderable a.quantity)) (Some BadTerms)
-    (cond (leb a.quantity r.executed) (Some NotAboveExecuted) None)))) (lt-ltb 0 r.leaves l)
-    ∙ ap (λ b. is_none (cond (not b) (Some BadTerms)
-    (cond (leb a.quantity r.executed) (Some NotAboveExecuted) None))) o
-    ∙ ap (λ b. is_none (cond b (Some NotAboveExecuted) None)) more
+replaceable r a l o =
+    ap (λ b. is_none (cond (not b) (Some NotOpen) (cond (not (orderable a.quantity)) (Some BadTerms) None))) l
+    ∙ ap (λ b. is_none (cond (not b) (Some BadTerms) None)) o
 
-replaced_now : (n : ℕ) (a : Ask) (r : Row) → 0 < r.leaves → orderable a.quantity ≡ true → 0 < a.quantity - r.executed
-    → open_order n (made (Some r) (after n (Replace a) (Some r))) ≡ Some (as_order n (replaced a r))
-replaced_now n a r some may more =
-    ap (λ (b : Bool). open_order n (made (Some r) (where_allowed b (replaced a r))))
-    (replaceable r a some may (omega arith))
-    ∙ cond-true (nat_lt 0 (a.quantity - r.executed)) _ _ (lt-ltb 0 (a.quantity - r.executed) more)
+replaced_now : (n : ℕ) (a : Ask) (r : Row) → nat_lt 0 r.leaves ≡ true → orderable a.quantity ≡ true
+    → open_order n (made (Some r) (after n (Replace a) (Some r))) ≡ open_order n (Some (replaced a r))
+replaced_now n a r some may =
+    ap (λ (b : Bool). open_order n (made (Some r) (where_allowed b (replaced a r)))) (replaceable r a some may)
 
 unreplaced_now : (n : ℕ) (a : Ask) (r : Row) → nat_lt 0 r.leaves ≡ false
     → open_order n (made (Some r) (after n (Replace a) (Some r))) ≡ None
 unreplaced_now n a r h =
-    let later : Option Refusal =
-    cond (not (orderable a.quantity)) (Some BadTerms) (cond (leb a.quantity r.executed) (Some NotAboveExecuted) None) in
+    let later : Option Refusal = cond (not (orderable a.quantity)) (Some BadTerms) None in
     ap (λ (b : Bool). open_order n (made (Some r)
     (where_allowed (is_none (cond (not b) (Some NotOpen) later)) (replaced a r)))) h
     ∙ cond-false (nat_lt 0 r.leaves) _ _ h
 
+-- of which nothing is left open
+gone_now : (n : ℕ) (a : Ask) (o : Option Row) → orderable a.quantity ≡ true
+    → nat_lt 0 (left_open (executed_of o) a.quantity) ≡ false
+    → open_order n (made o (after n (Replace a) o)) ≡ None
+gone_now n a None may h = refl
+gone_now n a (Some r) may h = go (nat_lt 0 r.leaves) refl
+  where
+    go : (v : Bool) → nat_lt 0 r.leaves ≡ v → open_order n (made (Some r) (after n (Replace a) (Some r))) ≡ None
+    go true s = replaced_now n a r s may ∙ cond-false (nat_lt 0 (left_open r.executed a.quantity)) _ _ h
+    go false s = unreplaced_now n a r s
+
+-- the book, once an order is set to what is left open of it
+abbrev pub set_book : ℕ → ℕ → Price → Lists → Lists
+set_book n q x b = cond (nat_lt 0 q) (amended b (order_under b n) q x) (altered b n None)
+
 pub replaces : (is : List Instrument) (t : Time) (n : ℕ) (a : Ask) (l : Ledger) (b b' : Lists)
     → Mirrors l.rows b → OnceIn n b → orderable a.quantity ≡ true
-    → b' ≡ amended b (order_under b n) (a.quantity - executed_of (under l.rows n)) a.price
-    → ((o : Order) → order_under b' n ≡ Some o → 0 < o.quantity)
+    → b' ≡ set_book n (left_open (executed_of (under l.rows n)) a.quantity) a.price b
     → Mirrors (changed is t n (Replace a) l).rows b'
-replaces is t n a l b b' k u may f some = by_row (under l.rows n) refl
+replaces is t n a l b b' k u may f = by_left (nat_lt 0 (left_open (executed_of (under l.rows n)) a.quantity)) refl
   where
-    unmoved : open_order n (made (under l.rows n) (after n (Replace a) (under l.rows n)))
-        ≡ open_order n (under l.rows n) → open_order n (under l.rows n) ≡ None → Mirrors (changed is t n (Replace a) l).rows b'
-    unmoved same none =
-        let is_same : b' ≡ b = f ∙ ap (λ o. amended b o (a.quantity - executed_of (under l.rows n)) a.price)
-        (k n ∙ none) in
-        subst (Mirrors (changed is t n (Replace a) l).rows) (sym is_same) (stays_by is t n (Replace a) l b k same)
+    amends : nat_lt 0 (left_open (executed_of (under l.rows n)) a.quantity) ≡ true → (o : Option Order) (x : Option Row)
+        → order_under b n ≡ o → under l.rows n ≡ x
+        → b' ≡ amended b o (left_open (executed_of x) a.quantity) a.price
+    amends h o x e r =
+        f ∙ cond-true (nat_lt 0 (left_open (executed_of (under l.rows n)) a.quantity)) _ _ h
+        ∙ ap (λ z. amended b z (left_open (executed_of (under l.rows n)) a.quantity) a.price) e
+        ∙ ap (λ z. amended b o (left_open (executed_of z) a.quantity) a.price) r
 
-    moved : (r : Row) → under l.rows n ≡ Some r → nat_lt 0 r.leaves ≡ true
-        → Mirrors (changed is t n (Replace a) l).rows b'
-    moved r e open_ =
+    unmoved : nat_lt 0 (left_open (executed_of (under l.rows n)) a.quantity) ≡ true
+        → open_order n (made (under l.rows n) (after n (Replace a) (under l.rows n))) ≡ None
+        → open_order n (under l.rows n) ≡ None → Mirrors (changed is t n (Replace a) l).rows b'
+    unmoved h gone none =
+        let same : b' ≡ b = amends h None (under l.rows n) (k n ∙ none) refl in
+        subst (Mirrors (changed is t n (Replace a) l).rows) (sym same)
+        (stays_by is t n (Replace a) l b k (gone ∙ sym none))
+
+    moved : (r : Row) → nat_lt 0 (left_open (executed_of (under l.rows n)) a.quantity) ≡ true
+        → under l.rows n ≡ Some r → nat_lt 0 r.leaves ≡ true → Mirrors (changed is t n (Replace a) l).rows b'
+    moved r h e open_ =
         let there : order_under b n ≡ Some (as_order n r) =
         k n ∙ ap (open_order n) e ∙ cond-true (nat_lt 0 r.leaves) _ _ open_ in
-        let now : b' ≡ amended b (Some (as_order n r)) (a.quantity - r.executed) a.price =
-        f ∙ ap (λ o. amended b o (a.quantity - executed_of (under l.rows n)) a.price) there
-        ∙ ap (λ o. amended b (Some (as_order n r)) (a.quantity - executed_of o) a.price) e in
-        let x = subst (Again n a r b) (sym now) (again n a r b u there) in
-        let more : 0 < a.quantity - r.executed = some (as_order n (replaced a r)) x.here in
+        let x = subst (Again n a r b) (sym (amends h (Some (as_order n r)) (Some r) there e)) (again n a r b u there) in
+        let more : nat_lt 0 (left_open r.executed a.quantity) ≡ true =
+        ap (λ z. nat_lt 0 (left_open (executed_of z) a.quantity)) (sym e) ∙ h in
         follows is t n (Replace a) l b b' k
-        (x.here ∙ sym (replaced_now n a r (ltb-true 0 r.leaves open_) may more)
+        (x.here ∙ sym (replaced_now n a r open_ may
+        ∙ cond-true (nat_lt 0 (left_open r.executed a.quantity)) _ _ more)
         ∙ ap (λ (o : Option Row). open_order n (made o (after n (Replace a) o))) (sym e)) x.others
 
-    by_row : (x : Option Row) → under l.rows n ≡ x → Mirrors (changed is t n (Replace a) l).rows b'
-    by_row None e =
-        unmoved (ap (λ (o : Option Row). open_order n (made o (after n (Replace a) o))) e ∙ sym (ap (open_order n) e))
-        (ap (open_order n) e)
-    by_row (Some r) e = by_leaves (nat_lt 0 r.leaves) refl
+    by_row : (x : Option Row) → nat_lt 0 (left_open (executed_of (under l.rows n)) a.quantity) ≡ true
+        → under l.rows n ≡ x → Mirrors (changed is t n (Replace a) l).rows b'
+    by_row None h e =
+        unmoved h (ap (λ (o : Option Row). open_order n (made o (after n (Replace a) o))) e) (ap (open_order n) e)
+    by_row (Some r) h e = by_leaves (nat_lt 0 r.leaves) refl
       where
         by_leaves : (v : Bool) → nat_lt 0 r.leaves ≡ v → Mirrors (changed is t n (Replace a) l).rows b'
-        by_leaves true h = moved r e h
-        by_leaves false h =
-            let none : open_order n (under l.rows n) ≡ None =
-            ap (open_order n) e ∙ cond-false (nat_lt 0 r.leaves) _ _ h in
-            unmoved (ap (λ (o : Option Row). open_order n (made o (after n (Replace a) o))) e
-            ∙ unreplaced_now n a r h ∙ sym none) none
+        by_leaves true s = moved r h e s
+        by_leaves false s =
+            unmoved h (ap (λ (o : Option Row). open_order n (made o (after n (Replace a) o))) e
+            ∙ unreplaced_now n a r s)
+            (ap (open_order n) e ∙ cond-false (nat_lt 0 r.leaves) _ _ s)
+
+    by_left : (v : Bool) → nat_lt 0 (left_open (executed_of (under l.rows n)) a.quantity) ≡ v
+        → Mirrors (changed is t n (Replace a) l).rows b'
+    by_left true h = by_row (under l.rows n) h refl
+    by_left false h =
+        let gone : b' ≡ altered b n None =
+        f ∙ cond-false (nat_lt 0 (left_open (executed_of (under l.rows n)) a.quantity)) _ _ h in
+        subst (Mirrors (changed is t n (Replace a) l).rows) (sym gone)
+        (follows is t n (Replace a) l b (altered b n None) k
+        (altered_none b n u ∙ sym (gone_now n a (under l.rows n) may h)) (λ m ne. altered_other b n m None ne))

@@ -1,5 +1,5 @@
 -- The acts of a line: each new quantity is one that can be ordered, and none fills an order. Assumes nothing.
-use Rattle.std.specs.Prelude.{nat_le, nat_lt, not}
+use Rattle.std.specs.Prelude.{nat_lt, not}
 use Rattle.std.specs.List.{AllByRecursion}
 use Rattle.std.specs.Option.{option_map_or}
 use Rattle.std.proofs.Common.{◌≡◌, ℕ, Bool, true, false, cond, List, [], ◌∷◌, Some, None, Option, Ok, Err, Result, refl, subst}
@@ -18,7 +18,7 @@ use Rattle.orders.specs.Rows.{is_open, orderable}
 use Rattle.orders.specs.declared.row.Ask.{Ask}
 use Rattle.orders.specs.declared.row.Row.{Row}
 use Rattle.refusals.specs.declared.Refusal.{Refusal}
-use Rattle.refusals.specs.declared.Refusal.TheVariants.{NotOpen, BadTerms, NotAboveExecuted}
+use Rattle.refusals.specs.declared.Refusal.TheVariants.{NotOpen, BadTerms}
 use Rattle.refusals.specs.declared.Turned.{Turned}
 use Rattle.refusals.specs.declared.Turned.TheVariants.{NoPlace}
 use Rattle.requests.specs.Deciding.{Decision, turned_if, with_listing}
@@ -38,14 +38,12 @@ use Rattle.wire.specs.declared.message.Message.TheVariants as message
 -- ---- a Replace asks for a quantity that can be ordered
 
 can_order : (q : ℕ) (r : Row) → replace_fault q r ≡ None → orderable q ≡ true
-can_order q r h = go (is_open r) (orderable q) (nat_le q r.executed) h
+can_order q r h = go (is_open r) (orderable q) h
   where
-    go : (x y z : Bool)
-        → cond (not x) (Some NotOpen) (cond (not y) (Some BadTerms) (cond z (Some NotAboveExecuted) None)) ≡ None
-        → y ≡ true
-    go false y z k = absurd (cc)
-    go true false z k = absurd (cc)
-    go true true z k = refl
+    go : (x y : Bool) → cond (not x) (Some NotOpen) (cond (not y) (Some BadTerms) None) ≡ None → y ≡ true
+    go false y k = absurd (cc)
+    go true false k = absurd (cc)
+    go true true k = refl
 
 module _ (m : OrderCancelReplaceRequest) where
   abbrev Asked : Ask → Type 0
