@@ -44,5 +44,5 @@ Examples =
     -- and a trade with the last of two equals, or with a smaller one, is against the law
     × DarkLastRefused
     × SmallerRefused
-    -- an order of 100 with 40 executed: cancelled and its fill undone; replaced by 40, and by 41
+    -- an order of 100 with 40 executed: cancelled and its fill undone; replaced by 40, by 10, and by 41
     × OrdersWorked

@@ -22,7 +22,22 @@ orders-worked t a =
       back_status = refl;
       done = refl;
       nothing_left = refl;
-      at_executed = refl;
+      at_executed = record {
+        allowed = refl;
+        ordered = refl;
+        left = refl;
+        status = refl;
+        back_ordered = refl;
+        back_open = refl;
+      };
+      below_executed = record {
+        allowed = refl;
+        ordered = refl;
+        left = refl;
+        status = refl;
+        back_ordered = refl;
+        back_open = refl;
+      };
       above_executed = refl;
       one_left = refl;
     }
