@@ -2,8 +2,8 @@
 // order, the same answers and reports, and the same account of each day. The rules are those of docs/RULES.md,
 // docs/PROTOCOL.md, docs/ORDERS.md and docs/MATCHING.md. As there, memory is taken at the start of a day, instruments are
 // found by symbol, orders by Client Order ID, a book's orders by number and by price, and a CompID's reports by owner, each
-// by a scan. Otherwise than there, how many orders are open is counted as they open and end, and a store of wire bytes
-// hands out the bytes that it keeps and reads none of them back.
+// by a scan; how many orders are open is counted as they open and end, and a store of wire bytes hands out the bytes that
+// it keeps.
 //
 // It has the lit book and the tape, over both stores. The dark book, and so the pair of both books, are not here.
 //
