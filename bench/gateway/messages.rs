@@ -1,4 +1,4 @@
-// Messages as bytes: codes, texts, the header, and and how fields are read and written.
+// Messages as bytes: codes, texts, the header, and how fields are read and written.
 // A text is its whole field: nobody here asks where it ends, as the plain reader of ../plain.rs tells.
 
 /// The byte that every message begins with.
