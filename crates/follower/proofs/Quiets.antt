@@ -21,7 +21,7 @@ use Rattle.follower.specs.declared.heard.Heard.TheVariants.{Report, Ack, End, Re
 use Rattle.follower.specs.declared.hold.TheConstants.{HOLD}
 use Rattle.follower.specs.declared.pending.Pending.{Pending}
 use Rattle.follower.specs.declared.side.State.{State}
-use Rattle.follower.specs.declared.side.State.TheVariants.{Level, Behind}
+use Rattle.follower.specs.declared.side.State.TheVariants.{Level, Behind, Overrun}
 use Rattle.follower.specs.declared.stage.Stage.{Stage}
 use Rattle.follower.specs.declared.stage.Stage.TheVariants.{Idle, Asked, Running}
 use Rattle.follower.specs.Numbers.{number_of}
@@ -62,7 +62,8 @@ module _ (f : Following) (u : is_up f ≡ true) where
   live_at : (s : State) (p : Partition) (h : NumberedReport) → Leaves (live_by s f p h)
   live_at Level p h = folds live.Folded p (number_of h) (fold p h.told f.standings)
   live_at (Behind hs) p h =
-      either (nat_lt (length hs) HOLD) (held f p hs h) (overrun f) (up_quiet _ u) (turns f false)
+      either (nat_lt (length hs) HOLD) (held f p hs h) (overrun f p (number_of h)) (up_quiet _ u) (up_quiet _ u)
+  live_at (Overrun n) p h = up_quiet _ u
 
   live_heard : (h : Heard) → Leaves (lived f h)
   live_heard (Report p h) =

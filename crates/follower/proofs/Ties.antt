@@ -18,7 +18,7 @@ use Rattle.follower.specs.declared.heard.Heard.TheVariants.{Report, Ack, End, Re
 use Rattle.follower.specs.declared.hold.TheConstants.{HOLD}
 use Rattle.follower.specs.declared.pending.Pending.{Pending}
 use Rattle.follower.specs.declared.side.State.{State}
-use Rattle.follower.specs.declared.side.State.TheVariants.{Level, Behind}
+use Rattle.follower.specs.declared.side.State.TheVariants.{Level, Behind, Overrun}
 use Rattle.follower.specs.declared.stage.Stage.{Stage}
 use Rattle.follower.specs.declared.stage.Stage.TheVariants.{Idle, Asked, Running}
 use Rattle.follower.specs.Numbers.{number_of}
@@ -45,7 +45,8 @@ module _ (f : Following) where
   live_at : (s : State) (p : Partition) (h : NumberedReport) → On f (live_by s f p h)
   live_at Level p h = on_folded f live.Folded p (number_of h) (fold p h.told f.standings)
   live_at (Behind hs) p h =
-      on_either f (nat_lt (length hs) HOLD) (held f p hs h) (overrun f) (inl refl) (inr refl)
+      on_either f (nat_lt (length hs) HOLD) (held f p hs h) (overrun f p (number_of h)) (inl refl) (inl refl)
+  live_at (Overrun n) p h = inl refl
 
   live_heard : (h : Heard) → On f (lived f h)
   live_heard (Report p h) =

@@ -9,6 +9,7 @@ abbrev pub live_text : Live → List ℕ
 live_text live.Already = codes "already"
 live_text live.Folded = codes "folded"
 live_text live.Held = codes "held"
+live_text live.Passed = codes "passed"
 live_text live.Nothing = codes "nothing"
 
 abbrev pub recovered_text : Recovered → List ℕ

@@ -3,7 +3,7 @@ use Rattle.std.specs.Prelude.{ℕ}
 use Rattle.layout.specs.Faults.{fault_number}
 use Rattle.reports.specs.Fold.{fold_number}
 use Rattle.follower.specs.declared.fault.FollowerFault.{FollowerFault}
-use Rattle.follower.specs.declared.fault.FollowerFault.TheVariants.{Message, Buffer, NotUp, Partition, OutOfTurn, Fold, HoldFull}
+use Rattle.follower.specs.declared.fault.FollowerFault.TheVariants.{Message, Buffer, NotUp, Partition, OutOfTurn, Fold}
 
 abbrev pub follower_number : FollowerFault → ℕ
 follower_number (Message e) = fault_number e
@@ -12,4 +12,3 @@ follower_number NotUp = 50
 follower_number Partition = 51
 follower_number OutOfTurn = 52
 follower_number (Fold e) = fold_number e
-follower_number HoldFull = 54

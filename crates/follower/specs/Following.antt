@@ -1,5 +1,5 @@
 -- What a follower is, and what each of its calls answers and leaves. Assumes nothing.
-use Rattle.std.specs.Prelude.{ℕ, Bool, false, List, ◌∷◌, [], ◌++◌, length, Ok, Err, Result, Some, None, Option, nat_le, nat_lt, if◌then◌else◌}
+use Rattle.std.specs.Prelude.{ℕ, Bool, false, List, ◌∷◌, [], ◌++◌, length, Ok, Err, Result, Some, None, Option, nat_le, nat_lt, max, if◌then◌else◌}
 use Rattle.codes.specs.Session.{same_partition}
 use Rattle.codes.specs.declared.session.Partition.{Partition}
 use Rattle.codes.specs.declared.session.AckResponse.{AckResponse}
@@ -25,13 +25,13 @@ use Rattle.follower.specs.declared.line.Line.{Line}
 use Rattle.follower.specs.declared.line.Line.TheVariants.{Away, Up}
 use Rattle.follower.specs.declared.side.Side.{Side}
 use Rattle.follower.specs.declared.side.State.{State}
-use Rattle.follower.specs.declared.side.State.TheVariants.{Level, Behind}
+use Rattle.follower.specs.declared.side.State.TheVariants.{Level, Behind, Overrun}
 use Rattle.follower.specs.declared.stage.Stage.{Stage}
 use Rattle.follower.specs.declared.stage.Stage.TheVariants.{Idle, Asked, Running}
 use Rattle.follower.specs.Lines.{up_on, stage_on, turned_line}
 use Rattle.follower.specs.Numbers.{number_of}
 use Rattle.follower.specs.Folding.{Reached, reached, caught_up}
-use Rattle.follower.specs.Sides.{new_side, fallen, held_in}
+use Rattle.follower.specs.Sides.{new_side, fallen, held_in, completed_state}
 
 -- what a follower knows of its orders, each partition, and whether it is up, with its download then
 pub record Following : Type 0 where
@@ -85,14 +85,17 @@ held f p hs h =
       sides = with_at f.sides p (record (at f.sides p) { state = Behind (hs ++ h ∷ []) });
     })
 
--- as many are held as there is room for: the one refusal that changes something, as a lost line does
-abbrev pub overrun : Following → Step Live
-overrun f = record { answer = Err fault.HoldFull; after = turned false f }
+-- a report passes: its partition is overrun, with this the highest number that passed
+abbrev pub overrun : Following → Partition → ℕ → Step Live
+overrun f p n =
+    answered live.Passed (record f { sides = with_at f.sides p (record (at f.sides p) { state = Overrun n }) })
 
--- a report above its partition's place: folded where the partition is level, held where it is behind
+-- a report above its partition's place: folded where the partition is level, held where it is behind while there is room;
+-- it passes where there is none, and where the partition is overrun
 abbrev pub live_by : State → Following → Partition → NumberedReport → Step Live
 live_by Level f p h = folded live.Folded f p h
-live_by (Behind hs) f p h = if nat_lt (length hs) HOLD then held f p hs h else overrun f
+live_by (Behind hs) f p h = if nat_lt (length hs) HOLD then held f p hs h else overrun f p (number_of h)
+live_by (Overrun n) f p h = overrun f p (max n (number_of h))
 
 -- the state of the partition that a message is for
 abbrev pub state_for : Following → Heard → Option State
@@ -140,12 +143,13 @@ reported f Idle p h = refused fault.OutOfTurn f
 reported f (Asked q) p h = if same_partition p q then refused fault.OutOfTurn f else refused fault.Partition f
 reported f (Running q) p h = if same_partition p q then recovered_of f p h else refused fault.Partition f
 
--- what was held is folded behind the reports of the download, and the partition is level, unless one is refused
+-- what was held is folded behind the reports of the download, and the partition is level or stays overrun, unless one is
+-- refused
 abbrev pub levelled : Following → Partition → Result Reached FoldRefusal → Step Recovered
 levelled f p (Err e) = refused (fault.Fold e) f
 levelled f p (Ok r) = answered recovered.Ended (record f {
   standings = r.known;
-  sides = with_at f.sides p (record { place = r.place; state = Level });
+  sides = with_at f.sides p (record { place = r.place; state = completed_state (at f.sides p).state r.place });
   line = Up Idle;
 })
 

@@ -5,12 +5,13 @@ ghost use Rattle.follower.specs.Answers.{live_text, recovered_text};
 use std::fmt;
 
 /// What became of a message that came live: its report was folded before, or is folded now, or is held until the
-/// partition is level; or the message is no report.
+/// partition is level; or it passed, and has to be downloaded; or the message is no report.
 #[derive(Clone, Copy, Debug, PartialEq)]
 pub enum Live {
     Already,
     Folded,
     Held,
+    Passed,
     Nothing,
 }
 
@@ -34,6 +35,7 @@ impl Live {
             Live::Already => "already",
             Live::Folded => "folded",
             Live::Held => "held",
+            Live::Passed => "passed",
             Live::Nothing => "nothing",
         }
     }

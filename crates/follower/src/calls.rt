@@ -52,7 +52,8 @@ impl Follower {
     /// Takes a message that came on the real-time channel. Refused with 1 to 5 where the bytes are no message that a
     /// follower reads (by the check of the message that fails), with 50 where it is not up, with 53 where the report
     /// does not fit what is known, with 55 where there is no room for its order: then the follower and the token are
-    /// as they were. Refused with 54 where the hold is full: that acts as `lost`.
+    /// as they were. A report that finds the hold full is not refused: it passes, and the partition is overrun until a
+    /// download has brought all that passed.
     #[tactic(auto, using(crate::proofs::Ties::settled))]
     pub fn live(&mut self, bytes: &[u8], pending: Pending) -> (Result<Live, FollowerFault>, Pending)
         ensures answer { result.0 ≡ (live_step self.old (heard_in bytes.now)).answer }

@@ -27,9 +27,6 @@ pub enum FollowerFault {
     /// The report does not fit what is known, or there is no room for its order.
     #[error("{0}")]
     Fold(FoldRefusal),
-    /// As many reports are held as there is room for; the follower has let them go, and is not up.
-    #[error("no more reports can be held")]
-    HoldFull,
 }
 
 impl FollowerFault {
@@ -44,7 +41,6 @@ impl FollowerFault {
             FollowerFault::Partition => 51,
             FollowerFault::OutOfTurn => 52,
             FollowerFault::Fold(refusal) => refusal.number(),
-            FollowerFault::HoldFull => 54,
         }
     }
 }

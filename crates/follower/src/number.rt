@@ -1,5 +1,5 @@
 // The numbers of reports, as a follower keeps them.
-ghost use Rattle.std.specs.Prelude.{◌≡◌, nat_le};
+ghost use Rattle.std.specs.Prelude.{◌≡◌, max, nat_le};
 ghost use Rattle.follower.specs.Numbers.{stated};
 
 use layout::sequence::LastSequence;
@@ -56,6 +56,16 @@ impl Number {
         ensures { result ≡ nat_le other.now self.now }
     {
         other.value <= self.value
+    }
+
+    /// The higher of the two.
+    pub fn higher(&self, other: &Number) -> Number
+        ensures { result ≡ max self.now other.now }
+    {
+        if other.reaches(self) {
+            return *other;
+        }
+        *self
     }
 
     /// As a request carries it.

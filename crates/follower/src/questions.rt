@@ -44,7 +44,7 @@ impl Follower {
         self.sides.at(partition).place.get()
     }
 
-    /// Whether a partition is level or behind, and with what held.
+    /// Whether a partition is level, behind and with what held, or overrun and how high a number passed.
     pub fn state(&self, partition: Partition) -> &State
         ensures { result.now ≡ (at self.now.sides partition).state }
     {
@@ -58,7 +58,7 @@ impl Follower {
         self.sides.at(partition).state.is_level()
     }
 
-    /// How many reports a partition holds; one that is level holds none.
+    /// How many reports a partition holds; only one that is behind holds any.
     pub fn held(&self, partition: Partition) -> usize
         ensures { result ≡ length (held_in (at self.now.sides partition).state) }
     {

@@ -1,22 +1,24 @@
 // A partition as a follower sees it.
-ghost use Rattle.std.specs.Prelude.{◌≡◌, false, length, is_ok, nat_lt, if◌then◌else◌};
+ghost use Rattle.std.specs.Prelude.{◌≡◌, false, length};
 ghost use Rattle.reports.specs.Known.{known};
-ghost use Rattle.follower.specs.declared.hold.TheConstants.{HOLD};
 ghost use Rattle.follower.specs.Folding.{reached, caught_up, FoldsTo};
-ghost use Rattle.follower.specs.Sides.{new_side, fallen, is_level, held_in, with_more};
+ghost use Rattle.follower.specs.Sides.{new_side, fallen, is_level, held_in, laid, laid_as, completed_state};
 
+use crate::answer::Live;
 use crate::heard::NumberedReport;
 use crate::hold::Hold;
 use crate::number::Number;
 use codes::session::Partition;
 use reports::standings::{FoldRefusal, Standings};
 
-/// Whether a follower has each report of its own in a partition as it comes, or some are still missing before it: then
-/// what comes live is held.
+/// Level: a follower has each report of its own in a partition as it comes. Behind: some are still missing before what
+/// comes live, which is held. Overrun: one more came when the hold was full, so nothing is held any more; what comes live
+/// passes, and of all that passed the highest number is kept.
 #[derive(Drop)]
 pub enum State {
     Level,
     Behind(Hold),
+    Overrun(Number),
 }
 
 /// Its place is the number of the last report folded, 0 at the start.
@@ -33,29 +35,40 @@ impl State {
     {
         match self {
             State::Level => true,
-            State::Behind(_) => false,
+            State::Behind(_) | State::Overrun(_) => false,
         }
     }
 
-    /// How many reports are held; where the partition is level, none.
+    /// How many reports are held; none but where the partition is behind.
     pub fn held(&self) -> usize
         ensures { result ≡ length (held_in self.now) }
     {
         match self {
-            State::Level => 0,
+            State::Level | State::Overrun(_) => 0,
             State::Behind(hold) => hold.len(),
         }
     }
 
-    // Holds one report more, behind the others; where there is no room nothing changes.
-    pub(crate) fn hold(&mut self, report: NumberedReport) -> Result<(), NumberedReport>
+    // Holds a report that came live, behind the others. Where there is no room for it the hold is dropped, and the
+    // report passes, as all do from then on.
+    pub(crate) fn lay(&mut self, report: NumberedReport) -> Live
         requires { is_level self.old ≡ false }
-        ensures test { is_ok result ≡ nat_lt (length (held_in self.old)) HOLD }
-        ensures after { self.new ≡ (if is_ok result then with_more self.old report else self.old) }
+        ensures answer { result ≡ laid_as self.old }
+        ensures after { self.new ≡ laid self.old report }
     {
         match self {
             State::Level => unreachable!(),
-            State::Behind(hold) => hold.push(report),
+            State::Behind(hold) => match hold.push(report) {
+                Ok(()) => Live::Held,
+                Err(_) => {
+                    *self = State::Overrun(report.number());
+                    Live::Passed
+                }
+            },
+            State::Overrun(passed) => {
+                *passed = passed.higher(&report.number());
+                Live::Passed
+            }
         }
     }
 }
@@ -77,6 +90,17 @@ impl Side {
         self.state = State::Behind(Hold::new());
     }
 
+    // Behind a complete download, at its place: level, unless something that passed is above the place.
+    pub(crate) fn complete(&mut self, place: Number)
+        ensures { self.new ≡ record { place = place; state = completed_state self.old.state place } }
+    {
+        self.place = place;
+        match &self.state {
+            State::Overrun(passed) if !place.reaches(passed) => {}
+            _ => self.state = State::Level,
+        }
+    }
+
     // Folds the reports that are held, the first to come first, and says the place that is reached; they stay held.
     pub(crate) fn fold_held(
         &mut self,
@@ -89,7 +113,7 @@ impl Side {
             result (known standings.new) }
     {
         match &mut self.state {
-            State::Level => Ok(self.place),
+            State::Level | State::Overrun(_) => Ok(self.place),
             State::Behind(hold) => hold.fold_into(standings, partition, self.place),
         }
     }

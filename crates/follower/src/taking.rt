@@ -69,19 +69,13 @@ impl Follower {
         Ok(answer)
     }
 
-    // Holds a report of a partition that is behind; where the hold is full, the line counts as lost.
-    fn hold(&mut self, partition: Partition, report: NumberedReport) -> Result<Live, FollowerFault>
+    // A report of a partition that is not level is held, or passes.
+    fn lay(&mut self, partition: Partition, report: NumberedReport) -> Live
         requires { is_level (at self.old.sides partition).state ≡ false }
-        ensures answer { result ≡ (live_by (at self.old.sides partition).state self.old partition report).answer }
+        ensures answer { Ok result ≡ (live_by (at self.old.sides partition).state self.old partition report).answer }
         ensures after { self.new ≡ (live_by (at self.old.sides partition).state self.old partition report).after }
     {
-        match self.sides.at_mut(partition).state.hold(report) {
-            Ok(()) => Ok(Live::Held),
-            Err(_) => {
-                self.turn(false);
-                Err(FollowerFault::HoldFull)
-            }
-        }
+        self.sides.at_mut(partition).state.lay(report)
     }
 
     // A message that came live, by the state of its partition.
@@ -96,8 +90,8 @@ impl Follower {
             (Some(State::Level), Heard::Report(partition, report)) => {
                 self.fold(partition, &report, Live::Folded)
             }
-            (Some(State::Behind(_)), Heard::Report(partition, report)) => {
-                self.hold(partition, report)
+            (Some(State::Behind(_) | State::Overrun(_)), Heard::Report(partition, report)) => {
+                Ok(self.lay(partition, report))
             }
             _ => Ok(Live::Nothing),
         }
@@ -158,7 +152,7 @@ impl Follower {
     }
 
     // The download is complete: what is held is folded behind its reports, in a trial that counts only if none of
-    // them is refused.
+    // them is refused. The download ends also where the partition stays overrun.
     fn complete(&mut self, partition: Partition) -> Result<Recovered, FollowerFault>
         ensures answer { result ≡ (completed self.old partition).answer }
         ensures after { self.new ≡ (completed self.old partition).after }
@@ -166,8 +160,7 @@ impl Follower {
         self.trial.copy_from(&self.standings);
         let side = self.sides.at_mut(partition);
         let place = side.fold_held(&mut self.trial, partition)?;
-        side.place = place;
-        side.state = State::Level;
+        side.complete(place);
         self.standings.copy_from(&self.trial);
         Ok(self.end())
     }
