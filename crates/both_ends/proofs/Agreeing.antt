@@ -18,8 +18,8 @@ use Rattle.both_ends.proofs.Refusals.{refused_stays}
 use Rattle.both_ends.proofs.Requested.{request_long}
 use Rattle.both_ends.proofs.Serves.{quietly, real_time, recovery_given, sends_on, recovers_on}
 use Rattle.both_ends.specs.Agreement.{Agrees, AllTaken, SameOrders, Taken, Takes, HeardAs, Took, is_hers, is_unfit, place, refuses_report}
-use Rattle.both_ends.specs.Allowed.{Allowed, Line, accepted, quiet, behind, after_logon, given_recovery, after_venue, after_up, after_ask, given_live, or_lost, after_call, after_log, onward}
-use Rattle.both_ends.specs.Laws.{is_full, state_of}
+use Rattle.both_ends.specs.Allowed.{Allowed, Line, accepted, quiet, behind, after_logon, given_recovery, after_venue, after_up, after_ask, given_live, after_call, after_log, onward}
+use Rattle.both_ends.specs.Laws.{state_of}
 use Rattle.both_ends.specs.Runs.{Desk, Does, Runs, Tells, moved, fresh}
 use Rattle.both_ends.specs.declared.allowed.Breach.TheVariants.{NoLogon}
 use Rattle.both_ends.specs.declared.opening.Opening.{Opening}
@@ -420,8 +420,7 @@ call_keeps c s d x t (done.Ask n r) w e x' k (h, a, b, q) told sound few ok =
 call_keeps c s d x t (done.Live m r) w e x' k (h, a, q) told sound few ok =
     let sound' = subst (λ (y : State). Sound y.venue) h sound in
     let few' = subst (λ (y : State). length y.venue.rows ≤ ORDERS) h few in
-    let g = given_live_keeps c s d x t sound' few' k m.items (heard_in m.items) refl x'
-    (subst (λ y. or_lost (is_full y) (given_live m.items (heard_in m.items) x) ≡ Ok x') a ok) in (
+    let g = given_live_keeps c s d x t sound' few' k m.items (heard_in m.items) refl x' ok in (
       ap is_unfit a ∙ g.fits,
       subst (λ y. Keeps c y e x' (λ p n. t p n ⊎ Taken r (HeardAs p n (heard_in m.items)))) (sym h)
           (subst (λ y. Keeps c s y x' (λ p n. t p n ⊎ Taken r (HeardAs p n (heard_in m.items)))) (sym q)

@@ -1,5 +1,5 @@
 -- What is under way to a follower, and what it holds: runs of the owner's reports between two marks. Assumes nothing.
-use Rattle.std.proofs.Common.{◌≡◌, ◌≢◌, ◌⊎◌, inl, inr, ℕ, ◌≤◌, max, false, cond, List, [], ◌∷◌, ◌++◌, append_assoc, append-nil, Some, None, Ok, Option, Result, length, pos, refl, sym, ap, ◌∙◌, subst, arith}
+use Rattle.std.proofs.Common.{◌≡◌, ◌≢◌, ◌⊎◌, inl, inr, ℕ, ◌<◌, ◌≤◌, max, false, cond, List, [], ◌∷◌, ◌++◌, append_assoc, append-nil, Some, None, Ok, Option, Result, length, pos, refl, sym, ap, ◌∙◌, subst, arith}
 use Rattle.std.proofs.lemmas.Option.{none-some}
 use Rattle.codes.specs.Session.{same_partition}
 use Rattle.codes.specs.declared.session.Partition.{Partition}
@@ -191,10 +191,12 @@ back p h ms m e = record {
 -- it moves on where no report of the owner is
 pub record Moves (c : ℕ) (l : List Entry) (s s' : ℕ) : Type 0 where
   pub within : s' ≤ length l
+  pub up : s ≤ s'
   pub passed : Passed c l s s'
 
 -- or to the next one
 pub record Sent (c : ℕ) (k : Kept) (sent sent' : PerPartition ℕ) (q : Partition) (n : ℕ) : Type 0 where
+  pub above : at sent q < n
   pub next : Next c (at k q) (at sent q) n
   pub mark : at sent' q ≡ n
   pub others : (p : Partition) → q ≢ p → Moves c (at k p) (at sent p) (at sent' p)

@@ -1,7 +1,7 @@
 -- One download, call by call, and what it makes of both ends. Assumes nothing.
 use Rattle.std.specs.Prelude.{drop, nat_le, nat_lt, take}
 use Rattle.std.proofs.Common.{◌≡◌, ◌≢◌, ◌⊎◌, inl, inr, ℕ, suc, ◌+◌, ◌-◌, ◌<◌, ◌≤◌, Bool, true, false, cond, leb, List, [], ◌∷◌, ◌++◌, Some, None, Ok, Err, Option, Result, IfOk, length, pos, refl, sym, ap, ◌∙◌, subst, arith, Vec, Global}
-use Rattle.std.proofs.lemmas.Bool.{lt-leb, le-leb, leb-true, leb-false, true≢false}
+use Rattle.std.proofs.lemmas.Bool.{cases_lt, lt-leb, le-leb, leb-true, leb-false, true≢false}
 use Rattle.std.proofs.lemmas.List.{get_or-set_same}
 use Rattle.answers.specs.Bytes.{answer_bytes, end_bytes}
 use Rattle.answers.specs.declared.answer.Answer.TheVariants.{Ack as AnsweredAck}
@@ -10,9 +10,10 @@ use Rattle.codes.specs.declared.session.AckResponse.TheVariants.{Successful}
 use Rattle.codes.specs.declared.session.Partition.{Partition}
 use Rattle.codes.specs.declared.session.Partition.TheVariants.{One, Two, Three}
 use Rattle.codes.specs.declared.session.ReportResponse.TheVariants as ending
+use Rattle.both_ends.proofs.Flights.{there_within}
 use Rattle.both_ends.proofs.Granting.{Grants, HandsOut, granted_session, grants, hands_out, recovering_there}
 use Rattle.both_ends.proofs.Heard.{ack_heard, end_heard, report_heard, nothing_heard}
-use Rattle.both_ends.proofs.Levelling.{downloads_level}
+use Rattle.both_ends.proofs.Levelling.{downloads_level, passed_hers}
 use Rattle.both_ends.proofs.Passing.{made_push}
 use Rattle.both_ends.proofs.Requested.{request_long}
 use Rattle.both_ends.proofs.Waiting.{Left, ask_left, asked_bytes, fits_at, given_back, left_none, reached_on, request_left, sends_left, still_at, tied_at}
@@ -34,7 +35,7 @@ use Rattle.follower.specs.Owing.{awaited, owed}
 use Rattle.follower.specs.declared.fault.FollowerFault.{FollowerFault}
 use Rattle.follower.specs.declared.pending.Pending.{Pending}
 use Rattle.follower.specs.Folding.{Reached as Folded_to, reached, caught_up}
-use Rattle.follower.specs.Sides.{held_in}
+use Rattle.follower.specs.Sides.{held_in, completed_state}
 use Rattle.follower.specs.declared.line.Line.TheVariants as connected
 use Rattle.follower.specs.Following.{Following, Step, download_of, is_up, answered, refused, folded, folded_to, acked, ended, ended_of, levelled, no_download, recovered_of, recovered_step, recovering, reported}
 use Rattle.follower.specs.Hearing.{heard_in}
@@ -46,7 +47,8 @@ use Rattle.follower.specs.declared.heard.Heard.{Heard}
 use Rattle.follower.specs.declared.heard.Heard.TheVariants.{Report, Ack, End}
 use Rattle.follower.specs.declared.heard.NumberedReport.{NumberedReport}
 use Rattle.follower.specs.declared.side.Side.{Side}
-use Rattle.follower.specs.declared.side.State.TheVariants.{Level}
+use Rattle.follower.specs.declared.side.State.{State as Standing}
+use Rattle.follower.specs.declared.side.State.TheVariants.{Level, Behind, Overrun}
 use Rattle.follower.specs.declared.stage.Stage.TheVariants as stage
 use Rattle.gateway.specs.Calls.{recovered_bytes}
 use Rattle.gateway.specs.State.{State, session, with_session}
@@ -120,8 +122,21 @@ module _ (f : Following) (up : is_up f ≡ true) where
     stays_up = refl;
     idle = refl;
     others = by_partition (λ q y. p ≢ q → y ≡ at f.sides q) f.sides p
-        (record { place = r.place; state = Level }) (λ n. absurd (n refl)) (λ q n i. refl);
+        (record { place = r.place; state = completed_state (at f.sides p).state r.place }) (λ n. absurd (n refl))
+        (λ q n i. refl);
   }
+
+  -- where nothing is held the place stays
+  unheld_place : (p : Partition) (n : ℕ) → (at f.sides p).state ≡ Overrun n → download_of f ≡ stage.Running p
+      → (at (recovered_step f (Ok (End ending.Complete))).after.sides p).place ≡ (at f.sides p).place
+  unheld_place p n over d =
+      let now : recovered_step f (Ok (End ending.Complete)) ≡ ended f (stage.Running p) ending.Complete =
+      taken (End ending.Complete) ∙ ap (λ g. ended f g ending.Complete) d in
+      let here = at f.sides p in
+      ap (λ (a : Step Recovered). (at a.after.sides p).place) now
+      ∙ ap (λ hs. (at (levelled f p (caught_up p (reached f.standings here.place) hs)).after.sides p).place) (ap held_in over)
+      ∙ ap (λ (y : Side). y.place)
+      (at_written f.sides p (record { place = here.place; state = completed_state here.state here.place }))
 
   complete_step : (p : Partition) → download_of f ≡ stage.Running p
       → is_unfit (recovered_step f (Ok (End ending.Complete))).answer ≡ false
@@ -223,6 +238,17 @@ some_missed c l a n e f =
     let h : Next c l a (length l) (Some n) = subst (Next c l a (length l)) e (next_owned c l a (length l)) in
     (let z : n ∷ owned l c n (length l) ≡ [] = sym h ∙ f in cc)
 
+-- where none is missed, no number above is the owner's
+none_above : (c : ℕ) (l : List Entry) (a n : ℕ) → a < n → is_of c (under l n) ≡ true → owned l c a (length l) ≡ [] → ⊥
+none_above c l a n lt hers none = by (next_after l c a) (next-lowest l c a) (next_owned c l a (length l))
+  where
+    by : (r : Option ℕ) → Lowest l c a r → Next c l a (length l) (up_to (length l) r) → ⊥
+    by None h x = (let z : false ≡ true = sym (h n lt) ∙ hers in cc)
+    by (Some m) h x =
+        let y : Next c l a (length l) (Some m) =
+        subst (λ b. Next c l a (length l) (cond b (Some m) None)) (le-leb m (length l) (there_within c l m h.1)) x in
+        (let z : m ∷ owned l c m (length l) ≡ [] = sym y ∙ none in cc)
+
 above_in : (c : ℕ) (l : List Entry) (a t : ℕ) (r : Option ℕ) (n : ℕ) → Lowest l c a r → up_to t r ≡ Some n → a < n
 above_in c l a t None n h e = absurd cc
 above_in c l a t (Some m) n h e = by (leb m t) e
@@ -260,9 +286,10 @@ module _ {M Q A : Type 0} (did : M → Asked → M → Type 0) (c : ℕ) where
     pub fits : is_unfit (recovered_step m.desk.follower (heard_in h)).answer ≡ false
     pub reached : Reached (made e.log) e.gateway.state e.desk
     pub clear : IsClear c (made e.log)
-    -- the complete end of a download that runs makes its partition level
+    -- the complete end of a download that runs makes its partition level, or leaves it overrun
     pub level : (p : Partition) → heard_in h ≡ Ok (End ending.Complete) → is_up m.desk.follower ≡ true
-        → download_of m.desk.follower ≡ stage.Running p → state_of e.desk p ≡ Level
+        → download_of m.desk.follower ≡ stage.Running p
+        → state_of e.desk p ≡ completed_state (state_of m.desk p) (place e.desk p)
 
   pub gives : (h : Message) (z : Done) (m e : Ends M Q A) → IsGiven h z → Adds did z m e
       → Reached (made m.log) m.gateway.state m.desk → Left c h (made m.log) → Gives h m e
@@ -613,6 +640,15 @@ module _ {M Q A : Type 0} (did : M → Asked → M → Type 0) (c : ℕ) where
           );
         }
 
+    -- all of the owner's came, and so all that passed
+    reached_passed : (n : ℕ) → state_of e.desk p ≡ Overrun n → missed c s e.desk p ≡ [] → n ≤ place e.desk p
+    reached_passed n over none = elim (cases_lt (place e.desk p) n) [
+      | inr le ↦ le
+      | inl lt ↦
+          let hers = passed_hers c l.reached.0 l.reached.1 (made e.log) s e.desk l.line.0 p n l.reached.2 l.line.1 l.up over in
+          absurd (none_above c reports (place e.desk p) n lt hers none)
+    ]
+
     complete : (mid g : Ends M Q A) (bytes : Message) → Handed e bytes mid.gateway.state (End ending.Complete) None
         → missed c s e.desk p ≡ [] → mid.desk ≡ e.desk → Gives bytes mid g → Downloaded c p b g
     complete mid g bytes out none same gave =
@@ -625,11 +661,23 @@ module _ {M Q A : Type 0} (did : M → Asked → M → Type 0) (c : ℕ) where
               (ap download_of st ∙ done.idle);
           stays = stays mid g bytes h None out same gave done.others;
           brought = inl (
-            gave.level p out.heard (ap (λ (d : Desk). is_up d.follower) same ∙ l.up)
-                (ap (λ (d : Desk). download_of d.follower) same ∙ l.runs),
+            level (state_of e.desk p) refl (gave.level p out.heard (ap (λ (d : Desk). is_up d.follower) same ∙ l.up)
+                (ap (λ (d : Desk). download_of d.follower) same ∙ l.runs)
+                ∙ ap (λ (d : Desk). completed_state (state_of d p) (place g.desk p)) same),
             (let a = l.left in let b = l.few in omega arith),
           );
         }
+      where
+        level : (z : Standing) → state_of e.desk p ≡ z → state_of g.desk p ≡ completed_state z (place g.desk p)
+            → state_of g.desk p ≡ Level
+        level Level is h = h
+        level (Behind hs) is h = h
+        level (Overrun n) is h =
+            let st = step mid g bytes (End ending.Complete) None out same gave in
+            let here : place g.desk p ≡ place e.desk p = ap (λ (j : Following). (at j.sides p).place) st
+            ∙ unheld_place f l.up p n is l.runs in
+            let le : n ≤ place g.desk p = subst (λ i. n ≤ i) (sym here) (reached_passed n is none) in
+            h ∙ ap (λ b. cond b Level (Overrun n)) (le-leb n (place g.desk p) le)
 
     goes_on : (mid g : Ends M Q A) (bytes : Message) → Out bytes mid.gateway.state → mid.desk ≡ e.desk
         → Gives bytes mid g → Loading c p (k + 1) b g ⊎ Downloaded c p b g

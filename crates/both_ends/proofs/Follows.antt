@@ -6,12 +6,11 @@ use Rattle.codes.specs.declared.session.Partition.{Partition}
 use Rattle.codes.specs.declared.session.Partition.TheVariants.{One, Two, Three}
 use Rattle.both_ends.proofs.Carrying.{Front, front, reports_of}
 use Rattle.both_ends.proofs.Marks.{Whole, Load, unloaded, missed, based_anew}
-use Rattle.both_ends.proofs.Given.{same_bytes, Stands, lives, Recovers, acks, failed_acks, rejects, failed_rejects, ends, reports, repeats}
+use Rattle.both_ends.proofs.Given.{same_bytes, Stands, lives, Leaves, acks, failed_acks, rejects, failed_rejects, ends, reports, repeats}
 use Rattle.both_ends.proofs.Keeping.{Only, or_one, Keeps, Phase, Joined, marks_of, place_in, Taking, Channelled, Refuses, Refusing, channelled_on, phase_on, idle_where, unloads, at_unloads, keeps_taken}
 use Rattle.both_ends.proofs.Living.{popped, taken_popped, is_next, with_live, in_front, tallied_as}
 use Rattle.both_ends.specs.Agreement.{is_hers, is_unfit, Taken, HeardAs}
-use Rattle.both_ends.specs.Allowed.{Line, next_of, out_of_turn, next_live, given_live, or_lost, repeated, next_report, next_other, given_recovered}
-use Rattle.both_ends.specs.Laws.{is_full}
+use Rattle.both_ends.specs.Allowed.{Line, next_of, out_of_turn, next_live, given_live, repeated, next_report, next_other, given_recovered}
 use Rattle.both_ends.specs.Runs.{Desk}
 use Rattle.both_ends.specs.Tallied.{Tallied}
 use Rattle.both_ends.specs.declared.allowed.Breach.{Breach}
@@ -221,84 +220,33 @@ module _ (c : ℕ) (s : State) (d : Desk) (x : Line) (t : Taking) (sound : Sound
             }
 
     -- it is up
-    taken_up : is_up f ≡ true → (x' : Line) → or_lost (is_full (lived f (Report p h)).answer) (Ok rest_line) ≡ Ok x'
-        → Goes c s (lived f (Report p h)) x' (or_one t
-        (took (lived f (Report p h)) (Ok (Report p h))))
-    taken_up up x' ok =
+    taken_up : is_up f ≡ true
+        → Goes c s (lived f (Report p h)) rest_line (or_one t (took (lived f (Report p h)) (Ok (Report p h))))
+    taken_up up =
         let r = (up_of c s.venue.kept (session s c) f x t x.connection (k.up ∙ up) k.phase).0 in
         let st = now_up up in
         let g = lived f (Report p h) in
         let only = only_told p h g in
         let nx = is_next c s.venue.kept (session s c) f x rest t p h st.up in_turn in
-        let done = lives c s.venue (session s c) sound few f x rest t (took g (Ok (Report p h))) p h st in_turn only in
-        by r nx.1.hers done.0 done.1
+        let (fits, now) = lives c s.venue (session s c) sound few f x rest t (took g (Ok (Report p h))) p h st in_turn only in
+        record {
+          fits = fits;
+          keeps = λ token. record {
+            up = ap up_in r ∙ sym now.on;
+            quiet = quiet;
+            placed = now.placed;
+            known = now.known;
+            hers = hers_on g nx.1.hers;
+            sound = λ q. sound;
+            few = λ q. few;
+            phase = to_up c s.venue.kept (session s c) g.after rest_line (or_one t (took g (Ok (Report p h))))
+                x.connection r now.up;
+          };
+        }
       where
-        gone : Taking
-        gone = took (lived f (Report p h)) (Ok (Report p h))
-
         quiet : Quiet (lived f (Report p h)).after
         quiet = subst (λ b. Quiet (cond b (lived f (Report p h)) (refused {A = Live} fault.NotUp f)).after) up
             (stays_quiet.lives f (Ok (Report p h)) k.quiet)
-
-        up_after : Following → Type 0
-        up_after g = is_up g ≡ true
-
-        by : x.connection ≡ conn.Up → is_hers c s p (number_of h) ≡ true
-            → is_unfit (lived f (Report p h)).answer ≡ false
-            → ((is_full (lived f (Report p h)).answer ≡ true) × ((lived f (Report p h)).after ≡ turned false f))
-            ⊎ ((is_full (lived f (Report p h)).answer ≡ false)
-            × Stands c s.venue (session s c) (lived f (Report p h)).after rest_line
-            (or_one t gone))
-            → Goes c s (lived f (Report p h)) x' (or_one t gone)
-        by r w fits (inl (full, fell)) =
-            let lx : record rest_line { connection = lost x.connection }
-            ≡ x' = same_ok (record rest_line { connection = lost x.connection }) x' (or_lost true (Ok rest_line)) refl
-            (subst (λ b. or_lost b (Ok rest_line) ≡ Ok x') full ok) in
-            record {
-              fits = fits;
-              keeps = λ token. subst (λ y. Keeps c s
-                  (record { follower = (lived f (Report p h)).after; token = token }) y
-                  (or_one t gone)) lx (record {
-                    up = ap (λ a. up_in (lost a)) r ∙ ap is_up (sym fell);
-                    quiet = quiet;
-                    placed = λ q. subst (λ (g : Following). (place_in g q ≡ 0) ⊎ (is_hers c s q (place_in g q) ≡ true))
-                        (sym fell) (subst (λ z. (z ≡ 0) ⊎ (is_hers c s q z ≡ true)) (sym (turned_places q))
-                        (k.placed q));
-                    known = subst (λ (g : Following). Tallied c s.venue.kept g.standings (place_in g)) (sym fell)
-                        (tallied_as c s.venue.kept f.standings (place_in f)
-                        (place_in (turned false f)) turned_places k.known);
-                    hers = hers_on (lived f (Report p h)) w;
-                    sound = λ q. sound;
-                    few = λ q. few;
-                    phase = to_away c s.venue.kept (session s c) (lived f (Report p h)).after
-                        (record rest_line { connection = lost x.connection })
-                        (or_one t gone) (lost x.connection) (ap lost r);
-                  });
-            }
-          where
-            turned_places : (q : Partition) → place_in (turned false f) q ≡ place_in f q
-            turned_places One = refl
-            turned_places Two = refl
-            turned_places Three = refl
-        by r w fits (inr (room, st)) =
-            let lx : rest_line ≡ x' = same_ok rest_line x' (or_lost false (Ok rest_line)) refl
-            (subst (λ b. or_lost b (Ok rest_line) ≡ Ok x') room ok) in
-            record {
-              fits = fits;
-              keeps = λ token. subst (λ y. Keeps c s
-                  (record { follower = (lived f (Report p h)).after; token = token }) y
-                  (or_one t gone)) lx (record {
-                    up = ap up_in r ∙ sym st.on;
-                    quiet = quiet;
-                    placed = st.placed;
-                    known = st.known;
-                    hers = hers_on (lived f (Report p h)) w;
-                    sound = λ q. sound;
-                    few = λ q. few;
-                    phase = to_up c s.venue.kept (session s c) (lived f (Report p h)).after rest_line
-                        (or_one t gone) x.connection r st.up;
-                  });
-            }
 
   -- what is not the next under way: up, the line does not bring it
   not_next : {X : Type 0} (b : Breach) (l : Line) → is_up f ≡ true → out_of_turn b x ≡ Ok l → X
@@ -316,55 +264,41 @@ module _ (c : ℕ) (s : State) (d : Desk) (x : Line) (t : Taking) (sound : Sound
       by false e g = same_ok x l (Ok x) refl g
       by true e g = absurd cc
 
-  -- a hold that is full breaks nothing
-  still_ok : (z : Bool) (r : Went) (l : Line) → or_lost z r ≡ Ok l → (y : Line) × (r ≡ Ok y)
-  still_ok z (Ok y) l ok = (y, refl)
-  still_ok true (Err b) l ok = ok_err b l (Err b) refl ok
-  still_ok false (Err b) l ok = ok_err b l (Err b) refl ok
-
   -- any message that is given live
-  full_not : (b : Bool) (a : Step Live) → is_full (cond b a (refused fault.NotUp f)).answer ≡ true → b ≡ true
-  full_not true a e = refl
-  full_not false a e = absurd cc
-
   report_live : (m : List ℕ) (p : Partition) (h : NumberedReport) → heard_in m ≡ Ok (Report p h) → (o : Option (List (List ℕ)))
       → next_of m x.live ≡ o → (x' : Line) (b : Bool) → is_up f ≡ b
-      → or_lost (is_full (cond b (lived f (Report p h)) (refused fault.NotUp f)).answer) (next_live o x) ≡ Ok x'
+      → next_live o x ≡ Ok x'
       → Goes c s (cond b (lived f (Report p h)) (refused fault.NotUp f)) x'
       (or_one t (took (cond b (lived f (Report p h)) (refused fault.NotUp f))
       (Ok (Report p h))))
-  report_live m p h heard None e x' true q ok =
-      let (y, g) = still_ok (is_full (lived f (Report p h)).answer) (out_of_turn LiveOutOfTurn x) x' ok in
-      not_next LiveOutOfTurn y q g
+  report_live m p h heard None e x' true q ok = not_next LiveOutOfTurn x' q ok
   report_live m p h heard None e x' false q ok =
       subst (λ y. Goes c s (refused {A = Live} fault.NotUp f) y
       (or_one t (took (refused {A = Live} fault.NotUp f) (Ok (Report p h)))))
       (as_it_was LiveOutOfTurn x' q ok)
       (nothing (refused {A = Live} fault.NotUp f) (took (refused {A = Live} fault.NotUp f) (Ok (Report p h))) refl refl
       (λ i n z. z))
-  report_live m p h heard (Some rest) e x' true q ok = taken_up m p h heard rest (next_is m x.live rest e) q x' ok
+  report_live m p h heard (Some rest) e x' true q ok =
+      subst (λ y. Goes c s (lived f (Report p h)) y (or_one t (took (lived f (Report p h)) (Ok (Report p h)))))
+      (same_ok (record x { live = rest }) x' (Ok (record x { live = rest })) refl ok)
+      (taken_up m p h heard rest (next_is m x.live rest e) q)
   report_live m p h heard (Some rest) e x' false q ok =
       subst (λ y. Goes c s (refused {A = Live} fault.NotUp f) y
       (or_one t (took (refused {A = Live} fault.NotUp f) (Ok (Report p h)))))
       (same_ok (record x { live = rest }) x' (Ok (record x { live = rest })) refl ok)
       (not_up m p h heard rest (next_is m x.live rest e) q)
 
-  not_full : (h : Heard) → lived f h ≡ answered live.Nothing f → (b : Bool)
-      → is_full (cond b (lived f h) (refused fault.NotUp f)).answer ≡ false
-  not_full h e true = ap (λ (a : Step Live). is_full a.answer) e
-  not_full h e false = refl
-
   unheard_live : (h : Heard) → lived f h ≡ answered live.Nothing f → ((p : Partition) (n : ℕ) → HeardAs p n (Ok h) → ⊥)
-      → (x' : Line) → or_lost (is_full (live_step f (Ok h)).answer) (Ok x) ≡ Ok x'
+      → (x' : Line) → ◌≡◌ {A = Went} (Ok x) (Ok x')
       → Goes c s (live_step f (Ok h)) x' (or_one t (took (live_step f (Ok h)) (Ok h)))
   unheard_live h e none x' ok =
       subst (λ y. Goes c s (live_step f (Ok h)) y
       (or_one t (took (live_step f (Ok h)) (Ok h))))
-      (same_ok x x' (or_lost false (Ok x)) refl (subst (λ b. or_lost b (Ok x) ≡ Ok x') (not_full h e (is_up f)) ok))
+      (same_ok x x' (Ok x) refl ok)
       (unheard h e none (is_up f))
 
   pub given_live_keeps : (m : List ℕ) (r : Result Heard Fault) → heard_in m ≡ r → (x' : Line)
-      → or_lost (is_full (live_step f r).answer) (given_live m r x) ≡ Ok x'
+      → given_live m r x ≡ Ok x'
       → Goes c s (live_step f r) x' (or_one t (took (live_step f r) r))
   given_live_keeps m (Err e) heard x' ok =
       subst (λ y. Goes c s (live_step f (Err e)) y
@@ -380,7 +314,7 @@ module _ (c : ℕ) (s : State) (d : Desk) (x : Line) (t : Taking) (sound : Sound
 
   -- where both ends stand after it, and the follower is up still
   gone_on : {y : Line} (a : Step Recovered) (u : Taking) → is_up f ≡ true → y.connection ≡ x.connection
-      → Recovers c s.venue (session s c) sound few a y (or_one t u) → Quiet a.after
+      → Leaves c s.venue (session s c) sound few a y (or_one t u) → Quiet a.after
       → ((p : Partition) (n : ℕ) → u p n → is_hers c s p n ≡ true)
       → Goes c s a y (or_one t u)
   gone_on {y} a u up eu (fits, st) quiet hers = record {
@@ -487,14 +421,14 @@ module _ (c : ℕ) (s : State) (d : Desk) (x : Line) (t : Taking) (sound : Sound
 
   -- what comes of something that is no report and the next under way
   abbrev Others : Heard → List (List ℕ) → Taking → Type 0
-  Others h rest w = Recovers c s.venue (session s c) sound few (recovering f h)
+  Others h rest w = Leaves c s.venue (session s c) sound few (recovering f h)
       (record x { recovered = rest; again = [] }) (or_one t w)
 
   -- what is no report comes next
   other_came : (m : List ℕ) (h : Heard) → ((p : Partition) (n : ℕ) → HeardAs p n (Ok h) ≡ ⊥)
       → ((u : UpNow) (rest : List (List ℕ)) (w : Taking) → x.recovered ≡ m ∷ rest
       → ((p : Partition) (n : ℕ) → w p n → ⊥)
-      → Recovers c s.venue (session s c) sound few (recovering f h) (record x { recovered = rest; again = [] })
+      → Leaves c s.venue (session s c) sound few (recovering f h) (record x { recovered = rest; again = [] })
       (or_one t w))
       → (o : Option (List (List ℕ))) → next_of m x.recovered ≡ o → (x' : Line) → next_other o x ≡ Ok x' → (b : Bool)
       → is_up f ≡ b
@@ -539,7 +473,7 @@ module _ (c : ℕ) (s : State) (d : Desk) (x : Line) (t : Taking) (sound : Sound
     told = Report p h
 
     abbrev Told : Line → Type 0
-    Told y = Recovers c s.venue (session s c) sound few (recovering f told) y
+    Told y = Leaves c s.venue (session s c) sound few (recovering f told) y
         (or_one t (took (recovering f told) (Ok told)))
         × (is_hers c s p (number_of h) ≡ true)
 

@@ -3,7 +3,7 @@ use Rattle.std.specs.Prelude.{nat_lt}
 use Rattle.std.specs.List.{list_any}
 use Rattle.std.specs.Str.{bytes_eq}
 use Rattle.std.proofs.Common.{◌≡◌, ◌≢◌, ◌⊎◌, inl, inr, ℕ, ◌<◌, ◌≤◌, max, Bool, true, false, cond, ◌||◌, leb, List, [], ◌∷◌, ◌++◌, None, Ok, length, refl, sym, ap, ◌∙◌, subst, arith}
-use Rattle.std.proofs.lemmas.Bool.{leb-true, leb-false, le-leb}
+use Rattle.std.proofs.lemmas.Bool.{cases_lt, leb-true, leb-false, le-leb}
 use Rattle.std.proofs.lemmas.Slice.Eq.{bytes_eq-Decides}
 use Rattle.codes.specs.declared.session.AckResponse.{AckResponse}
 use Rattle.codes.specs.declared.session.AckResponse.TheVariants.{Successful, LimitReached, InvalidAppId, ServiceUnavailable}
@@ -11,19 +11,18 @@ use Rattle.codes.specs.declared.session.Partition.{Partition}
 use Rattle.codes.specs.declared.session.ReportResponse.{ReportResponse}
 use Rattle.codes.specs.declared.session.ReportResponse.TheVariants as ending
 use Rattle.both_ends.proofs.Carrying.{Run, Front, reports_of, Delivery, OfPart, Over, same_heard, heard_apart, run_down, delivery_part, delivery_next, delivery_over, delivery_other}
-use Rattle.both_ends.proofs.Marks.{Whole, SidedBy, Load, Loaded, Known, AllKnown, reloaded, load_next, load_came, levelled_to}
+use Rattle.both_ends.proofs.Marks.{Whole, SidedBy, Load, Loaded, Known, AllKnown, held_to, reloaded, load_next, load_came, completed_to}
 use Rattle.both_ends.proofs.Flights.{Passed, next_up, next_down}
 use Rattle.both_ends.proofs.Keeping.{Only, or_one, Staged, Channelled, NoneRuns, Refusing, Refuses, Taking, Joined, marks_of, place_in, opened, line_is}
-use Rattle.both_ends.proofs.Living.{Placed, after_fold, moves, joined_folded, is_next, joined_passed, with_hold, hold_places, joined_held, tallied_as, reaches}
+use Rattle.both_ends.proofs.Living.{Placed, after_fold, moves, joined_folded, is_next, joined_passed, with_state, state_places, joined_held, joined_overrun, tallied_as, reaches}
 use Rattle.both_ends.specs.Agreement.{is_unfit}
 use Rattle.both_ends.specs.Allowed.{Line}
 use Rattle.both_ends.specs.declared.opening.Opening.TheVariants.{Open, Failed}
-use Rattle.both_ends.specs.Laws.{is_full}
 use Rattle.both_ends.specs.Tallied.{Tallied}
-use Rattle.follower.specs.Following.{Following, is_up, download_of, Step, turned, answered, refused, folded, folded_to, held as held_step, overrun, live_by, lived, no_download, acked, acked_of, recovered_of, reported, levelled, completed, ended, ended_of, rejected}
+use Rattle.follower.specs.Following.{Following, is_up, download_of, Step, answered, refused, folded, folded_to, held as held_step, overrun, live_by, lived, no_download, acked, acked_of, recovered_of, reported, levelled, completed, ended, ended_of, rejected}
 use Rattle.follower.specs.Hearing.{heard_in}
 use Rattle.follower.specs.Numbers.{number_of}
-use Rattle.follower.specs.Sides.{held_in}
+use Rattle.follower.specs.Sides.{held_in, completed_state}
 use Rattle.follower.specs.declared.answer.Live.{Live}
 use Rattle.follower.specs.declared.answer.Live.TheVariants as live
 use Rattle.follower.specs.declared.answer.Recovered.{Recovered}
@@ -35,7 +34,7 @@ use Rattle.follower.specs.declared.heard.NumberedReport.{NumberedReport}
 use Rattle.follower.specs.declared.hold.TheConstants.{HOLD}
 use Rattle.follower.specs.declared.side.Side.{Side}
 use Rattle.follower.specs.declared.side.State.{State as Standing}
-use Rattle.follower.specs.declared.side.State.TheVariants.{Level, Behind}
+use Rattle.follower.specs.declared.side.State.TheVariants.{Level, Behind, Overrun}
 use Rattle.follower.specs.declared.line.Line.TheVariants.{Up}
 use Rattle.follower.specs.declared.stage.Stage.{Stage}
 use Rattle.follower.specs.declared.stage.Stage.TheVariants.{Idle, Asked, Running}
@@ -61,15 +60,20 @@ pub record Stands (c : ℕ) (v : Books) (s : Session) (f : Following) (x : Line)
   pub placed : Placed c v.kept (place_in f)
   pub up : Joined c v.kept s f x t
 
-module _ (c : ℕ) (v : Books) (s : Session) (sound : Sound v) (few : length v.rows ≤ ORDERS) where
-  -- ---- the real-time channel
+-- the higher of two numbers of an owner's reports is one
+hers_higher : (c : ℕ) (l : List Entry) (a b : ℕ) → is_of c (under l a) ≡ true → is_of c (under l b) ≡ true
+    → is_of c (under l (max a b)) ≡ true
+hers_higher c l a b ha hb = elim (cases_lt a b) [
+  | inl lt ↦ subst (λ n. is_of c (under l n) ≡ true) (let e : b ≡ max a b = omega (arith, lt) in e) hb
+  | inr le ↦ subst (λ n. is_of c (under l n) ≡ true) (let e : a ≡ max a b = omega (arith, le) in e) ha
+]
 
-  -- what a live report answers and leaves: the hold was full, or all stands as before
-  abbrev pub Lives : Following → Step Live → Line → Taking → Type 0
-  Lives f a x t =
-      (is_unfit a.answer ≡ false)
-      × (((is_full a.answer ≡ true) × (a.after ≡ turned false f))
-      ⊎ ((is_full a.answer ≡ false) × Stands c v s a.after x t))
+module _ (c : ℕ) (v : Books) (s : Session) (sound : Sound v) (few : length v.rows ≤ ORDERS) where
+  -- what a message that the line brings answers and leaves
+  abbrev pub Leaves : {A : Type 0} → Step A → Line → Taking → Type 0
+  Leaves a x t = (is_unfit a.answer ≡ false) × Stands c v s a.after x t
+
+  -- ---- the real-time channel
 
   module _ (f : Following) (x : Line) (rest : List (List ℕ)) (t u : Taking) (p : Partition) (h : NumberedReport)
       (a : Stands c v s f x t) (fr : Front p h x.live rest) (only : Only p (number_of h) u) where
@@ -77,7 +81,7 @@ module _ (c : ℕ) (v : Books) (s : Session) (sound : Sound v) (few : length v.r
     after_line = record x { live = rest }
 
     live_folded : (at f.sides p).state ≡ Level → place_in f p < number_of h
-        → Lives f (folded live.Folded f p h) after_line (or_one t u)
+        → Leaves (folded live.Folded f p h) after_line (or_one t u)
     live_folded st lt =
         let n = number_of h in
         let level : Passed c (at v.kept p) (place_in f p) (at a.up.y p) =
@@ -88,67 +92,69 @@ module _ (c : ℕ) (v : Books) (s : Session) (sound : Sound v) (few : length v.r
         let moved = joined_folded c v.kept s f p n mv.after x t (omega (arith, lt)) a.up in
         let here : place_in (after_fold f p n mv.after) p
         ≡ n = ap (λ (z : Side). z.place) (at_written f.sides p (record (at f.sides p) { place = n })) in
-        subst (λ r. Lives f (folded_to live.Folded f p n r) after_line (or_one t u)) (sym mv.taken) (
+        subst (λ r. Leaves (folded_to live.Folded f p n r) after_line (or_one t u)) (sym mv.taken) (
           refl,
-          inr (
-            refl,
-            record {
-              on = a.on;
-              known = mv.known;
-              placed = mv.placed;
-              up = joined_passed c v.kept s (after_fold f p n mv.after) x rest t p h moved fr u only (omega (arith, here));
-            },
-          ),
+          record {
+            on = a.on;
+            known = mv.known;
+            placed = mv.placed;
+            up = joined_passed c v.kept s (after_fold f p n mv.after) x rest t p h moved fr u only (omega (arith, here));
+          },
         )
+
+    -- the partition's state alone is another
+    live_as : (z : Standing) → Joined c v.kept s (with_state f p z) after_line (or_one t u)
+        → Stands c v s (with_state f p z) after_line (or_one t u)
+    live_as z up =
+        let g = with_state f p z in
+        let eq = state_places f p z in
+        record {
+          on = a.on;
+          known = tallied_as c v.kept f.standings (place_in f) (place_in g) eq a.known;
+          placed = λ q. subst (λ i. (i ≡ 0) ⊎ (is_of c (under (at v.kept q) i) ≡ true)) (sym (eq q)) (a.placed q);
+          up = up;
+        }
+
+    is_hers : is_of c (under (at v.kept p) (number_of h)) ≡ true
+    is_hers = (is_next c v.kept s f x rest t p h a.up fr).1.hers
+
+    live_passed : (n : ℕ) → is_of c (under (at v.kept p) n) ≡ true → number_of h ≤ n
+        → Leaves (overrun f p n) after_line (or_one t u)
+    live_passed n hers le =
+        (refl, live_as (Overrun n) (joined_overrun c v.kept s f x rest t p h a.up fr u only n hers le))
 
     live_held : (hs : List NumberedReport) → (at f.sides p).state ≡ Behind hs → (b : Bool)
-        → Lives f (cond b (held_step f p hs h) (overrun f)) after_line (or_one t u)
-    live_held hs st false = (refl, inl (refl, refl))
+        → Leaves (cond b (held_step f p hs h) (overrun f p (number_of h))) after_line (or_one t u)
+    live_held hs st false = live_passed (number_of h) is_hers (omega arith)
     live_held hs st true =
-        let g = with_hold f p (hs ++ h ∷ []) in
-        let eq = hold_places f p (hs ++ h ∷ []) in (
-          refl,
-          inr (
-            refl,
-            record {
-              on = a.on;
-              known = tallied_as c v.kept f.standings (place_in f) (place_in g) eq a.known;
-              placed = λ q. subst (λ z. (z ≡ 0) ⊎ (is_of c (under (at v.kept q) z) ≡ true)) (sym (eq q)) (a.placed q);
-              up = joined_held c v.kept s f x rest t p h a.up fr u only hs st;
-            },
-          ),
-        )
+        (refl, live_as (Behind (hs ++ h ∷ [])) (joined_held c v.kept s f x rest t p h a.up fr u only hs st))
 
     live_stated : (z : Standing) → (at f.sides p).state ≡ z → place_in f p < number_of h
-        → Lives f (live_by z f p h) after_line (or_one t u)
+        → Leaves (live_by z f p h) after_line (or_one t u)
     live_stated Level st lt = live_folded st lt
     live_stated (Behind hs) st lt = live_held hs st (nat_lt (length hs) HOLD)
+    live_stated (Overrun n) st lt =
+        let passed = subst (λ z. SidedBy z c (at v.kept p) (place_in f p) (at a.up.y p) (at a.up.b p)) st (a.up.parts p).sided in
+        live_passed (max n (number_of h)) (hers_higher c (at v.kept p) n (number_of h) passed.0 is_hers) (omega arith)
 
     live_there : (b : Bool) → leb (number_of h) (place_in f p) ≡ b
-        → Lives f (cond b (answered live.Already f) (live_by (at f.sides p).state f p h)) after_line
+        → Leaves (cond b (answered live.Already f) (live_by (at f.sides p).state f p h)) after_line
         (or_one t u)
     live_there true q = (
       refl,
-      inr (
-        refl,
-        record {
-          on = a.on;
-          known = a.known;
-          placed = a.placed;
-          up = joined_passed c v.kept s f x rest t p h a.up fr u only (leb-true (number_of h) (place_in f p) q);
-        },
-      ),
+      record {
+        on = a.on;
+        known = a.known;
+        placed = a.placed;
+        up = joined_passed c v.kept s f x rest t p h a.up fr u only (leb-true (number_of h) (place_in f p) q);
+      },
     )
     live_there false q = live_stated (at f.sides p).state refl (leb-false (number_of h) (place_in f p) q)
 
-    pub lives : Lives f (lived f (Report p h)) after_line (or_one t u)
+    pub lives : Leaves (lived f (Report p h)) after_line (or_one t u)
     lives = live_there (leb (number_of h) (place_in f p)) refl
 
   -- ---- the recovery channel
-
-  -- what the recovery channel brings answers and leaves
-  abbrev pub Recovers : Step Recovered → Line → Taking → Type 0
-  Recovers a x t = (is_unfit a.answer ≡ false) × Stands c v s a.after x t
 
   -- all stands but for the download, what is asked, under way, and may come again
   with_stage : (f : Following) (x x' : Line) (t u : Taking) (g : Stage) (ds : PerPartition Load) (a : Stands c v s f x t)
@@ -221,7 +227,7 @@ module _ (c : ℕ) (v : Books) (s : Session) (sound : Sound v) (few : length v.r
           → OfPart p x.again (at a.up.ds p).again → (at a.up.ds p).loaded ≡ h ∷ is
           → Delivery p (download s) rest is (at a.up.ds p).to (at a.up.ds p).aim
           → (w : Bool) → leb (number_of h) (place_in f p) ≡ w
-          → Recovers (cond w (answered recovered.Already f) (folded recovered.Folded f p h))
+          → Leaves (cond w (answered recovered.Already f) (folded recovered.Folded f p h))
           (record x { recovered = rest; again = m ∷ x.again }) (or_one t u)
       recovered_there a is st k r e l true q =
           (refl, loaded_of f x m rest t u p h hd only began a is st k r e l (leb-true (number_of h) (place_in f p) q))
@@ -244,7 +250,7 @@ module _ (c : ℕ) (v : Books) (s : Session) (sound : Sound v) (few : length v.r
             up = joined_folded c v.kept s f p n
                 mv.after x t (omega (arith, lt)) a.up;
           } in
-          subst (λ y. Recovers (folded_to recovered.Folded f p n y) (record x { recovered = rest; again = m ∷ x.again })
+          subst (λ y. Leaves (folded_to recovered.Folded f p n y) (record x { recovered = rest; again = m ∷ x.again })
           (or_one t u)) (sym mv.taken)
           (refl, loaded_of g x m rest t u p h hd only began moved is st k r e l (omega (arith, here)))
 
@@ -282,7 +288,7 @@ module _ (c : ℕ) (v : Books) (s : Session) (sound : Sound v) (few : length v.r
 
     -- an Ack
     ack_refused : (p : Partition) (r : AckResponse) → Refuses (Ok (Ack r)) → x.asked ≡ [] → rest ≡ [] → download s
-        ≡ None → Recovers (acked_of f p r) other_line (or_one t u)
+        ≡ None → Leaves (acked_of f p r) other_line (or_one t u)
     ack_refused p Successful w k e o = absurd w
     ack_refused p LimitReached w k e o = (refl, over k e o)
     ack_refused p InvalidAppId w k e o = (refl, over k e o)
@@ -290,7 +296,7 @@ module _ (c : ℕ) (v : Books) (s : Session) (sound : Sound v) (few : length v.r
 
     ack_granted : (p : Partition) (r : AckResponse) → r ≡ Successful → x.asked ≡ [] → (at a.up.ds p).again ≡ []
         → Delivery p (download s) rest (at a.up.ds p).loaded (at a.up.ds p).to (at a.up.ds p).aim
-        → Recovers (acked_of f p r) other_line (or_one t u)
+        → Leaves (acked_of f p r) other_line (or_one t u)
     ack_granted p Successful e k g l = (
       refl,
       with_stage f x other_line t u (Running p) a.up.ds a refl nothing_taken (λ q. (a.up.parts q).loaded)
@@ -312,7 +318,7 @@ module _ (c : ℕ) (v : Books) (s : Session) (sound : Sound v) (few : length v.r
         (at a.up.ds p).aim (front_of p l) i h n1 n2
 
     pub acks : (g : Stage) → Staged g a.up.ds (download s) x → (r : AckResponse) → heard_in m ≡ Ok (Ack r)
-        → Recovers (acked f g r) other_line (or_one t u)
+        → Leaves (acked f g r) other_line (or_one t u)
     acks Idle (k, e, ag, o) r h = no_front x m rest front e
     acks (Asked p) (ag, ga, inl (k, rb, e, o)) r h = no_front x m rest front e
     acks (Asked p) (ag, ga, inr (inl (k, o, inl e))) r h = no_front x m rest front e
@@ -328,7 +334,7 @@ module _ (c : ℕ) (v : Books) (s : Session) (sound : Sound v) (few : length v.r
 
     -- a Reject
     pub rejects : (g : Stage) → Staged g a.up.ds (download s) x → heard_in m ≡ Ok Reject
-        → Recovers (rejected f g) other_line (or_one t u)
+        → Leaves (rejected f g) other_line (or_one t u)
     rejects Idle (k, e, ag, o) h = no_front x m rest front e
     rejects (Asked p) (ag, ga, inl (k, rb, e, o)) h = no_front x m rest front e
     rejects (Asked p) (ag, ga, inr (inl (k, o, inl e))) h = no_front x m rest front e
@@ -339,18 +345,19 @@ module _ (c : ℕ) (v : Books) (s : Session) (sound : Sound v) (few : length v.r
 
     -- the end of a download
     holds_from : (p : Partition) (st : Standing) (b y place : ℕ) → Passed c (at v.kept p) place (max place b)
-        → SidedBy st c (at v.kept p) place y b → Run c (at v.kept p) place (held_in st) y
+        → SidedBy st c (at v.kept p) place y b → Run c (at v.kept p) place (held_in st) (held_to st place y)
     holds_from p Level b y place ps h = h
     holds_from p (Behind hs) b y place ps h = run_down c (at v.kept p) place (max place b) hs y ps h
+    holds_from p (Overrun n) b y place ps h = λ j lt le. absurd (omega (arith, lt, le))
 
     passed_to : (l : List Entry) (z k b e : ℕ) → z ≤ k → b ≤ e → Passed c l z e → Passed c l k (max k b)
     passed_to l z k b e zk be h = λ j lt le. h j (omega (arith, zk, lt)) (omega (arith, be, lt, le))
 
-    abbrev completed_side : ℕ → Side
-    completed_side n = record { place = n; state = Level }
+    abbrev completed_side : Partition → ℕ → Side
+    completed_side p n = record { place = n; state = completed_state (at f.sides p).state n }
 
     complete : (p : Partition) → x.asked ≡ [] → rest ≡ [] → download s ≡ None → (at a.up.ds p).loaded ≡ []
-        → (at a.up.ds p).to ≡ (at a.up.ds p).aim → Recovers (completed f p) other_line (or_one t u)
+        → (at a.up.ds p).to ≡ (at a.up.ds p).aim → Leaves (completed f p) other_line (or_one t u)
     complete p k e o none_left aimed =
         let d = at a.up.ds p in
         let ld = (a.up.parts p).loaded in
@@ -359,33 +366,33 @@ module _ (c : ℕ) (v : Books) (s : Session) (sound : Sound v) (few : length v.r
         let sd = at f.sides p in
         let ready = holds_from p sd.state (at a.up.b p) (at a.up.y p) sd.place
         (passed_to (at v.kept p) d.from sd.place (at a.up.b p) d.to ld.starts covers passed) (a.up.parts p).sided in
-        let r = reaches c v sound few f.standings (place_in f) p (held_in sd.state) (at a.up.y p) a.known (a.placed p) ready in
+        let r = reaches c v sound few f.standings (place_in f) p (held_in sd.state)
+        (held_to sd.state sd.place (at a.up.y p)) a.known (a.placed p) ready in
         let n = r.after.place in
         let g : Following = record f {
           standings = r.after.known;
-          sides = with_at f.sides p
-              (completed_side n);
+          sides = with_at f.sides p (completed_side p n);
           line = Up Idle;
         } in
-        let ups = or_as_it_was (λ q y. place_in f q ≤ y.place) f.sides p (completed_side n) r.up (λ q. omega arith) in
-        subst (λ y. Recovers (levelled f p y) other_line (or_one t u)) (sym r.done) (
+        let ups = or_as_it_was (λ q y. place_in f q ≤ y.place) f.sides p (completed_side p n) r.up (λ q. omega arith) in
+        subst (λ y. Leaves (levelled f p y) other_line (or_one t u)) (sym r.done) (
           refl,
           record {
             on = refl;
-            known = r.known (place_in g) (ap (λ (y : Side). y.place) (at_written f.sides p (completed_side n)))
-                (by_partition (λ q y. p ≢ q → y.place ≡ place_in f q) f.sides p (completed_side n)
+            known = r.known (place_in g) (ap (λ (y : Side). y.place) (at_written f.sides p (completed_side p n)))
+                (by_partition (λ q y. p ≢ q → y.place ≡ place_in f q) f.sides p (completed_side p n)
                 (λ ne. absurd (ne refl))
                 (λ q ne i. refl));
             placed = or_as_it_was (λ q y. (y.place ≡ 0) ⊎ (is_of c (under (at v.kept q) y.place) ≡ true)) f.sides p
-                (completed_side n) r.placed a.placed;
+                (completed_side p n) r.placed a.placed;
             up = record {
               y = a.up.y;
               b = a.up.b;
               ds = a.up.ds;
               parts = or_as_it_was (λ q z. Whole c (record (marks_of v.kept s f other_line a.up.y a.up.b a.up.ds q) {
                 side = z;
-              })) f.sides p (completed_side n)
-                  (levelled_to c (marks_of v.kept s f other_line a.up.y a.up.b a.up.ds p) n r.up r.passed (a.up.parts p))
+              })) f.sides p (completed_side p n)
+                  (completed_to c (marks_of v.kept s f other_line a.up.y a.up.b a.up.ds p) n r.up r.passed (a.up.parts p))
                   a.up.parts;
               taken = λ q i h. taken g ups q i h;
               staged = opened x.opening Idle a.up.ds (download s) other_line began (k, e, refl, o);
@@ -400,13 +407,13 @@ module _ (c : ℕ) (v : Books) (s : Session) (sound : Sound v) (few : length v.r
 
     ends_by : (p : Partition) (r : ReportResponse) → x.asked ≡ [] → rest ≡ [] → download s ≡ None
         → (at a.up.ds p).loaded ≡ [] → Over r (at a.up.ds p).to (at a.up.ds p).aim
-        → Recovers (ended_of f p r) other_line (or_one t u)
+        → Leaves (ended_of f p r) other_line (or_one t u)
     ends_by p ending.Complete k e o l w = complete p k e o l w
     ends_by p ending.MessageLimit k e o l w = (refl, over k e o)
     ends_by p ending.ServiceUnavailable k e o l w = (refl, over k e o)
 
     pub ends : (g : Stage) → Staged g a.up.ds (download s) x → (r : ReportResponse) → heard_in m ≡ Ok (End r)
-        → Recovers (ended f g r) other_line (or_one t u)
+        → Leaves (ended f g r) other_line (or_one t u)
     ends Idle (k, e, ag, o) r h = no_front x m rest front e
     ends (Asked p) (ag, ga, inl (k, rb, e, o)) r h = no_front x m rest front e
     ends (Asked p) (ag, ga, inr (inl (k, o, inl e))) r h = no_front x m rest front e
@@ -443,7 +450,7 @@ module _ (c : ℕ) (v : Books) (s : Session) (sound : Sound v) (few : length v.r
         (sym (line_is f.line a.on)) (with_failed (download_of f) n)
 
     pub failed_acks : (g : Stage) → download_of f ≡ g → NoneRuns g → (r : AckResponse) → Refuses (Ok (Ack r))
-        → Recovers (acked f g r) failed_line (or_one t u)
+        → Leaves (acked f g r) failed_line (or_one t u)
     failed_acks Idle e n r w = (refl, failed_on (subst NoneRuns (sym e) n))
     failed_acks (Asked p) e n Successful w = absurd w
     failed_acks (Asked p) e n LimitReached w = (refl, with_failed Idle tt)
@@ -452,7 +459,7 @@ module _ (c : ℕ) (v : Books) (s : Session) (sound : Sound v) (few : length v.r
     failed_acks (Running p) e n r w = absurd n
 
     pub failed_rejects : (g : Stage) → download_of f ≡ g → NoneRuns g
-        → Recovers (rejected f g) failed_line (or_one t u)
+        → Leaves (rejected f g) failed_line (or_one t u)
     failed_rejects Idle e n = (refl, failed_on (subst NoneRuns (sym e) n))
     failed_rejects (Asked p) e n = (refl, with_failed Idle tt)
     failed_rejects (Running p) e n = absurd n
@@ -480,10 +487,10 @@ module _ (c : ℕ) (v : Books) (s : Session) (sound : Sound v) (few : length v.r
   module _ (f : Following) (x : Line) (m : List ℕ) (t u : Taking) (a : Stands c v s f x t) (q : Partition) (h : NumberedReport)
       (hd : heard_in m ≡ Ok (Report q h)) (only : Only q (number_of h) u) (began : x.opening ≡ Open) where
     -- the answer, where it is of the download's partition
-    of_its : (y : Line) → Recovers (recovered_of f q h) y (or_one t u)
-        → Recovers (reported f (Running q) q h) y (or_one t u)
+    of_its : (y : Line) → Leaves (recovered_of f q h) y (or_one t u)
+        → Leaves (reported f (Running q) q h) y (or_one t u)
     of_its y w =
-        subst (λ z. Recovers (cond z (recovered_of f q h) (refused fault.Partition f)) y (or_one t u))
+        subst (λ z. Leaves (cond z (recovered_of f q h) (refused fault.Partition f)) y (or_one t u))
         (sym (same_self q)) w
 
     -- and it is the owner's
@@ -496,7 +503,7 @@ module _ (c : ℕ) (v : Books) (s : Session) (sound : Sound v) (few : length v.r
     -- the next under way
     pub reports : (rest : List (List ℕ)) → x.recovered ≡ m ∷ rest → (g : Stage) → download_of f ≡ g
         → Staged g a.up.ds (download s) x
-        → Recovers (reported f g q h) (record x { recovered = rest; again = m ∷ x.again }) (or_one t u) × HersIt
+        → Leaves (reported f g q h) (record x { recovered = rest; again = m ∷ x.again }) (or_one t u) × HersIt
     reports rest front Idle st (k, e, ag, o) = no_front x m rest front e
     reports rest front (Asked p) st (ag, ga, inl (k, rb, e, o)) = no_front x m rest front e
     reports rest front (Asked p) st (ag, ga, inr (inl (k, o, inl e))) = no_front x m rest front e
@@ -506,7 +513,7 @@ module _ (c : ℕ) (v : Books) (s : Session) (sound : Sound v) (few : length v.r
         (Ack Successful) hd (ap heard_in (sym (head_of (sym e ∙ front))) ∙ h') (λ z. cc)
     reports rest front (Running p) st sg = subst
         (λ i. download_of f ≡ Running i → Staged (Running i) a.up.ds (download s) x
-        → Recovers (reported f (Running i) q h) (record x { recovered = rest; again = m ∷ x.again }) (or_one t u) × HersIt)
+        → Leaves (reported f (Running i) q h) (record x { recovered = rest; again = m ∷ x.again }) (or_one t u) × HersIt)
         (part p sg) here st sg
       where
         part : (p : Partition) → Staged (Running p) a.up.ds (download s) x → q ≡ p
@@ -516,7 +523,7 @@ module _ (c : ℕ) (v : Books) (s : Session) (sound : Sound v) (few : length v.r
             (subst (λ y. Delivery p (download s) y d.loaded d.to d.aim) front l) q h hd
 
         here : download_of f ≡ Running q → Staged (Running q) a.up.ds (download s) x
-            → Recovers (reported f (Running q) q h) (record x { recovered = rest; again = m ∷ x.again }) (or_one t u)
+            → Leaves (reported f (Running q) q h) (record x { recovered = rest; again = m ∷ x.again }) (or_one t u)
             × HersIt
         here st (k, r, l) =
             let d = at a.up.ds q in
@@ -530,14 +537,14 @@ module _ (c : ℕ) (v : Books) (s : Session) (sound : Sound v) (few : length v.r
 
     -- one that came before
     pub repeats : list_any (bytes_eq m) x.again ≡ true → (g : Stage) → download_of f ≡ g
-        → Staged g a.up.ds (download s) x → Recovers (reported f g q h) x (or_one t u) × HersIt
+        → Staged g a.up.ds (download s) x → Leaves (reported f g q h) x (or_one t u) × HersIt
     repeats w Idle st (k, e, ag, o) = absurd (let z : list_any (bytes_eq m) []
         ≡ true = subst (λ y. list_any (bytes_eq m) y ≡ true) ag w in cc)
     repeats w (Asked p) st (ag, ga, y) = absurd (let z : list_any (bytes_eq m) []
         ≡ true = subst (λ y. list_any (bytes_eq m) y ≡ true) ag w in cc)
     repeats w (Running p) st sg = subst
         (λ i. download_of f ≡ Running i → Staged (Running i) a.up.ds (download s) x
-        → Recovers (reported f (Running i) q h) x (or_one t u) × HersIt) (part p sg) here st sg
+        → Leaves (reported f (Running i) q h) x (or_one t u) × HersIt) (part p sg) here st sg
       where
         taken : number_of h ≤ place_in f q → (r : Partition) (j : ℕ) → u r j → j ≤ max (place_in f r) (at a.up.y r)
         taken le r j w =
@@ -555,13 +562,13 @@ module _ (c : ℕ) (v : Books) (s : Session) (sound : Sound v) (few : length v.r
             by p i e = cc
 
         here : download_of f ≡ Running q → Staged (Running q) a.up.ds (download s) x
-            → Recovers (reported f (Running q) q h) x (or_one t u) × HersIt
+            → Leaves (reported f (Running q) q h) x (or_one t u) × HersIt
         here st (k, r, l) =
             let b = came q r in
             let same = by b.report (same_heard (Report q b.report) (Report q h) (heard_in m) b.heard hd) in
             let le : number_of h ≤ place_in f q = subst (λ i. number_of i ≤ place_in f q) same b.known.passed in (
               of_its x
-                  (subst (λ y. Recovers (cond y (answered recovered.Already f)
+                  (subst (λ y. Leaves (cond y (answered recovered.Already f)
                   (folded recovered.Folded f q h)) x (or_one t u)) (sym (le-leb (number_of h) (place_in f q) le)) (
                     refl,
                     with_same f x x t u a.up.ds a refl (taken le) (λ p. (a.up.parts p).loaded)

@@ -1,8 +1,8 @@
--- When a partition is level, and when behind. Assumes nothing.
+-- When a partition is level, and when not. Assumes nothing.
 use Rattle.std.specs.Prelude.{nat_le, nat_lt}
 use Rattle.std.specs.List.{list_any}
-use Rattle.std.proofs.Common.{◌≡◌, ◌⊎◌, inl, inr, ℕ, Bool, true, false, cond, List, [], ◌∷◌, ◌++◌, length, Ok, Err, Result, refl, sym, ap, ◌∙◌}
-use Rattle.std.proofs.lemmas.Bool.{or_parts}
+use Rattle.std.proofs.Common.{◌≡◌, ◌⊎◌, inl, inr, ℕ, ◌≤◌, max, Bool, true, false, cond, leb, List, [], ◌∷◌, ◌++◌, length, Ok, Err, Result, refl, sym, ap, ◌∙◌, subst}
+use Rattle.std.proofs.lemmas.Bool.{leb-true, or_parts}
 use Rattle.codes.specs.declared.session.AckResponse.{AckResponse}
 use Rattle.codes.specs.declared.session.AckResponse.TheVariants.{Successful, LimitReached, InvalidAppId, ServiceUnavailable}
 use Rattle.codes.specs.declared.session.Partition.{Partition}
@@ -10,7 +10,7 @@ use Rattle.codes.specs.declared.session.Partition.TheVariants.{One, Two, Three}
 use Rattle.codes.specs.declared.session.ReportResponse.{ReportResponse}
 use Rattle.codes.specs.declared.session.ReportResponse.TheVariants as ending
 use Rattle.codes.specs.Session.{same_partition}
-use Rattle.both_ends.specs.Laws.{Completes, LevelByDownload, StaysLevel, StaysBehind, state_of, is_full, gives}
+use Rattle.both_ends.specs.Laws.{Completes, LevelByDownload, LevelOnceReached, StaysLevel, StaysBehind, state_of, gives}
 use Rattle.both_ends.specs.Runs.{Desk, Does, Runs, fresh, moved}
 use Rattle.both_ends.specs.declared.call.Done.{Done}
 use Rattle.both_ends.specs.declared.call.Done.TheVariants as done
@@ -19,7 +19,7 @@ use Rattle.follower.specs.Folding.{Reached, reached, caught_up}
 use Rattle.follower.specs.Following.{Following, is_up, download_of, Step, turned, answered, folded, folded_to, held, overrun, live_by, lived, acked, acked_of, recovered_of, reported, levelled, ended, ended_of, rejected, recovering, live_step, recovered_step, refused}
 use Rattle.follower.specs.Hearing.{heard_in}
 use Rattle.follower.specs.Numbers.{number_of}
-use Rattle.follower.specs.Sides.{is_level, held_in}
+use Rattle.follower.specs.Sides.{is_level, held_in, completed_state}
 use Rattle.follower.specs.declared.answer.Live.{Live}
 use Rattle.follower.specs.declared.answer.Live.TheVariants as live
 use Rattle.follower.specs.declared.answer.Recovered.{Recovered}
@@ -33,7 +33,7 @@ use Rattle.follower.specs.declared.hold.TheConstants.{HOLD}
 use Rattle.follower.specs.declared.pending.Pending.{Pending}
 use Rattle.follower.specs.declared.side.Side.{Side}
 use Rattle.follower.specs.declared.side.State.{State as Standing}
-use Rattle.follower.specs.declared.side.State.TheVariants.{Level, Behind}
+use Rattle.follower.specs.declared.side.State.TheVariants.{Level, Behind, Overrun}
 use Rattle.follower.specs.declared.stage.Stage.{Stage}
 use Rattle.follower.specs.declared.stage.Stage.TheVariants.{Idle, Asked, Running}
 use Rattle.gateway.specs.State.{State}
@@ -54,6 +54,7 @@ Same p f g = is_level (state_in g p) ≡ is_level (state_in f p)
 is_it : (s : Standing) → is_level s ≡ true → s ≡ Level
 is_it Level e = refl
 is_it (Behind hs) e = absurd cc
+is_it (Overrun n) e = absurd cc
 
 -- so it is level where it was, and was where it is
 carried : (s t : Standing) → is_level t ≡ is_level s → s ≡ Level → t ≡ Level
@@ -74,10 +75,7 @@ module _ {A : Type 0} (p : Partition) where
 
 -- ---- the real-time channel
 
--- what is given live leaves the partitions, but for a hold that is full, which acts as a lost line
-abbrev Lives : Partition → Following → Step Live → Type 0
-Lives p f a = Same p f a.after ⊎ ((is_full a.answer ≡ true) × (a.after ≡ turned false f))
-
+-- what is given live makes no partition level, nor takes its level from one
 module _ (p : Partition) where
   held_same : (f : Following) (q : Partition) (hs : List NumberedReport) (h : NumberedReport)
       → state_in f q ≡ Behind hs → Same p f (held f q hs h).after
@@ -85,44 +83,42 @@ module _ (p : Partition) where
       or_as_it_was (λ u (y : Side). is_level y.state ≡ is_level (state_in f u)) f.sides q
       (record (at f.sides q) { state = Behind (hs ++ h ∷ []) }) (sym (ap is_level e)) (λ u. refl) p
 
-  if_room : (b : Bool) (f : Following) (q : Partition) (hs : List NumberedReport) (h : NumberedReport)
-      → state_in f q ≡ Behind hs → Lives p f (cond b (held f q hs h) (overrun f))
-  if_room true f q hs h e = inl (held_same f q hs h e)
-  if_room false f q hs h e = inr (refl, refl)
+  overrun_same : (f : Following) (q : Partition) (n : ℕ) → is_level (state_in f q) ≡ false
+      → Same p f (overrun f q n).after
+  overrun_same f q n e =
+      or_as_it_was (λ u (y : Side). is_level y.state ≡ is_level (state_in f u)) f.sides q
+      (record (at f.sides q) { state = Overrun n }) (sym e) (λ u. refl) p
 
   by_state : (s : Standing) (f : Following) (q : Partition) (h : NumberedReport) → state_in f q ≡ s
-      → Lives p f (live_by s f q h)
-  by_state Level f q h e = inl (folded_same p live.Folded f q (number_of h) _)
-  by_state (Behind hs) f q h e = if_room (nat_lt (length hs) HOLD) f q hs h e
+      → Same p f (live_by s f q h).after
+  by_state Level f q h e = folded_same p live.Folded f q (number_of h) _
+  by_state (Behind hs) f q h e =
+      either {A = Live} p f (nat_lt (length hs) HOLD) (held f q hs h) (overrun f q (number_of h))
+      (held_same f q hs h e) (overrun_same f q (number_of h) (ap is_level e))
+  by_state (Overrun n) f q h e = overrun_same f q (max n (number_of h)) (ap is_level e)
 
-  if_there : (b : Bool) (f : Following) (q : Partition) (h : NumberedReport)
-      → Lives p f (cond b (answered live.Already f) (live_by (state_in f q) f q h))
-  if_there true f q h = inl refl
-  if_there false f q h = by_state (state_in f q) f q h refl
+  lived_same : (f : Following) (h : Heard) → Same p f (lived f h).after
+  lived_same f (Report q h) =
+      either {A = Live} p f (nat_le (number_of h) (at f.sides q).place) (answered live.Already f)
+      (live_by (state_in f q) f q h) refl (by_state (state_in f q) f q h refl)
+  lived_same f (Ack r) = refl
+  lived_same f (End r) = refl
+  lived_same f Reject = refl
+  lived_same f Nothing = refl
 
-  lived_so : (f : Following) (h : Heard) → Lives p f (lived f h)
-  lived_so f (Report q h) = if_there (nat_le (number_of h) (at f.sides q).place) f q h
-  lived_so f (Ack r) = inl refl
-  lived_so f (End r) = inl refl
-  lived_so f Reject = inl refl
-  lived_so f Nothing = inl refl
-
-  if_up : (b : Bool) (f : Following) (h : Heard) → Lives p f (cond b (lived f h) (refused fault.NotUp f))
-  if_up true f h = lived_so f h
-  if_up false f h = inl refl
-
-  live_so : (f : Following) (h : Result Heard Fault) → Lives p f (live_step f h)
-  live_so f (Err e) = inl refl
-  live_so f (Ok h) = if_up (is_up f) f h
+  live_same : (f : Following) (h : Result Heard Fault) → Same p f (live_step f h).after
+  live_same f (Err e) = refl
+  live_same f (Ok h) = either {A = Live} p f (is_up f) (lived f h) (refused fault.NotUp f) (lived_same f h) refl
 
 -- ---- the recovery channel
 
--- the complete end of its download makes a partition level
+-- the complete end of its download makes a partition level, one that was overrun only with its place at what passed
 record Levelled (p : Partition) (f : Following) (h : Heard) (a : Step Recovered) : Type 0 where
   pub complete : h ≡ End ending.Complete
   pub runs : download_of f ≡ Running p
   pub ends : a.answer ≡ Ok recovered.Ended
   pub level : state_in a.after p ≡ Level
+  pub reached : (n : ℕ) → state_in f p ≡ Overrun n → n ≤ (at a.after.sides p).place
 
 -- and nothing else that comes there changes whether one is
 abbrev Recovers : Partition → Following → Heard → Step Recovered → Type 0
@@ -149,17 +145,44 @@ module _ (p : Partition) where
       (either {A = Recovered} p f (nat_le (number_of h) (at f.sides q).place) (answered recovered.Already f)
       (folded recovered.Folded f q h) refl (folded_same p recovered.Folded f q (number_of h) _)) refl
 
+  -- a side behind a complete download: as it was, or level with its place at what passed
+  abbrev Became : Standing → Side → Type 0
+  Became s y =
+      (is_level y.state ≡ is_level s) ⊎ ((y.state ≡ Level) × ((n : ℕ) → s ≡ Overrun n → n ≤ y.place))
+
+  became : (s : Standing) (n : ℕ) → Became s (record { place = n; state = completed_state s n })
+  became Level n = inl refl
+  became (Behind hs) n = inr (refl, λ k e. absurd cc)
+  became (Overrun k) n = by (leb k n) refl
+    where
+      passed : (i j : ℕ) → Overrun i ≡ Overrun j → i ≡ j
+      passed i j e = cc
+
+      by : (b : Bool) → leb k n ≡ b → Became (Overrun k) (record { place = n; state = cond b Level (Overrun k) })
+      by true e = inr (refl, λ i o. subst (λ j. j ≤ n) (passed k i o) (leb-true k n e))
+      by false e = inl refl
+
   levelled_so : (f : Following) (q : Partition) (r : Result Reached FoldRefusal) → download_of f ≡ Running q
       → Recovers p f (End ending.Complete) (levelled f q r)
   levelled_so f q (Err e) d = inl refl
   levelled_so f q (Ok r) d = by
-      (written (λ u (y : Side). (is_level y.state ≡ is_level (state_in f u)) ⊎ ((q ≡ u) × (y.state ≡ Level)))
-      f.sides q p (record { place = r.place; state = Level }) (λ e. inr (e, refl)) (inl refl))
+      (written (λ u (y : Side). ((q ≡ u) × Became (state_in f u) y) ⊎ (is_level y.state ≡ is_level (state_in f u)))
+      f.sides q p (record { place = r.place; state = completed_state (state_in f q) r.place })
+      (λ e. inl (
+        e,
+        subst (λ u. Became (state_in f u) (record { place = r.place; state = completed_state (state_in f q) r.place }))
+            e (became (state_in f q) r.place),
+      )) (inr refl))
     where
-      by : Same p f (levelled f q (Ok r)).after ⊎ ((q ≡ p) × (state_in (levelled f q (Ok r)).after p ≡ Level))
+      after : Side
+      after = at (levelled f q (Ok r)).after.sides p
+
+      by : ((q ≡ p) × Became (state_in f p) after) ⊎ (is_level after.state ≡ is_level (state_in f p))
           → Recovers p f (End ending.Complete) (levelled f q (Ok r))
-      by (inl e) = inl e
-      by (inr (e, l)) = inr (record { complete = refl; runs = d ∙ ap Running e; ends = refl; level = l })
+      by (inr e) = inl e
+      by (inl (e, inl same)) = inl same
+      by (inl (e, inr (l, reached))) =
+          inr (record { complete = refl; runs = d ∙ ap Running e; ends = refl; level = l; reached = reached })
 
   ended_so : (f : Following) (q : Partition) (r : ReportResponse) → download_of f ≡ Running q
       → Recovers p f (End r) (ended_of f q r)
@@ -230,11 +253,9 @@ pub stays_level : StaysLevel
 stays_level s d (done.Venue v) w e p (m, k) b l = ap (λ (y : Desk). state_of y p) k ∙ l
 stays_level s d done.Up w e p h b l = absurd (let z : true ≡ false = b in cc)
 stays_level s d done.Lost w e p h b l = absurd (let z : true ≡ false = b in cc)
-stays_level s d (done.Live m r) w e p (i, a, k) b l = by (live_so p d.follower (heard_in m.items))
-  where
-    by : Lives p d.follower (live_step d.follower (heard_in m.items)) → state_of e p ≡ Level
-    by (inl same) = to_desk d e (live_step d.follower (heard_in m.items)).after p Level k (carried _ _ same l)
-    by (inr (full, fell)) = absurd (let z : true ≡ false = sym full ∙ (ap is_full (sym a) ∙ b) in cc)
+stays_level s d (done.Live m r) w e p (i, a, k) b l =
+    to_desk d e (live_step d.follower (heard_in m.items)).after p Level k
+    (carried _ _ (live_same p d.follower (heard_in m.items)) l)
 stays_level s d (done.Recovered m r) w e p (i, a, k) b l = by (recovered_so p d.follower (heard_in m.items))
   where
     by : Same p d.follower (recovered_step d.follower (heard_in m.items)).after
@@ -252,15 +273,9 @@ level_by_download s d done.Up w e p (m, k) b l = not_both (state_in (turned true
     (turned_behind true d.follower p) (from_desk d e (turned true d.follower) p Level k l)
 level_by_download s d done.Lost w e p (m, k) b l = not_both (state_in (turned false d.follower) p)
     (turned_behind false d.follower p) (from_desk d e (turned false d.follower) p Level k l)
-level_by_download s d (done.Live m r) w e p (i, a, k) b l = by (live_so p d.follower (heard_in m.items))
-  where
-    now : state_in (live_step d.follower (heard_in m.items)).after p ≡ Level
-    now = from_desk d e (live_step d.follower (heard_in m.items)).after p Level k l
-
-    by : Lives p d.follower (live_step d.follower (heard_in m.items)) → Completes d p (done.Live m r)
-    by (inl same) = absurd (b (carried _ _ (sym same) now))
-    by (inr (full, fell)) = not_both (state_in (turned false d.follower) p) (turned_behind false d.follower p)
-        (ap (λ (f : Following). state_in f p) (sym fell) ∙ now)
+level_by_download s d (done.Live m r) w e p (i, a, k) b l =
+    absurd (b (carried _ _ (sym (live_same p d.follower (heard_in m.items)))
+    (from_desk d e (live_step d.follower (heard_in m.items)).after p Level k l)))
 level_by_download s d (done.Recovered m r) w e p (i, a, k) b l = by (recovered_so p d.follower (heard_in m.items))
   where
     now : state_in (recovered_step d.follower (heard_in m.items)).after p ≡ Level
@@ -273,6 +288,38 @@ level_by_download s d (done.Recovered m r) w e p (i, a, k) b l = by (recovered_s
     by (inr (h, q, z)) = record { complete = q ∙ ap Ok z.complete; ends = a ∙ z.ends; runs = z.runs }
 level_by_download s d (done.Ask n r) w e p (m, a, c, k) b l = absurd (b (carried _ _ (sym (asked_same d n r.before.items p))
     (from_desk d e (asks d.follower d.token n r.before.items).after p Level k l)))
+
+-- ---- from overrun to level
+
+level_not_overrun : {X : Type 0} (s : Standing) (n : ℕ) → s ≡ Overrun n → s ≡ Level → X
+level_not_overrun s n o l = absurd (let z : Overrun n ≡ Level = sym o ∙ l in cc)
+
+-- whatever levels it is a complete end, and that one has reached what passed
+reached_by : (s : State) (d : Desk) (x : Done) (w : State) (e : Desk) (p : Partition) (n : ℕ) → Does s d x w e
+    → state_of d p ≡ Overrun n → state_of e p ≡ Level → Completes d p x → n ≤ (at e.follower.sides p).place
+reached_by s d (done.Recovered m r) w e p n (i, a, k) o l c = by (recovered_so p d.follower (heard_in m.items))
+  where
+    after : Following
+    after = (recovered_step d.follower (heard_in m.items)).after
+
+    now : state_in after p ≡ Level
+    now = from_desk d e after p Level k l
+
+    by : Same p d.follower after
+        ⊎ ((h : Heard) × (heard_in m.items ≡ Ok h) × Levelled p d.follower h (recovered_step d.follower (heard_in m.items)))
+        → n ≤ (at e.follower.sides p).place
+    by (inl same) = level_not_overrun (state_in d.follower p) n o (carried _ _ (sym same) now)
+    by (inr (h, q, became)) = subst (λ (y : Desk). n ≤ (at y.follower.sides p).place) (sym k) (became.reached n o)
+reached_by s d (done.Venue v) w e p n h o l c = absurd c.complete
+reached_by s d done.Up w e p n h o l c = absurd c.complete
+reached_by s d done.Lost w e p n h o l c = absurd c.complete
+reached_by s d (done.Live m r) w e p n h o l c = absurd c.complete
+reached_by s d (done.Ask i r) w e p n h o l c = absurd c.complete
+
+pub level_once_reached : LevelOnceReached
+level_once_reached s d x w e p n h o l =
+    reached_by s d x w e p n h o l
+    (level_by_download s d x w e p h (λ z. level_not_overrun (state_of d p) n o z) l)
 
 -- ---- a follower that is given nothing
 

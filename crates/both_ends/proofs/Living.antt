@@ -6,7 +6,7 @@ use Rattle.codes.specs.declared.session.Partition.{Partition}
 use Rattle.codes.specs.declared.session.Partition.TheVariants.{One, Two, Three}
 use Rattle.codes.specs.Session.{same_partition}
 use Rattle.both_ends.proofs.Carrying.{Tells, Run, Front, reports_of, run_up, run_down, same_or_not}
-use Rattle.both_ends.proofs.Marks.{Whole, folded_to, comes_next, passed_by, held_back}
+use Rattle.both_ends.proofs.Marks.{Whole, folded_to, comes_next, passed_by, held_back, passes}
 use Rattle.both_ends.proofs.Caught.{Folded, folds}
 use Rattle.both_ends.proofs.Flights.{Passed, Next}
 use Rattle.follower.specs.Numbers.{number_of}
@@ -17,7 +17,8 @@ use Rattle.follower.specs.Folding.{Reached, reached, moved, caught_one, caught_n
 use Rattle.follower.specs.Following.{Following, download_of}
 use Rattle.follower.specs.declared.heard.NumberedReport.{NumberedReport}
 use Rattle.follower.specs.declared.side.Side.{Side}
-use Rattle.follower.specs.declared.side.State.TheVariants.{Behind}
+use Rattle.follower.specs.declared.side.State.{State as Standing}
+use Rattle.follower.specs.declared.side.State.TheVariants.{Behind, Overrun}
 use Rattle.keyed.specs.Numbers.{under}
 use Rattle.limits.specs.declared.TheConstants.{ORDERS}
 use Rattle.partitions.proofs.Written.{at_written, by_partition, or_as_it_was}
@@ -103,14 +104,14 @@ taken_popped place t u y p h only was q i (inr a) =
     (let v : at (popped y p h) p ≡ max (at y p) (number_of h) = at_written y p (max (at y p) (number_of h)) in omega
     (arith, v, z))
 
--- its hold is another
-abbrev pub with_hold : Following → Partition → List NumberedReport → Following
-with_hold f p hs = record f { sides = with_at f.sides p (record (at f.sides p) { state = Behind hs }) }
+-- its state is another
+abbrev pub with_state : Following → Partition → Standing → Following
+with_state f p z = record f { sides = with_at f.sides p (record (at f.sides p) { state = z }) }
 
-pub hold_places : (f : Following) (p : Partition) (hs : List NumberedReport) (q : Partition) → place_in (with_hold f p hs) q
+pub state_places : (f : Following) (p : Partition) (z : Standing) (q : Partition) → place_in (with_state f p z) q
     ≡ place_in f q
-hold_places f p hs =
-    or_as_it_was (λ q y. y.place ≡ place_in f q) f.sides p (record (at f.sides p) { state = Behind hs }) refl (λ q. refl)
+state_places f p z =
+    or_as_it_was (λ q y. y.place ≡ place_in f q) f.sides p (record (at f.sides p) { state = z }) refl (λ q. refl)
 
 -- ---- a fold moves nothing else
 
@@ -167,13 +168,16 @@ module _ (c : ℕ) (k : Kept) (s : Session) where
     other_mark : (n : ℕ) (q : Partition) → p ≢ q → at (with_at a.y p n) q ≡ at a.y q
     other_mark n = by_partition (λ q z. p ≢ q → z ≡ at a.y q) a.y p n (λ ne. absurd (ne refl)) (λ q ne z. refl)
 
-    -- it is held
-    pub joined_held : (u : Taking) → Only p (number_of h) u → (hs : List NumberedReport) → (at f.sides p).state ≡ Behind hs
-        → Joined c k s (with_hold f p (hs ++ h ∷ [])) (record x { live = rest }) (or_one t u)
-    joined_held u only hs e =
-        let more = hs ++ h ∷ [] in
-        let g = with_hold f p more in
-        let same = hold_places f p more in
+    -- it is held, or passes: the state is another
+    joined_stated : (u : Taking) → Only p (number_of h) u → (z : Standing)
+        → Whole c (record (marks_of k s f x a.y a.b a.ds p) {
+          side = record (at f.sides p) { state = z };
+          live = reports_of p rest;
+          brought = max (at a.y p) (number_of h);
+        }) → Joined c k s (with_state f p z) (record x { live = rest }) (or_one t u)
+    joined_stated u only z whole =
+        let g = with_state f p z in
+        let same = state_places f p z in
         let mark = max (at a.y p) (number_of h) in
         let x' : Line = record x { live = rest } in
         record {
@@ -181,18 +185,29 @@ module _ (c : ℕ) (k : Kept) (s : Session) where
           b = a.b;
           ds = a.ds;
           parts = by_partition (λ q z. Whole c (record (marks_of k s f x' (popped a.y p h) a.b a.ds q) { side = z })) f.sides p
-              (record (at f.sides p) { state = Behind more })
-              (subst (λ z. Whole c (record (marks_of k s f x' a.y a.b a.ds p) {
-                side = record (at f.sides p) { state = Behind more };
-                brought = z;
-              })) (sym (at_written a.y p mark))
-              (held_back c (marks_of k s f x a.y a.b a.ds p) h (reports_of p rest) in_front hs e))
-              (λ q ne. subst (λ z. Whole c (record (marks_of k s f x' a.y a.b a.ds q) { brought = z }))
+              (record (at f.sides p) { state = z })
+              (subst (λ i. Whole c (record (marks_of k s f x' a.y a.b a.ds p) {
+                side = record (at f.sides p) { state = z };
+                brought = i;
+              })) (sym (at_written a.y p mark)) whole)
+              (λ q ne. subst (λ i. Whole c (record (marks_of k s f x' a.y a.b a.ds q) { brought = i }))
               (sym (other_mark mark q ne)) (with_live q (reports_of q rest) (fr.others q ne)));
-          taken = λ q i w. let v = taken_popped (place_in f) t u a.y p h only a.taken q i w in let z : place_in g q
-              ≡ place_in f q = same q in omega (arith, v, z);
+          taken = λ q i w. let v = taken_popped (place_in f) t u a.y p h only a.taken q i w in let e : place_in g q
+              ≡ place_in f q = same q in omega (arith, v, e);
           staged = channelled_live x.opening (download_of f) a.ds (download s) x rest a.staged;
         }
+
+    -- it is held
+    pub joined_held : (u : Taking) → Only p (number_of h) u → (hs : List NumberedReport) → (at f.sides p).state ≡ Behind hs
+        → Joined c k s (with_state f p (Behind (hs ++ h ∷ []))) (record x { live = rest }) (or_one t u)
+    joined_held u only hs e = joined_stated u only (Behind (hs ++ h ∷ []))
+        (held_back c (marks_of k s f x a.y a.b a.ds p) h (reports_of p rest) in_front hs e)
+
+    -- it passes
+    pub joined_overrun : (u : Taking) → Only p (number_of h) u → (n : ℕ) → is_of c (under (at k p) n) ≡ true
+        → number_of h ≤ n → Joined c k s (with_state f p (Overrun n)) (record x { live = rest }) (or_one t u)
+    joined_overrun u only n hers le = joined_stated u only (Overrun n)
+        (passes c (marks_of k s f x a.y a.b a.ds p) h (reports_of p rest) in_front n hers le)
 
 -- ---- the hold is folded
 

@@ -1,15 +1,16 @@
 -- One partition of one owner, in numbers alone: its marks, and the moves on them. Assumes nothing.
-use Rattle.std.proofs.Common.{◌≡◌, ℕ, ◌≤◌, max, true, List, [], ◌∷◌, ◌++◌, length, sym, subst, arith}
+use Rattle.std.proofs.Common.{◌≡◌, ℕ, ◌<◌, ◌≤◌, max, Bool, true, false, cond, leb, List, [], ◌∷◌, ◌++◌, length, refl, sym, subst, arith}
+use Rattle.std.proofs.lemmas.Bool.{leb-true}
 use Rattle.both_ends.proofs.Carrying.{Tells, Run, tells_grown, run_grown, run_up, run_past, run_on, run_more, run_last}
 use Rattle.both_ends.proofs.Flights.{Passed, Next, next_within, there_within, hers_grown, passed_grown, passed_less, longer, same}
 use Rattle.keyed.specs.Numbers.{under}
 use Rattle.reports.specs.Tally.{is_of}
 use Rattle.follower.specs.Numbers.{number_of}
-use Rattle.follower.specs.Sides.{fallen}
+use Rattle.follower.specs.Sides.{fallen, completed_state}
 use Rattle.follower.specs.declared.heard.NumberedReport.{NumberedReport}
 use Rattle.follower.specs.declared.side.Side.{Side}
 use Rattle.follower.specs.declared.side.State.{State as Standing}
-use Rattle.follower.specs.declared.side.State.TheVariants.{Level, Behind}
+use Rattle.follower.specs.declared.side.State.TheVariants.{Level, Behind, Overrun}
 use Rattle.reports.specs.declared.report.Entry.{Entry}
 use Rattle.sessions.specs.Laws.{Grown}
 
@@ -41,11 +42,24 @@ pub record Marks : Type 0 where
   pub base : ℕ
   pub load : Load
 
+-- numbers that rise from above one, up to another
+abbrev pub Rising : ℕ → List NumberedReport → ℕ → Type 0
+Rising a [] z = a ≤ z
+Rising a (h ∷ hs) z = (a < number_of h) × Rising (number_of h) hs z
+
 -- level: no report of the owner's is between the place and what was brought; behind: what is held is what was brought
--- since the up, but for what the place has reached
+-- since the up, but for what the place has reached; overrun: a report of the owner's passed, and none is between that, or
+-- the place, and what was brought
 abbrev pub SidedBy : Standing → ℕ → List Entry → ℕ → ℕ → ℕ → Type 0
 SidedBy Level c l place y b = Passed c l place y
 SidedBy (Behind hs) c l place y b = Run c l (max place b) hs y
+SidedBy (Overrun n) c l place y b = (is_of c (under l n) ≡ true) × Passed c l (max place n) y
+
+-- how far the hold goes behind a complete download, from the place: of what is overrun nothing is held
+abbrev pub held_to : Standing → ℕ → ℕ → ℕ
+held_to Level place y = y
+held_to (Behind hs) place y = y
+held_to (Overrun n) place y = place
 
 -- a report of the owner's, at or below a place
 pub record Known (c : ℕ) (l : List Entry) (place : ℕ) (h : NumberedReport) : Type 0 where
@@ -66,14 +80,28 @@ pub record Loaded (c : ℕ) (l : List Entry) (place base : ℕ) (d : Load) : Typ
   pub run : Run c l d.from d.loaded d.to
   pub known : AllKnown c l place d.again
 
--- what holds of the marks: what is under way is the run from what was brought to what was sent
+-- what holds of the marks: what is under way is the run from what was brought to what was sent, and its numbers rise
 pub record Whole (c : ℕ) (m : Marks) : Type 0 where
   pub within : m.brought ≤ length m.stored
   pub ahead : m.sent ≤ length m.stored
   pub based : m.base ≤ length m.stored
   pub run : Run c m.stored m.brought m.live m.sent
+  pub rising : Rising m.brought m.live m.sent
   pub sided : SidedBy m.side.state c m.stored m.side.place m.brought m.base
   pub loaded : Loaded c m.stored m.side.place m.base m.load
+
+rising_on : (a s n : ℕ) (hs : List NumberedReport) → s ≤ n → Rising a hs s → Rising a hs n
+rising_on a s n [] le h = omega (arith, le, h)
+rising_on a s n (x ∷ hs) le (lt, h) = (lt, rising_on (number_of x) s n hs le h)
+
+rising_last : (a s : ℕ) (hs : List NumberedReport) (r : NumberedReport) → s < number_of r → Rising a hs s
+    → Rising a (hs ++ r ∷ []) (number_of r)
+rising_last a s [] r lt h = (omega (arith, h, lt), omega arith)
+rising_last a s (x ∷ hs) r lt (above, h) = (above, rising_last (number_of x) s hs r lt h)
+
+rising_down : (a b z : ℕ) (hs : List NumberedReport) → b ≤ a → Rising a hs z → Rising b hs z
+rising_down a b z [] le h = omega (arith, le, h)
+rising_down a b z (x ∷ hs) le (lt, h) = (omega (arith, le, lt), h)
 
 module _ (c : ℕ) where
   known_on : (l l' : List Entry) (k k' : ℕ) (hs : List NumberedReport) → Grown l l' → k ≤ k' → AllKnown c l k hs
@@ -118,6 +146,7 @@ module _ (c : ℕ) where
     ahead = h.ahead;
     based = h.based;
     run = h.run;
+    rising = h.rising;
     sided = h.sided;
     loaded = l;
   }
@@ -128,6 +157,8 @@ module _ (c : ℕ) where
       → SidedBy z c l' place y b
   sided_grown Level l l' place y b g w h = passed_grown c l l' place y g w h
   sided_grown (Behind hs) l l' place y b g w h = run_grown c l l' (max place b) hs y g w h
+  sided_grown (Overrun n) l l' place y b g w h =
+      (hers_grown c l l' n g h.0, passed_grown c l l' (max place n) y g w h.1)
 
   -- more is stored
   pub stored_more : (m : Marks) (l : List Entry) → Grown m.stored l → Whole c m → Whole c (record m { stored = l })
@@ -138,30 +169,34 @@ module _ (c : ℕ) where
         ahead = (let a = h.ahead in omega (arith, a, more));
         based = (let a = h.based in omega (arith, a, more));
         run = run_grown c m.stored l m.brought m.live m.sent g h.ahead h.run;
+        rising = h.rising;
         sided = sided_grown m.side.state m.stored l m.side.place m.brought m.base g h.within h.sided;
         loaded = loaded_on m.stored l m.side.place m.side.place m.base m.load g (omega arith) h.loaded;
       }
 
   -- how far was sent moves past reports of others
-  pub sent_past : (m : Marks) (n : ℕ) → n ≤ length m.stored → Passed c m.stored m.sent n → Whole c m
+  pub sent_past : (m : Marks) (n : ℕ) → n ≤ length m.stored → m.sent ≤ n → Passed c m.stored m.sent n → Whole c m
       → Whole c (record m { sent = n })
-  sent_past m n w p h = record {
+  sent_past m n w up p h = record {
     within = h.within;
     ahead = w;
     based = h.based;
     run = run_on c m.stored m.brought m.live m.sent n p h.run;
+    rising = rising_on m.brought m.sent n m.live up h.rising;
     sided = h.sided;
     loaded = h.loaded;
   }
 
   -- a report is sent
-  pub sent_more : (m : Marks) (r : NumberedReport) → Tells c m.stored r → Next c m.stored m.sent (number_of r) → Whole c m
+  pub sent_more : (m : Marks) (r : NumberedReport) → Tells c m.stored r → m.sent < number_of r
+      → Next c m.stored m.sent (number_of r) → Whole c m
       → Whole c (record m { live = m.live ++ r ∷ []; sent = number_of r })
-  sent_more m r t x h = record {
+  sent_more m r t lt x h = record {
     within = h.within;
     ahead = next_within c m.stored m.sent (number_of r) x;
     based = h.based;
     run = run_last c m.stored m.brought m.live m.sent r t x h.run;
+    rising = rising_last m.brought m.sent m.live r lt h.rising;
     sided = h.sided;
     loaded = h.loaded;
   }
@@ -175,6 +210,7 @@ module _ (c : ℕ) where
     ahead = h.ahead;
     based = h.within;
     run = h.run;
+    rising = h.rising;
     sided = λ j lt le. absurd (omega (arith, lt, le));
     loaded = none_loaded m.stored m.side.place m.brought h.within;
   }
@@ -187,6 +223,7 @@ module _ (c : ℕ) where
     ahead = h.ahead;
     based = h.based;
     run = h.run;
+    rising = h.rising;
     sided = by m.side.state h.sided;
     loaded = loaded_on m.stored m.stored m.side.place n m.base m.load (same m.stored) le h.loaded;
   }
@@ -196,18 +233,41 @@ module _ (c : ℕ) where
       by Level p = passed_less c m.stored m.side.place n m.brought m.brought le (omega arith) p
       by (Behind hs) r =
           run_up c m.stored (max m.side.place m.base) (max n m.base) hs m.brought (omega (arith, le)) r
+      by (Overrun k) (hers, p) = (
+        hers,
+        passed_less c m.stored (max m.side.place k) (max n k) m.brought m.brought (omega (arith, le)) (omega arith) p,
+      )
 
-  -- the hold is folded, and the partition level
-  pub levelled_to : (m : Marks) (n : ℕ) → m.side.place ≤ n → Passed c m.stored n m.brought → Whole c m
-      → Whole c (record m { side = record { place = n; state = Level } })
-  levelled_to m n le p h = record {
+  -- the hold is folded, and the partition level, or overrun where what passed is above the place
+  pub completed_to : (m : Marks) (n : ℕ) → m.side.place ≤ n
+      → Passed c m.stored n (held_to m.side.state m.side.place m.brought) → Whole c m
+      → Whole c (record m { side = record { place = n; state = completed_state m.side.state n } })
+  completed_to m n le p h = record {
     within = h.within;
     ahead = h.ahead;
     based = h.based;
     run = h.run;
-    sided = p;
+    rising = h.rising;
+    sided = by m.side.state p h.sided;
     loaded = loaded_on m.stored m.stored m.side.place n m.base m.load (same m.stored) le h.loaded;
   }
+    where
+      over : (k : ℕ) (b : Bool) → leb k n ≡ b → SidedBy (Overrun k) c m.stored m.side.place m.brought m.base
+          → SidedBy (cond b Level (Overrun k)) c m.stored n m.brought m.base
+      over k true e (hers, p) =
+          let q = leb-true k n e in
+          passed_less c m.stored (max m.side.place k) n m.brought m.brought (omega (arith, le, q)) (omega arith) p
+      over k false e (hers, p) = (
+        hers,
+        passed_less c m.stored (max m.side.place k) (max n k) m.brought m.brought (omega (arith, le)) (omega arith) p,
+      )
+
+      by : (z : Standing) → Passed c m.stored n (held_to z m.side.place m.brought)
+          → SidedBy z c m.stored m.side.place m.brought m.base
+          → SidedBy (completed_state z n) c m.stored n m.brought m.base
+      by Level p s = p
+      by (Behind hs) p s = p
+      by (Overrun k) p s = over k (leb k n) refl s
 
   -- what is under way comes: it is the next
   module _ (m : Marks) (r : NumberedReport) (rs : List NumberedReport) (h : Whole c (record m { live = r ∷ rs })) where
@@ -225,6 +285,7 @@ module _ (c : ℕ) where
       ahead = h.ahead;
       based = w;
       run = h.run.2;
+      rising = (let lt = h.rising.0 in rising_down (number_of r) mark m.sent rs (omega (arith, lt)) h.rising.1);
       sided = s;
       loaded = ld;
     }
@@ -238,6 +299,7 @@ module _ (c : ℕ) where
         by Level p = λ j lt q. p j lt (omega (arith, lt, q, le))
         by (Behind hs) s =
             run_past c m.stored (max m.side.place m.base) hs m.brought (number_of r) (omega (arith, le)) s
+        by (Overrun n) (hers, p) = (hers, λ j lt q. p j lt (omega (arith, lt, q, le)))
 
     -- it is held
     pub held_back : (hs : List NumberedReport) → m.side.state ≡ Behind hs
@@ -245,6 +307,12 @@ module _ (c : ℕ) where
     held_back hs e = come_to (record m.side { state = Behind (hs ++ r ∷ []) }) m.base m.load h.based h.loaded
         (run_more c m.stored (max m.side.place m.base) hs m.brought r comes_next.0 comes_next.1
         (subst (λ z. SidedBy z c m.stored m.side.place m.brought m.base) e h.sided))
+
+    -- it passes: what passed is no lower
+    pub passes : (n : ℕ) → is_of c (under m.stored n) ≡ true → number_of r ≤ n
+        → Whole c (record m { side = record m.side { state = Overrun n }; live = rs; brought = mark })
+    passes n hers le = come_to (record m.side { state = Overrun n }) m.base m.load h.based h.loaded
+        (hers, λ j lt q. absurd (let above = h.rising.0 in omega (arith, lt, q, above, le)))
 
     -- nobody is there to take it
     pub missed : m.side.state ≡ Behind [] → Whole c (record m { live = rs; brought = mark; base = mark; load = unloaded mark })
@@ -261,6 +329,7 @@ module _ (c : ℕ) where
     ahead = h.ahead;
     based = h.within;
     run = h.run;
+    rising = h.rising;
     sided = subst (λ z. SidedBy z c m.stored m.side.place m.brought m.brought) (sym e)
         (λ j lt le. absurd (omega (arith, lt, le)));
     loaded = none_loaded m.stored m.side.place m.brought h.within;

@@ -31,7 +31,7 @@ use Rattle.both_ends.specs.declared.opening.Opening.TheVariants.{Awaited, Open, 
 use Rattle.follower.specs.Sides.{is_level}
 use Rattle.follower.specs.declared.side.Side.{Side}
 use Rattle.follower.specs.declared.side.State.{State as Standing}
-use Rattle.follower.specs.declared.side.State.TheVariants.{Level, Behind}
+use Rattle.follower.specs.declared.side.State.TheVariants.{Level, Behind, Overrun}
 use Rattle.gateway.specs.State.{State, session, fresh as fresh_state}
 use Rattle.matching.specs.Asked.{Asked}
 use Rattle.matching.specs.Meaning.{Meaning}
@@ -61,6 +61,7 @@ level_is z e = ap is_level e
 is_level_level : (z : Standing) → is_level z ≡ true → z ≡ Level
 is_level_level Level h = refl
 is_level_level (Behind hs) h = absurd cc
+is_level_level (Overrun n) h = absurd cc
 
 not_none : (xs : List ℕ) → xs ≢ [] → 1 ≤ length xs
 not_none [] h = absurd (h refl)

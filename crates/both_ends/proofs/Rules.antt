@@ -11,9 +11,8 @@ use Rattle.std.proofs.lemmas.List.{append-nil}
 use Rattle.std.proofs.lemmas.List.Folds.{list_any-append}
 use Rattle.both_ends.proofs.Turns.{next_found, since_more, since_logon, up_more, shows_more, shown_more, or-false, longer_not_empty, behind_front, given, Flowing, onto, grown, given_back}
 use Rattle.both_ends.proofs.Heard.{nothing_heard}
-use Rattle.both_ends.specs.Allowed.{Message, Line, quiet, connected, next_of, accepted, behind, after_log, after_call, after_logon, after_recovery, after_failure, given_recovery, is_failed_logon, is_grant, is_reject, left_reject, answered as put_answer, after_up, after_ask, onward, next_live, given_live, or_lost, given_recovered}
+use Rattle.both_ends.specs.Allowed.{Message, Line, quiet, connected, next_of, accepted, behind, after_log, after_call, after_logon, after_recovery, after_failure, given_recovery, is_failed_logon, is_grant, is_reject, left_reject, answered as put_answer, after_up, after_ask, onward, next_live, given_live, given_recovered}
 use Rattle.both_ends.specs.Connections.{IsFront, KeepsLine, AsTheRule, since, accepts, is_up, up_after, is_up_call, handed_out, leaves_live, leaves_recovered, gives_live, gives_recovered, is_answer, is_report, is_heard, rejects_logon, rejected_logons, is_recovery, grants, came, left_live, came_live, left_recovered, came_recovered, once, written_of, writes, answers, written, answered}
-use Rattle.both_ends.specs.Laws.{is_full}
 use Rattle.both_ends.specs.declared.allowed.Breach.{Breach}
 use Rattle.both_ends.specs.declared.allowed.Breach.TheVariants.{StillUp, GrantedOverFailure}
 use Rattle.both_ends.specs.declared.opening.Opening.{Opening}
@@ -429,47 +428,29 @@ module _ (c : ℕ) (zs : List Done) where
 
     -- ---- what the follower is given
 
-    -- a hold that is full acts as a lost line
-    abbrev fallen : Bool → Connection
-    fallen full = cond full (lost l.connection) l.connection
-
-    falls : (ms : List Message) (full : Bool)
-        → or_lost full (Ok (record l { live = ms })) ≡ Ok (record l { live = ms; connection = fallen full })
-    falls ms true = refl
-    falls ms false = refl
-
     down : (a : Connection) → up_in (lost a) ≡ false
     down conn.Away = refl
     down conn.Ready = refl
     down conn.Up = refl
 
-    fallen_up : (full : Bool) → up_in (fallen full) ≡ cond full false (up_in l.connection)
-    fallen_up true = down l.connection
-    fallen_up false = refl
-
-    fallen_ready : (full : Bool) → l.connection ≡ conn.Ready → fallen full ≡ conn.Ready
-    fallen_ready true r = ap lost r
-    fallen_ready false r = r
-
-    unheard : (full : Bool) → Goes (or_lost full (Ok l)) (nothing (cond full false (up_in l.connection)))
-    unheard full = record {
-      line = record l { connection = fallen full };
-      ok = falls l.live full;
-      moved = quietly (fallen full) (cond full false (up_in l.connection)) false (fallen_up full) (λ i r. fallen_ready full r);
+    unheard : Goes (Ok l) (nothing (up_in l.connection))
+    unheard = record {
+      line = l;
+      ok = refl;
+      moved = quietly l.connection (up_in l.connection) false refl (λ i r. r);
     }
 
-    report_given : (m : Message) → IsFront (came_live c zs ++ filter is_live (m ∷ [])) (left_live c zs ++ []) → (full : Bool)
-        → Goes (or_lost full (next_live (next_of m l.live) l))
-        (record (nothing (cond full false (up_in l.connection))) { live_in = Some m })
-    report_given m (rest, f) full =
+    report_given : (m : Message) → IsFront (came_live c zs ++ filter is_live (m ∷ [])) (left_live c zs ++ [])
+        → Goes (next_live (next_of m l.live) l) (record (nothing (up_in l.connection)) { live_in = Some m })
+    report_given m (rest, f) =
         let t = given l (left_live c zs) (came_live c zs) m h.live (is_live m)
         (ap (λ b. b || list_any (bytes_eq m) (left_live c zs)) h.up) (rest, sym (append-nil (left_live c zs)) ∙ f) in
         record {
-          line = record l { live = t.live; connection = fallen full };
-          ok = ap (or_lost full) t.ok ∙ falls t.live full;
+          line = record l { live = t.live };
+          ok = t.ok;
           moved = record {
-            up = fallen_up full;
-            ready = λ i r. fallen_ready full r;
+            up = refl;
+            ready = λ i r. r;
             begun = begun_still;
             live = append-nil (left_live c zs) ∙ t.flows;
             recovered = back_still;
@@ -478,15 +459,14 @@ module _ (c : ℕ) (zs : List Done) where
         }
 
     come : (m : Message) (r : Result Heard Fault)
-        → IsFront (came_live c zs ++ filter is_live (option_to_list (cond (is_report r) (Some m) None))) (left_live c zs ++ []) → (full : Bool)
-        → Goes (or_lost full (given_live m r l))
-        (record (nothing (cond full false (up_in l.connection))) { live_in = cond (is_report r) (Some m) None })
-    come m (Ok (Report p n)) f full = report_given m f full
-    come m (Ok (Ack a)) f full = unheard full
-    come m (Ok (End a)) f full = unheard full
-    come m (Ok Reject) f full = unheard full
-    come m (Ok Nothing) f full = unheard full
-    come m (Err e) f full = unheard full
+        → IsFront (came_live c zs ++ filter is_live (option_to_list (cond (is_report r) (Some m) None))) (left_live c zs ++ [])
+        → Goes (given_live m r l) (record (nothing (up_in l.connection)) { live_in = cond (is_report r) (Some m) None })
+    come m (Ok (Report p n)) f = report_given m f
+    come m (Ok (Ack a)) f = unheard
+    come m (Ok (End a)) f = unheard
+    come m (Ok Reject) f = unheard
+    come m (Ok Nothing) f = unheard
+    come m (Err e) f = unheard
 
     -- given on the recovery channel
     heard_back : (m : Message) (r : Result Heard Fault) → heard_in m ≡ r → is_heard r ≡ true
@@ -554,7 +534,7 @@ module _ (c : ℕ) (zs : List Done) where
       ok = refl;
       moved = quietly (lost l.connection) false false (down l.connection) (λ i r. ap lost r);
     }
-    goes (done.Live m r) plain s up = come m.items (heard_in m.items) s.live (is_full r)
+    goes (done.Live m r) plain s up = come m.items (heard_in m.items) s.live
     goes (done.Recovered m r) plain s up = come_back m.items (heard_in m.items) refl s.recovered
     goes (done.Ask n r) plain s up = record {
       line = after_ask r.answer r.after.items l;

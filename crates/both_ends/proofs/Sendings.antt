@@ -29,31 +29,32 @@ SentBy c k s s' None = (p : Partition) → Moves c (at k p) (at s p) (at s' p)
 SentBy c k s s' (Some (q, n)) = Sent c k s s' q n
 
 stay : (c : ℕ) (l : List Entry) (s : ℕ) → s ≤ length l → Moves c l s s
-stay c l s w = record { within = w; passed = λ j lt le. absurd (omega (arith, lt, le)) }
+stay c l s w = record { within = w; up = omega arith; passed = λ j lt le. absurd (omega (arith, lt, le)) }
 
 pass : (c : ℕ) (l : List Entry) (s : ℕ) → s ≤ length l → Lowest l c s None → Moves c l s (max s (length l))
 pass c l s w h = record {
   within = omega (arith, w);
+  up = omega arith;
   passed = passed_all c l s (max s (length l)) h;
 }
 
 module _ (c : ℕ) (k : Kept) (s : PerPartition ℕ) (w : (p : Partition) → at s p ≤ length (at k p)) where
   looks : (r1 r2 r3 : Option ℕ) → Lowest k.one c s.one r1 → Lowest k.two c s.two r2 → Lowest k.three c s.three r3
       → SentBy c k s (after r1 r2 r3 k s) (first r1 r2 r3)
-  looks (Some n) r2 r3 h1 h2 h3 = record { next = found c k.one s.one n h1; mark = refl; others = others }
+  looks (Some n) r2 r3 h1 h2 h3 = record { above = h1.0; next = found c k.one s.one n h1; mark = refl; others = others }
     where
       others : (p : Partition) → One ≢ p → Moves c (at k p) (at s p) (at (with_at s One n) p)
       others One ne = absurd (ne refl)
       others Two ne = stay c k.two s.two (w Two)
       others Three ne = stay c k.three s.three (w Three)
-  looks None (Some n) r3 h1 h2 h3 = record { next = found c k.two s.two n h2; mark = refl; others = others }
+  looks None (Some n) r3 h1 h2 h3 = record { above = h2.0; next = found c k.two s.two n h2; mark = refl; others = others }
     where
       others : (p : Partition) → Two ≢ p → Moves c (at k p) (at s p)
           (at (with_at (with_at s One (max s.one (length k.one))) Two n) p)
       others One ne = pass c k.one s.one (w One) h1
       others Two ne = absurd (ne refl)
       others Three ne = stay c k.three s.three (w Three)
-  looks None None (Some n) h1 h2 h3 = record { next = found c k.three s.three n h3; mark = refl; others = others }
+  looks None None (Some n) h1 h2 h3 = record { above = h3.0; next = found c k.three s.three n h3; mark = refl; others = others }
     where
       others : (p : Partition) → Three ≢ p → Moves c (at k p) (at s p) (at (after None None (Some n) k s) p)
       others One ne = pass c k.one s.one (w One) h1

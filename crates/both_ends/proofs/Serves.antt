@@ -225,6 +225,7 @@ module _ (c : ℕ) (s : State) (d : Desk) (x : Line) (t : Taking) (k : Keeps c s
               ahead = none p;
               based = none p;
               run = λ j lt le. absurd (omega (arith, lt, le));
+              rising = omega arith;
               sided = subst (λ z. SidedBy z c (at new p) (place d p) (at (lasts old) p) (at (lasts old) p))
                   (sym (k.quiet.fallen dn p)) (λ j lt le. absurd (omega (arith, lt, le)));
               loaded = none_loaded c (at new p) (place d p) (at (lasts old) p) (none p);
@@ -266,14 +267,14 @@ module _ (c : ℕ) (s : State) (d : Desk) (x : Line) (t : Taking) (k : Keeps c s
       here =
           subst (λ hs. Whole c (marks q hs (at sent' q))) (sym to.here)
           (subst (λ z. Whole c (marks q (reports_of q x.live ++ held n i ∷ []) z)) (sym st.mark)
-          (sent_more c (marks_of old (session s c) f x y b ds q) (held n i) tl st.next (h q)))
+          (sent_more c (marks_of old (session s c) f x y b ds q) (held n i) tl st.above st.next (h q)))
 
       by : (q ≡ p) ⊎ (q ≢ p) → Whole c (marks p (reports_of p (x.live ++ m ∷ [])) (at sent' p))
       by (inl e) = subst (λ u. Whole c (marks u (reports_of u (x.live ++ m ∷ [])) (at sent' u))) e here
       by (inr ne) =
           let mv = st.others p ne in
           subst (λ hs. Whole c (marks p hs (at sent' p))) (sym (to.others p ne))
-          (sent_past c (marks_of old (session s c) f x y b ds p) (at sent' p) mv.within mv.passed (h p))
+          (sent_past c (marks_of old (session s c) f x y b ds p) (at sent' p) mv.within mv.up mv.passed (h p))
 
   -- by what was sent, one thing under way live more or none
   goes_live : (ms : List (List ℕ)) (sent' : PerPartition ℕ) → (session w c).sent ≡ sent'
@@ -297,7 +298,7 @@ module _ (c : ℕ) (s : State) (d : Desk) (x : Line) (t : Taking) (k : Keeps c s
   sends_by None sent' bytes by e es ed told =
       subst (λ z. Keeps c w d (record x { live = behind x.live z }) t) (sym e)
       (goes_live x.live sent' es ed (λ y b ds h p. let mv = by y b ds h p in
-      sent_past c (marks_of old (session s c) f x y b ds p) (at sent' p) mv.within mv.passed (h p)))
+      sent_past c (marks_of old (session s c) f x y b ds p) (at sent' p) mv.within mv.up mv.passed (h p)))
   sends_by (Some (q, n)) sent' bytes by e es ed told =
       subst (λ z. Keeps c w d (record x { live = behind x.live z }) t) (sym e) (all (under (at old q) n) refl told)
     where

@@ -13,6 +13,7 @@ use Rattle.both_ends.specs.declared.call.Done.TheVariants as done
 use Rattle.follower.specs.Following.{is_up, download_of}
 use Rattle.follower.specs.Hearing.{heard_in}
 use Rattle.follower.specs.Numbers.{number_of}
+use Rattle.follower.specs.Sides.{completed_state}
 use Rattle.follower.specs.declared.fault.FollowerFault.{FollowerFault}
 use Rattle.follower.specs.declared.fault.FollowerFault.TheVariants.{Fold}
 use Rattle.follower.specs.declared.heard.Heard.{Heard}
@@ -93,9 +94,10 @@ abbrev pub EndsAgree : List Done → State → Desk → Type 0
 EndsAgree xs s d = (c : ℕ) → Allowed c xs → Agrees c xs s d
 
 -- from every state that a log leads to: where the line allows the complete end of a partition's download, the
--- partition is level behind it
+-- partition is level behind it; one that was overrun only if its place has reached what passed, and else stays so
 abbrev pub DownloadsLevel : Type 0
 DownloadsLevel =
     (c : ℕ) (ps : List Participant) (v : Books) (xs : List Done) (s : State) (d : Desk) (x : Done) (w : State) (e : Desk)
     (p : Partition) → Runs (fresh_state ps v) fresh xs s d → Allowed c (xs ++ x ∷ []) → Does s d x w e → IsComplete x
-    → is_up d.follower ≡ true → download_of d.follower ≡ Running p → state_of e p ≡ Level
+    → is_up d.follower ≡ true → download_of d.follower ≡ Running p
+    → state_of e p ≡ completed_state (state_of d p) (place e p)

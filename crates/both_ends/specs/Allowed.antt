@@ -5,7 +5,6 @@ use Rattle.std.specs.Str.{bytes_eq}
 use Rattle.answers.specs.Bytes.{answer_bytes}
 use Rattle.answers.specs.declared.answer.Admission.TheVariants.{Accepted}
 use Rattle.answers.specs.declared.answer.Answer.TheVariants.{LogonReply}
-use Rattle.both_ends.specs.Laws.{is_full}
 use Rattle.both_ends.specs.declared.allowed.Breach.{Breach}
 use Rattle.both_ends.specs.declared.allowed.Breach.TheVariants.{StillUp, NoLogon, LiveOutOfTurn, RecoveredOutOfTurn, NotAsked, GrantedOverFailure}
 use Rattle.both_ends.specs.Connecting.{lost, up_in}
@@ -162,12 +161,6 @@ abbrev pub given_live : Message → Result Heard Fault → Line → Result Line 
 given_live m (Ok (Report p h)) l = next_live (next_of m l.live) l
 given_live m h l = Ok l
 
--- a hold that is full acts as a lost line
-abbrev pub or_lost : Bool → Result Line Breach → Result Line Breach
-or_lost true (Ok l) = Ok (record l { connection = lost l.connection })
-or_lost true (Err b) = Err b
-or_lost false r = r
-
 -- what is given on the recovery channel is the next under way, or a report of the download that came before
 abbrev pub repeated : Bool → Line → Result Line Breach
 repeated true l = Ok l
@@ -200,7 +193,7 @@ abbrev pub after_call : ℕ → Done → Line → Result Line Breach
 after_call c (done.Venue d) l = after_venue c d l
 after_call c done.Up l = after_up l.connection l
 after_call c done.Lost l = Ok (record l { connection = lost l.connection })
-after_call c (done.Live m r) l = or_lost (is_full r) (given_live m.items (heard_in m.items) l)
+after_call c (done.Live m r) l = given_live m.items (heard_in m.items) l
 after_call c (done.Recovered m r) l = given_recovered m.items (heard_in m.items) l
 after_call c (done.Ask n r) l = Ok (after_ask r.answer r.after.items l)
 

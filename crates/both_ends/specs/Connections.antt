@@ -3,7 +3,6 @@ use Rattle.std.specs.Prelude.{◌≡◌, ℕ, Bool, true, false, List, [], ◌�
 use Rattle.std.specs.List.{filter_map, list_any}
 use Rattle.std.specs.Str.{bytes_eq}
 use Rattle.both_ends.specs.Allowed.{Message, Allowed, accepted, is_failed_logon, is_grant, is_reject, left_reject}
-use Rattle.both_ends.specs.Laws.{is_full}
 use Rattle.both_ends.specs.declared.call.Done.{Done}
 use Rattle.both_ends.specs.declared.call.Done.TheVariants as done
 use Rattle.follower.specs.Hearing.{heard_in}
@@ -38,11 +37,10 @@ abbrev pub is_up_call : Done → Bool
 is_up_call done.Up = true
 is_up_call x = false
 
--- whether the follower is up: up makes it so, lost and a full hold end it
+-- whether the follower is up: up makes it so, lost ends it
 abbrev pub up_after : Bool → Done → Bool
 up_after b done.Up = true
 up_after b done.Lost = false
-up_after b (done.Live m r) = if is_full r then false else b
 up_after b x = b
 
 abbrev pub is_up : List Done → Bool

@@ -1,5 +1,5 @@
 -- What a desk asks of its follower, of any call in any state. Assumes nothing.
-use Rattle.std.specs.Prelude.{◌≡◌, ◌≢◌, Bool, true, false, List, [], Ok, Err, Result}
+use Rattle.std.specs.Prelude.{◌≡◌, ◌≢◌, ◌≤◌, ℕ, Bool, true, false, List, [], Ok}
 use Rattle.std.specs.List.{list_any}
 use Rattle.codes.specs.declared.session.Partition.{Partition}
 use Rattle.codes.specs.declared.session.ReportResponse.TheVariants.{Complete}
@@ -8,30 +8,22 @@ use Rattle.both_ends.specs.declared.call.Done.{Done}
 use Rattle.both_ends.specs.declared.call.Done.TheVariants as done
 use Rattle.follower.specs.Following.{download_of}
 use Rattle.follower.specs.Hearing.{heard_in}
-use Rattle.follower.specs.declared.answer.Live.{Live}
 use Rattle.follower.specs.declared.answer.Recovered.TheVariants.{Ended}
-use Rattle.follower.specs.declared.fault.FollowerFault.{FollowerFault}
-use Rattle.follower.specs.declared.fault.FollowerFault.TheVariants.{HoldFull}
 use Rattle.follower.specs.declared.heard.Heard.TheVariants.{End}
 use Rattle.follower.specs.declared.side.State.{State as Standing}
-use Rattle.follower.specs.declared.side.State.TheVariants.{Level, Behind}
+use Rattle.follower.specs.declared.side.State.TheVariants.{Level, Behind, Overrun}
 use Rattle.follower.specs.declared.stage.Stage.TheVariants.{Running}
 use Rattle.gateway.specs.State.{State}
 use Rattle.partitions.specs.PerPartition.{at}
 
--- whether a partition is level or behind, and with what held
+-- whether a partition is level, behind and with what held, or overrun and how high a number passed
 abbrev pub state_of : Desk → Partition → Standing
 state_of d p = (at d.follower.sides p).state
 
-abbrev pub is_full : Result Live FollowerFault → Bool
-is_full (Err HoldFull) = true
-is_full r = false
-
--- what takes its level from a partition: up, lost, and a hold that is full
+-- what takes its level from a partition: up, and lost
 abbrev pub breaks : Done → Bool
 breaks done.Up = true
 breaks done.Lost = true
-breaks (done.Live bs r) = is_full r
 breaks d = false
 
 -- nothing else does
@@ -61,6 +53,12 @@ abbrev pub LevelByDownload : Type 0
 LevelByDownload =
     (s : State) (d : Desk) (x : Done) (w : State) (e : Desk) (p : Partition) → Does s d x w e → state_of d p ≢ Level
     → state_of e p ≡ Level → Completes d p x
+
+-- and from overrun only where nothing that passed is above the place
+abbrev pub LevelOnceReached : Type 0
+LevelOnceReached =
+    (s : State) (d : Desk) (x : Done) (w : State) (e : Desk) (p : Partition) (n : ℕ) → Does s d x w e
+    → state_of d p ≡ Overrun n → state_of e p ≡ Level → n ≤ (at e.follower.sides p).place
 
 -- whether the follower is given a message
 abbrev pub gives : Done → Bool

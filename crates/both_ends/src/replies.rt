@@ -4,7 +4,6 @@ ghost use Rattle.std.specs.Str.{bytes_eq};
 ghost use Rattle.follower.specs.Hearing.{heard_in};
 ghost use Rattle.both_ends.specs.Allowed.{accepted, is_failed_logon, is_grant, is_no_message, is_reject, left_reject};
 ghost use Rattle.both_ends.specs.Downloading.{written};
-ghost use Rattle.both_ends.specs.Laws.{is_full};
 ghost use Rattle.gateway_runs.specs.Runs.{bytes_of};
 
 use crate::call::Asked;
@@ -92,11 +91,4 @@ pub(crate) fn is_grant(reply: &[u8]) -> bool
     ensures { result ≡ is_grant (heard_in reply.now) }
 {
     matches!(hear(reply), Ok(Heard::Ack(AckResponse::Successful)))
-}
-
-/// Whether a report that was given live found its hold full.
-pub(crate) fn is_full(answer: &Result<Live, FollowerFault>) -> bool
-    ensures { result ≡ is_full answer.now }
-{
-    matches!(answer, Err(FollowerFault::HoldFull))
 }

@@ -6,9 +6,7 @@ use crate::allowed::Breach;
 use crate::call::{Asked, Done};
 use crate::connection::Connection;
 use crate::opening::Opening;
-use crate::replies::{
-    bytes, is_accepted, is_failed_logon, is_full, is_grant, is_reject, left_reject,
-};
+use crate::replies::{bytes, is_accepted, is_failed_logon, is_grant, is_reject, left_reject};
 use crate::under_way::UnderWay;
 use follower::heard::Heard;
 use follower::reading::hear;
@@ -48,7 +46,7 @@ impl<'a> Model for Watch<'a> {
 }
 
 impl<'a> Watch<'a> {
-    ghost use Rattle.both_ends.specs.Allowed.{quiet, answered, next_of, after_logon, after_recovery, after_failure, given_recovery, after_venue, after_up, out_of_turn, given_live, or_lost, given_recovered, next_report, next_other, after_ask, after_call};
+    ghost use Rattle.both_ends.specs.Allowed.{quiet, answered, next_of, after_logon, after_recovery, after_failure, given_recovery, after_venue, after_up, out_of_turn, given_live, given_recovered, next_report, next_other, after_ask, after_call};
     ghost use Rattle.both_ends.specs.Deciding.{is_failed, onto};
 
     /// A line on which nothing was said.
@@ -225,17 +223,6 @@ impl<'a> Watch<'a> {
         Ok(())
     }
 
-    // What is given live; a hold that is full acts as a lost line.
-    fn after_live(&mut self, message: &[u8], is_full: bool) -> Result<(), Breach>
-        ensures { or_lost is_full (given_live message.now (heard_in message.now) self.old) ≡ onto result self.new }
-    {
-        self.given_live(message)?;
-        if is_full {
-            self.connection = self.connection.lost();
-        }
-        Ok(())
-    }
-
     // A report on the recovery channel is the next under way, or one of the download that came before.
     fn next_report(&mut self, message: &'a [u8]) -> Result<Result<(), Breach>, AllocError>
         ensures { IfOk result (λ r. next_report message.now (next_of message.now self.old.recovered) self.old
@@ -297,7 +284,7 @@ impl<'a> Watch<'a> {
                 self.connection = self.connection.lost();
                 Ok(Ok(()))
             }
-            Done::Live(message, answer) => Ok(self.after_live(message, is_full(answer))),
+            Done::Live(message, _) => Ok(self.given_live(message)),
             Done::Recovered(message, _) => self.given_recovered(message),
             Done::Ask(_, asked) => {
                 self.after_ask(asked)?;
