@@ -1,5 +1,5 @@
 // A day of a desk's follower: reports come live before and after a download, the line is lost, and one message more
-// is held than there is room for. A second desk, whose follower is up for nothing, shows whose the token is.
+// comes than there is room for in a hold. A second desk, whose follower is up for nothing, shows whose the token is.
 #![tactic(auto)]
 
 mod line;
@@ -73,7 +73,7 @@ fn second_connection(alloc: Global, events: &mut Vec<Event>) -> Result<(), Alloc
     Ok(())
 }
 
-// One report more than a hold has room for: the line counts as lost.
+// One report more than a hold has room for: it passes, and so does what comes behind it.
 fn too_many(alloc: Global, events: &mut Vec<Event>) -> Result<(), AllocError> {
     for number in 20..53 {
         events.push(Event::Live(report(alloc, number, added(9, 1))?))?;
@@ -83,11 +83,30 @@ fn too_many(alloc: Global, events: &mut Vec<Event>) -> Result<(), AllocError> {
     Ok(())
 }
 
+// The download that was asked goes on. The next one ends below what passed, so the partition is overrun still; the last
+// reaches it.
+fn overrun(alloc: Global, events: &mut Vec<Event>) -> Result<(), AllocError> {
+    events.push(Event::Recovered(ack(alloc, AckResponse::Successful)?))?;
+    events.push(Event::Recovered(end(alloc, ReportResponse::Complete)?))?;
+    events.push(Event::Ask(1))?;
+    events.push(Event::Recovered(ack(alloc, AckResponse::Successful)?))?;
+    events.push(Event::Recovered(report(alloc, 20, added(9, 1))?))?;
+    events.push(Event::Recovered(end(alloc, ReportResponse::Complete)?))?;
+    events.push(Event::Live(report(alloc, 53, added(9, 1))?))?;
+    events.push(Event::Ask(1))?;
+    events.push(Event::Recovered(ack(alloc, AckResponse::Successful)?))?;
+    events.push(Event::Recovered(report(alloc, 60, filled(9, 1, 0))?))?;
+    events.push(Event::Recovered(end(alloc, ReportResponse::Complete)?))?;
+    events.push(Event::Live(report(alloc, 60, filled(9, 1, 0))?))?;
+    Ok(())
+}
+
 fn events(alloc: Global) -> Result<Vec<Event>, AllocError> {
     let mut events = Vec::new(alloc);
     first_connection(alloc, &mut events)?;
     second_connection(alloc, &mut events)?;
     too_many(alloc, &mut events)?;
+    overrun(alloc, &mut events)?;
     Ok(events)
 }
 
@@ -96,6 +115,7 @@ fn show<R: Print>(rt: &R, follower: &Follower) -> io::Result<()> {
     let state = match follower.state(Partition::One) {
         State::Level => "level",
         State::Behind(_) => "behind",
+        State::Overrun(_) => "overrun",
     };
     println!(rt; "{state} at {}", follower.place(Partition::One))?;
     let mut from = 0;
