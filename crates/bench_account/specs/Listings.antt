@@ -6,6 +6,8 @@ use Rattle.bench_account.specs.declared.listing.Listed.{Listed}
 use Rattle.bench_account.specs.declared.listing.Naming.{Naming}
 use Rattle.bench_account.specs.declared.listing.Place.{Place}
 use Rattle.bench_account.specs.declared.listing.Preview.{Preview}
+use Rattle.bench_account.specs.declared.listing.Progress.{Progress}
+use Rattle.bench_account.specs.declared.listing.Progress.TheVariants as progress
 use Rattle.bench_account.specs.declared.listing.Taken.{Taken}
 use Rattle.bench_account.specs.declared.listing.Totals.{Totals}
 
@@ -28,14 +30,20 @@ totals_text t =
     codes "orders " ++ (decimal t.orders ++ (codes " trades "
     ++ (decimal t.trades ++ (codes " reports " ++ decimal t.reports))))
 
-abbrev pub state_text : Bool → List ℕ
-state_text true = codes "level"
-state_text false = codes "behind"
+abbrev pub is_level : Progress → Bool
+is_level progress.Level = true
+is_level (progress.Behind n) = false
+is_level (progress.Overrun n) = false
+
+abbrev pub progress_text : Progress → List ℕ
+progress_text progress.Level = codes "level held 0"
+progress_text (progress.Behind n) = codes "behind held " ++ decimal n
+progress_text (progress.Overrun n) = codes "overrun held 0 passed " ++ decimal n
 
 abbrev pub place_text : Place → List ℕ
 place_text p =
-    (codes "partition " ++ (decimal p.partition ++ (codes " place " ++ (decimal p.number ++ codes " "))))
-    ++ (state_text p.level ++ (codes " held " ++ decimal p.held))
+    codes "partition " ++ (decimal p.partition ++ (codes " place "
+    ++ (decimal p.number ++ (codes " " ++ progress_text p.progress))))
 
 abbrev pub followed_text : Followed → List ℕ
 followed_text o =

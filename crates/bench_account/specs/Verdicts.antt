@@ -7,6 +7,7 @@ use Rattle.bench_account.specs.declared.verdict.Part.{Part}
 use Rattle.bench_account.specs.declared.verdict.Verdict.{Verdict}
 use Rattle.bench_account.specs.declared.verdict.Verdict.TheVariants as verdict
 use Rattle.bench_account.specs.Comparisons.{agree}
+use Rattle.bench_account.specs.Listings.{is_level}
 
 abbrev pub all_agree : List Compared → Bool
 all_agree orders = list_all (λ o. agree o.gateway o.follower) orders
@@ -17,7 +18,7 @@ is_even p = (p.known == length p.orders.now) && all_agree p.orders.now
 
 abbrev pub trouble_of : Part → Option Verdict
 trouble_of p =
-    if not p.place.level then Some (verdict.Behind p.place.partition)
+    if not (is_level p.place.progress) then Some (verdict.Behind p.place.partition)
     else if not (is_even p) then Some (verdict.Differ p.place.partition) else None
 
 -- the first trouble, or else what is said where there is none

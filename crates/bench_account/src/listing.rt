@@ -1,6 +1,6 @@
 // The orders of a day, a line each.
 ghost use Rattle.std.specs.Prelude.{◌≡◌, Some};
-ghost use Rattle.bench_account.specs.Listings.{figures_text, followed_text, listed_text, naming_text, place_text, preview_text, state_text, taken_text, totals_text};
+ghost use Rattle.bench_account.specs.Listings.{figures_text, followed_text, listed_text, naming_text, is_level, place_text, preview_text, progress_text, taken_text, totals_text};
 
 use std::fmt;
 
@@ -82,6 +82,41 @@ impl fmt::Display for Totals {
     }
 }
 
+/// What a follower has of a partition's reports.
+#[derive(Clone, Copy, Debug, PartialEq)]
+pub enum Progress {
+    /// Each as it comes.
+    Level,
+    /// Some are missing; so many that came are held.
+    Behind(usize),
+    /// Some are missing, and nothing is held any more; the highest number that passed.
+    Overrun(u32),
+}
+
+impl Progress {
+    /// Whether none is missing.
+    pub fn is_level(self) -> bool
+        ensures { result ≡ is_level self }
+    {
+        match self {
+            Progress::Level => true,
+            Progress::Behind(_) | Progress::Overrun(_) => false,
+        }
+    }
+}
+
+impl fmt::Display for Progress {
+    ghost output = { λ progress. Some (progress_text progress) };
+
+    fn fmt<W: fmt::Write>(&self, f: &mut fmt::Formatter<W>) -> fmt::Result {
+        match *self {
+            Progress::Level => f.write_str("level held 0"),
+            Progress::Behind(held) => write!(f, "behind held {held}"),
+            Progress::Overrun(passed) => write!(f, "overrun held 0 passed {passed}"),
+        }
+    }
+}
+
 /// How far a follower is in a partition.
 #[derive(Clone, Copy)]
 pub struct Place {
@@ -89,23 +124,18 @@ pub struct Place {
     pub partition: u8,
     /// The number of the last report that was folded.
     pub number: u32,
-    pub level: bool,
-    /// How many reports are held.
-    pub held: usize,
-}
-
-fn state(level: bool) -> &'static str
-    ensures { result.now ≡ state_text level }
-{
-    if level { "level" } else { "behind" }
+    pub progress: Progress,
 }
 
 impl fmt::Display for Place {
     ghost output = { λ place. Some (place_text place) };
 
     fn fmt<W: fmt::Write>(&self, f: &mut fmt::Formatter<W>) -> fmt::Result {
-        write!(f, "partition {} place {} ", self.partition, self.number)?;
-        write!(f, "{} held {}", state(self.level), self.held)
+        write!(
+            f,
+            "partition {} place {} {}",
+            self.partition, self.number, self.progress
+        )
     }
 }
 

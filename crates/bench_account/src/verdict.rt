@@ -46,7 +46,7 @@ impl Part<'_> {
     fn trouble(&self) -> Option<Verdict>
         ensures { result ≡ trouble_of self.now }
     {
-        if !self.place.level {
+        if !self.place.progress.is_level() {
             Some(Verdict::Behind(self.place.partition))
         } else if !self.is_even() {
             Some(Verdict::Differ(self.place.partition))
