@@ -13,6 +13,7 @@ abbrev pub with_live : Came → Live → Came
 with_live c live.Held = record c { held = more c.held }
 with_live c live.Folded = record c { folded = more c.folded }
 with_live c live.Already = record c { again = more c.again }
+with_live c live.Passed = c
 with_live c live.Nothing = c
 
 abbrev pub with_recovered : Came → Recovered → Came

@@ -1,5 +1,5 @@
 -- What a desk says of its follower, and what is said of a mass cancel that would be sent. Assumes nothing.
-use Rattle.std.specs.Prelude.{ℕ, false, Some, None, Option, length, ◌==◌, if◌then◌else◌}
+use Rattle.std.specs.Prelude.{ℕ, Some, None, Option, ◌==◌, if◌then◌else◌}
 use Rattle.std.specs.Option.{option_map}
 use Rattle.codes.specs.Report.{status_code}
 use Rattle.codes.specs.Session.{partition_code}
@@ -8,7 +8,8 @@ use Rattle.reports.specs.declared.standing.Standing.{Standing}
 use Rattle.bench_play.specs.declared.tables.Shown.{Shown}
 use Rattle.bench_play.specs.declared.tables.Shown.TheVariants as shown
 use Rattle.follower.specs.declared.side.Side.{Side}
-use Rattle.follower.specs.Sides.{is_level, held_in}
+use Rattle.bench_play.specs.Tables.{progress_of}
+use Rattle.bench_account.specs.declared.listing.Progress.TheVariants.{Behind}
 use Rattle.orders.specs.Rows.{status_of}
 use Rattle.orders.specs.declared.row.Row.{Row}
 use Rattle.bench_account.specs.declared.answer.Answer.{Answer}
@@ -45,16 +46,14 @@ abbrev pub place_of : Partition → Side → Place
 place_of p s = record {
   partition = partition_code p;
   number = s.place;
-  level = is_level s.state;
-  held = length (held_in s.state);
+  progress = progress_of s.state;
 }
 
 -- by what both ends show of it; of anything else they show no place
 abbrev pub place_shown : Partition → Shown → Place
-place_shown p (shown.Partition n level held) =
-    record { partition = partition_code p; number = n; level = level; held = held }
-place_shown p (shown.Order r o) = record { partition = partition_code p; number = 0; level = false; held = 0 }
-place_shown p (shown.Preview r) = record { partition = partition_code p; number = 0; level = false; held = 0 }
+place_shown p (shown.Partition n progress) = record { partition = partition_code p; number = n; progress = progress }
+place_shown p (shown.Order r o) = record { partition = partition_code p; number = 0; progress = Behind 0 }
+place_shown p (shown.Preview r) = record { partition = partition_code p; number = 0; progress = Behind 0 }
 
 -- what a mass cancel would take, by partition
 abbrev pub taken_shown : Going → Taken

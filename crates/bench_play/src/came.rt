@@ -4,7 +4,8 @@ ghost use Rattle.bench_play.specs.Coming.{none_came, with_live, with_recovered};
 
 use follower::answer::{Live, Recovered};
 
-/// How many reports were held, folded, and known already. A count stays at the largest number that it holds.
+/// How many reports were held, folded, and known already; those that passed are not counted. A count stays at the largest
+/// number that it holds.
 #[derive(Clone, Copy)]
 pub struct Came {
     pub held: u64,
@@ -32,7 +33,7 @@ impl Came {
             Live::Held => self.held = self.held.saturating_add(1),
             Live::Folded => self.folded = self.folded.saturating_add(1),
             Live::Already => self.again = self.again.saturating_add(1),
-            Live::Nothing => {}
+            Live::Passed | Live::Nothing => {}
         }
     }
 

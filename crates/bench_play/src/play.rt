@@ -16,13 +16,9 @@ use bench_words::line::{is_skipped, parted};
 use bench_words::misread::Misread;
 use both_ends::call::Call;
 use configuration::config::StartRefusal;
-use follower::hold;
 use inspector::answer::answer_message;
 use std::alloc::{AllocError, Global};
 use std::{io, mem};
-
-/// The most reports of a partition that a follower holds until a download has ended.
-pub const HOLD: usize = hold::HOLD;
 
 /// What a line was.
 #[derive(Clone, Copy, Debug, PartialEq)]

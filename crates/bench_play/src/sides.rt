@@ -9,7 +9,7 @@ ghost use Rattle.partitions.specs.PerPartition.{at};
 use crate::day::Day;
 use crate::tables::{Look, Shown};
 use bench_account::compared::{Compared, Seen};
-use bench_account::listing::{Followed, Place};
+use bench_account::listing::{Followed, Place, Progress};
 use bench_account::verdict::{Part, Verdict};
 use codes::code::Code;
 use codes::session::Partition;
@@ -68,17 +68,15 @@ fn place_shown(partition: Partition, shown: Shown) -> Place
 {
     let partition = partition.byte();
     match shown {
-        Shown::Partition { place, level, held } => Place {
+        Shown::Partition { place, progress } => Place {
             partition,
             number: place,
-            level,
-            held,
+            progress,
         },
         Shown::Order(..) | Shown::Preview(_) => Place {
             partition,
             number: 0,
-            level: false,
-            held: 0,
+            progress: Progress::Behind(0),
         },
     }
 }

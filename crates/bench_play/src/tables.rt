@@ -1,8 +1,11 @@
 // What is asked of both ends: their tables, an order and a partition at a time, and what a mass cancel would take.
-ghost use Rattle.bench_play.specs.Tables.{answer};
+ghost use Rattle.std.specs.Prelude.{◌≡◌};
+ghost use Rattle.bench_play.specs.Tables.{answer, progress_of};
 
+use bench_account::listing::Progress;
 use both_ends::question::Question;
 use codes::session::Partition;
+use follower::side::State;
 use follower::state::Follower;
 use gateway::gateway::Gateway;
 use gateway::preview::{Going, PreviewFault};
@@ -22,16 +25,22 @@ pub enum Look {
 }
 
 /// What both ends show: an order as the gateway has it and as the follower knows it; how far the follower is in a
-/// partition, and how many reports it holds there; what a mass cancel would take, or why it would be refused.
+/// partition, and what it has of its reports; what a mass cancel would take, or why it would be refused.
 #[derive(Clone, Copy, Drop)]
 pub enum Shown {
     Order(Option<Order>, Option<Standing>),
-    Partition {
-        place: u32,
-        level: bool,
-        held: usize,
-    },
+    Partition { place: u32, progress: Progress },
     Preview(Result<PerPartition<Going>, PreviewFault>),
+}
+
+fn progress_of(state: &State) -> Progress
+    ensures { result ≡ progress_of state.now }
+{
+    match state {
+        State::Level => Progress::Level,
+        State::Behind(hold) => Progress::Behind(hold.len()),
+        State::Overrun(passed) => Progress::Overrun(passed.get()),
+    }
 }
 
 impl Question<Shown> for Look {
@@ -49,8 +58,7 @@ impl Question<Shown> for Look {
             }
             Look::Partition(partition) => Shown::Partition {
                 place: follower.place(*partition),
-                level: follower.is_level(*partition),
-                held: follower.held(*partition),
+                progress: progress_of(follower.state(*partition)),
             },
             Look::Preview(line, bytes) => Shown::Preview(gateway.preview(*line, bytes)),
         })
