@@ -20,14 +20,15 @@ const ABOUT: About = About {
 calls the gateway or the desk, or does something with the cable, is a call. What a script prints is thrown away.
 
 A run: gateway and desk start anew, the script is played up to a call, and the cable is pulled. The line is logged on again. What
-was under way comes late, up to 32 messages of it; the desk downloads each partition; and all that was under way comes late once
-more, so that no report of it comes only once. Then the desk's table is compared with the gateway's. The table's columns:
+was under way comes late; the desk downloads each partition; and all that was under way comes late once more, so that no report
+of it comes only once. Then the desk's table is compared with the gateway's. The table's columns:
 
   cut          which run it is
   line, after  the line of the script behind which the cable is pulled, and what it says
   under way    messages that the gateway had sent live, and that had not come to the desk: they are lost with the cable
   recovered    the same of the recovery channel, where the script was amid a download
-  held         reports that came late before the downloads: the desk lays them aside until it knows what comes before them
+  held         reports that came late before the downloads: the desk lays them aside until it knows what comes before them; of
+               what passes, once 32 of a partition are laid aside, it keeps the highest number alone
   folded       reports that the desk took into its table, each of them new to it
   came again   reports that came although the desk had them in its table: it knows them by their numbers, and they change nothing
   orders       orders of the desk that were then compared

@@ -3,7 +3,7 @@ use crate::script::Script;
 use crate::silent::Silent;
 use bench_account::cut::Cut;
 use bench_play::failure::Failure;
-use bench_play::play::{HOLD, Play};
+use bench_play::play::Play;
 use bench_words::command::Cable;
 use std::alloc::{AllocError, Global};
 
@@ -16,14 +16,13 @@ fn copied(heap: Global, messages: &[Vec<u8>]) -> Result<Vec<Vec<u8>>, AllocError
     Ok(copies)
 }
 
-// The line is up again. What was under way comes late, at first before the downloads, as much of it as a follower holds,
-// and all of it once more behind them.
+// The line is up again. What was under way comes late, before the downloads and once more behind them.
 fn recover(rt: &(Silent, Global), play: &mut Play, late: &[Vec<u8>]) -> Result<(), Failure> {
     play.act(rt, Cable::Reconnect)?;
     if !play.is_up() {
         return Ok(());
     }
-    play.late(rt, late.get(..HOLD).unwrap_or(late))?;
+    play.late(rt, late)?;
     play.act(rt, Cable::CatchUp)?;
     play.late(rt, late)?;
     Ok(())
