@@ -58,9 +58,6 @@ module _ (c : ℕ) (k : Kept) (s : Session) (f : Following) (x : Line) (t : Taki
   pub to_up : (a : Connection) → a ≡ conn.Up → Joined c k s f x t → Phase a c k s f x t
   to_up a e h = subst (λ z. Phase z c k s f x t) (sym e) h
 
-  pub to_away : (a : Connection) → a ≡ conn.Away → Phase a c k s f x t
-  to_away a e = subst (λ z. Phase z c k s f x t) (sym e) tt
-
 -- ---- a call that gives the follower something
 
 -- what a call answered and left: no report was refused by the fold, and all is kept
